@@ -1,0 +1,193 @@
+-- Flows of rights, and which limit they break first.
+use Rattle.std.specs.Prelude.{◌≡◌, ◌⊎◌, ◌↔◌, ℕ, ◌+◌, ◌<◌, ◌≤◌, pos, List, [], ◌∷◌, ◌++◌, length, map, replicate, All, Contains, refl}
+use Rattle.std.specs.Ordering.{MatchOrdering}
+use Rattle.std.proofs.Common.{suc, zero, arith, inl, inr, ap, ap₂, sym, subst, ◌∙◌, get_or, Ordering, Less, Equal, Greater}
+use Rattle.std.proofs.lemmas.List.{get_or_append_left, get_or-append-add, length-append, length-map, length-replicate, map-append}
+use Rattle.std.proofs.lemmas.List.FromFn.{length-map-range_with_len}
+use Rattle.std.proofs.lemmas.List.Elements.{All-append, All-cons, All-contains, All-nil, Contains-append_left, Contains-append_right}
+use Rattle.fraction_theory.specs.Fraction.{Fraction, whole, neg_ℚ, ◌-ℚ◌}
+use Rattle.fraction_theory.specs.Order.{◌<ℚ◌, ◌≤ℚ◌}
+use Rattle.fraction_theory.specs.Signs.{abs_ℚ}
+use Rattle.fraction_theory.specs.Sums.{Term, Product, total}
+use Rattle.fraction_theory.proofs.ListSums.{Contains-head}
+use Rattle.fraction_theory.proofs.OrderLaws.{NonNeg-one, by_le1, <ℚ-not-≤ℚ, ≤ℚ-or-<ℚ, ≤ℚ_trans, <ℚ-≤ℚ, ≤ℚ_of_same}
+use Rattle.fraction_theory.proofs.Ring.{at, pneg, pnil, pone}
+use Rattle.fraction_theory.proofs.SignLaws.{abs_above, abs_below, abs_within}
+use Rattle.exact_fraction.specs.declared.Passed.{Passed}
+use Rattle.market_model.specs.declared.limits.Row.{Row}
+use Rattle.market_model.specs.declared.participants.Parts.{Parts}
+use Rattle.market_model.specs.declared.participants.TransmissionRight.{TransmissionRight}
+use Rattle.market_model.specs.Dispatch.{places}
+use Rattle.market_model.specs.LimitRows.{flow_by, flow_terms, limit, line_flow, rows}
+use Rattle.market_model.specs.Market.{IsMarket}
+use Rattle.market_model.specs.NamedSums.{IsRefusedIn}
+use Rattle.market_model.specs.Optimality.{bus_price}
+use Rattle.market_model.specs.Overrun.{Within}
+use Rattle.market_model.specs.PutIn.{carried_in, put_in}
+use Rattle.market_model.specs.Rights.{IsTransmissionRight, paid_to_rights, right_terms, rights_injection}
+use Rattle.market_model.specs.Settlement.{surplus}
+use Rattle.market_model.specs.SumTables.{IsFlowRefusal, IsRefusedAmong, LineFlowSum, flow_of_line, flow_of_row}
+use Rattle.market_model.proofs.ChangeLemmas.{same_default}
+use Rattle.market_model.proofs.PlaceLists.{filled_at, map_same}
+use Rattle.market_model.specs.Laws.{LawOfTheRights}
+use Rattle.market_model.proofs.RowMembers.{at_places}
+use Rattle.limit_rows.proofs.FlowSteps.{flow_terms-same, line_flow-same, line_terms-same}
+use Rattle.rights_test.specs.declared.right_parts.Fit.{Fit}
+use Rattle.rights_test.specs.declared.right_parts.Fit.TheVariants.{Fits, Breaks}
+use Rattle.rights_test.specs.Fits.{carried_for, carried_list, IsFirstBroken, IsFitBy}
+use Rattle.rights_test.specs.RightsLaws.{LawOfTheFit, LawOfCoveredPayments}
+
+-- ---- within a limit on both sides
+pub not_past : (o : Ordering) (x y : Fraction) → MatchOrdering o (x <ℚ y) (x ≡ y) (y <ℚ x) → (o ≡ Less) ⊎ (o ≡ Equal) → x ≤ℚ y
+not_past Less x y h is = <ℚ-≤ℚ x y h
+not_past Equal x y h is = ≤ℚ_of_same x y h
+not_past Greater x y h (inl e) = absurd Prim.cc
+not_past Greater x y h (inr e) = absurd Prim.cc
+
+from_opposite : (f most : Fraction) → neg_ℚ f ≤ℚ most → neg_ℚ most ≤ℚ f
+from_opposite f most h = by_le1 (f ∷ most ∷ []) (pneg (at 1)) (at 0) pone (pneg (at 0)) (at 1) NonNeg-one h refl
+
+below_opposite : (f : Fraction) → f ≤ℚ whole (pos 0) → f ≤ℚ neg_ℚ f
+below_opposite f h = ≤ℚ_trans f (whole (pos 0)) (neg_ℚ f) h (by_le1 (f ∷ []) pnil (pneg (at 0)) pone (at 0) pnil NonNeg-one h refl)
+
+opposite_below : (f : Fraction) → whole (pos 0) ≤ℚ f → neg_ℚ f ≤ℚ f
+opposite_below f h = ≤ℚ_trans (neg_ℚ f) (whole (pos 0)) f (by_le1 (f ∷ []) (pneg (at 0)) pnil pone pnil (at 0) NonNeg-one h refl) h
+
+pub size_kept : (most f : Fraction) → abs_ℚ f ≤ℚ most → Within most f
+size_kept most f h = elim (≤ℚ-or-<ℚ f (whole (pos 0))) [
+  | inl below ↦ let size : neg_ℚ f ≤ℚ most = subst (λ t. t ≤ℚ most) (abs_below f below) h in
+      record { above = from_opposite f most size; below = ≤ℚ_trans f (neg_ℚ f) most (below_opposite f below) size }
+  | inr above ↦ let least = <ℚ-≤ℚ (whole (pos 0)) f above in
+      let size : f ≤ℚ most = subst (λ t. t ≤ℚ most) (abs_above f least) h in
+      record { above = from_opposite f most (≤ℚ_trans (neg_ℚ f) f most (opposite_below f least) size); below = size }
+]
+
+pub size_passed : (most f : Fraction) → most <ℚ abs_ℚ f → ¬ (Within most f)
+size_passed most f h within = <ℚ-not-≤ℚ most (abs_ℚ f) h (abs_within f most within.above within.below)
+
+-- ---- what is carried
+module _ (m : Parts) (rights : List TransmissionRight) where
+  -- where buses put in what rights make them
+  module _ (mws : List Fraction) (puts : mws ≡ map (rights_injection rights) (places (length m.buses))) where
+    put_is : (i : ℕ) → i < length m.buses → put_in mws i ≡ rights_injection rights i
+    put_is = filled_at (rights_injection rights) mws (length m.buses) (whole (pos 0)) puts
+
+    pub lines_put : (flows : List Fraction) → flows ≡ map (line_flow m (put_in mws)) (places (length m.lines)) → flows ≡ map (line_flow m (rights_injection rights)) (places (length m.lines))
+    lines_put flows e = e ∙ map_same (line_flow m (put_in mws)) (line_flow m (rights_injection rights)) (length m.lines) (λ l lt. line_flow-same m (put_in mws) (rights_injection rights) put_is l)
+
+    pub line_refusal : (bound : ℕ) (p : Passed Fraction) → IsRefusedAmong (LineFlowSum m (put_in mws)) bound p → IsRefusedAmong (LineFlowSum m (rights_injection rights)) bound p
+    line_refusal bound p (_, flow_of_line l lt, why) = (_, flow_of_line l lt, subst (λ ts. IsRefusedIn ts bound p) (line_terms-same m (put_in mws) (rights_injection rights) put_is l) why)
+
+  -- what is carried, read off its list
+  module _ (mws : List Fraction) (are : mws ≡ carried_list m rights) where
+    abbrev by_line : List Fraction
+    by_line = map (line_flow m (rights_injection rights)) (places (length m.lines))
+
+    line_count : length by_line ≡ length m.lines
+    line_count = length-map-range_with_len (line_flow m (rights_injection rights)) 0 (length m.lines)
+
+    flow_is : (l : ℕ) → l < length m.lines → put_in mws l ≡ line_flow m (rights_injection rights) l
+    flow_is l lt =
+        ap (λ (ys : List Fraction). get_or ys l (whole (pos 0))) are
+        ∙ get_or_append_left by_line (replicate (length m.unit_outages) (whole (pos 0))) (whole (pos 0)) l (Prim.omega (arith, lt, line_count))
+        ∙ filled_at (line_flow m (rights_injection rights)) by_line (length m.lines) (whole (pos 0)) refl l lt
+
+    nothing_at : (n k : ℕ) → get_or (replicate n (whole (pos 0))) k (whole (pos 0)) ≡ whole (pos 0)
+    nothing_at zero k = refl
+    nothing_at (suc n) zero = refl
+    nothing_at (suc n) (suc k) = nothing_at n k
+
+    lost_is : (k : ℕ) → put_in mws (length m.lines + k) ≡ whole (pos 0)
+    lost_is k =
+        let there : length m.lines + k ≡ length by_line + k = Prim.omega (arith, line_count) in
+        ap (λ (ys : List Fraction). get_or ys (length m.lines + k) (whole (pos 0))) are
+        ∙ ap (λ (n : ℕ). get_or (by_line ++ replicate (length m.unit_outages) (whole (pos 0))) n (whole (pos 0))) there
+        ∙ get_or-append-add by_line (replicate (length m.unit_outages) (whole (pos 0))) k (whole (pos 0))
+        ∙ nothing_at (length m.unit_outages) k
+
+    row_terms_are : IsMarket m → (r : Row) → Contains (rows m) r → flow_terms m (carried_in m mws) r ≡ flow_terms m (carried_for m rights) r
+    row_terms_are market r c =
+        let here = at_places m market r c in
+        flow_terms-same m (carried_in m mws) (carried_for m rights) flow_is (λ k lt. lost_is k) r here.0 here.1
+
+    pub row_flow_is : IsMarket m → (r : Row) → Contains (rows m) r → flow_by m (carried_in m mws) r ≡ flow_by m (carried_for m rights) r
+    row_flow_is market r c = ap total (row_terms_are market r c)
+
+    pub row_refusal : IsMarket m → (r : Row) (bound : ℕ) (p : Passed Fraction) → Contains (rows m) r → IsFlowRefusal m (carried_in m mws) r bound p → IsFlowRefusal m (carried_for m rights) r bound p
+    row_refusal market r bound p c (inl (_, flow_of_row, why)) = inl (_, flow_of_row, subst (λ ts. IsRefusedIn ts bound p) (row_terms_are market r c) why)
+    row_refusal market r bound p c (inr why) = inr why
+
+-- lines are put in front of zeros
+abbrev rest : List Fraction → List Fraction
+rest [] = []
+rest (x ∷ xs) = xs
+
+behind_front : {N : Type 0} (value : N → Fraction) (front back : List N) (n : ℕ) → map value (front ++ back) ≡ replicate (length front + n) (whole (pos 0)) → map value back ≡ replicate n (whole (pos 0))
+behind_front value [] back n e = let none : 0 + n ≡ n = Prim.omega arith in e ∙ ap (λ (k : ℕ). replicate k (whole (pos 0))) none
+behind_front value (x ∷ front) back n e =
+    let one : length (x ∷ front) + n ≡ suc (length front + n) = Prim.omega arith in
+    behind_front value front back n (ap rest (e ∙ ap (λ (k : ℕ). replicate k (whole (pos 0))) one))
+
+pub flows_put : {N : Type 0} (value : N → Fraction) (m : Parts) (rights : List TransmissionRight) (old front back new : List N) → map value old ≡ replicate (length m.lines + length m.unit_outages) (whole (pos 0)) → old ≡ front ++ back
+    → length front ≡ length m.lines → map value new ≡ map (line_flow m (rights_injection rights)) (places (length m.lines)) → map value (new ++ back) ≡ carried_list m rights
+flows_put value m rights old front back new zeros split count flows =
+    let lines : length m.lines + length m.unit_outages ≡ length front + length m.unit_outages = Prim.omega (arith, count) in
+    let none : map value (front ++ back) ≡ replicate (length front + length m.unit_outages) (whole (pos 0)) = ap (map value) (sym split) ∙ zeros ∙ ap (λ (k : ℕ). replicate k (whole (pos 0))) lines in
+    map-append value new back ∙ ap₂ (λ (xs ys : List Fraction). xs ++ ys) flows (behind_front value front back (length m.unit_outages) none)
+
+pub carried_count : {N : Type 0} (value : N → Fraction) (m : Parts) (rights : List TransmissionRight) (ns : List N) → map value ns ≡ carried_list m rights → length ns ≡ length m.lines + length m.unit_outages
+carried_count value m rights ns are =
+    let flows : List Fraction = map (line_flow m (rights_injection rights)) (places (length m.lines)) in
+    let count : length flows ≡ length m.lines = length-map-range_with_len (line_flow m (rights_injection rights)) 0 (length m.lines) in
+    let all : length (map value ns) ≡ length flows + length (replicate (length m.unit_outages) (whole (pos 0))) = ap length are ∙ length-append flows (replicate (length m.unit_outages) (whole (pos 0))) in
+    Prim.omega (arith, all, count, length-map ns value, length-replicate (length m.unit_outages) (whole (pos 0)))
+
+-- ---- the first row that is broken
+pub broken_listed : (m : Parts) (f : Row → Fraction) (r : Row) → IsFirstBroken m f r → Contains (rows m) r
+broken_listed m f r h = subst (λ rs. Contains rs r) (sym h.order) (Contains-append_right h.before (r ∷ h.behind) r (Contains-head r h.behind))
+
+-- flows that are the same have the same fit
+pub fit_same : (m : Parts) (f g : Row → Fraction) (fit : Fit Fraction) → ((r : Row) → Contains (rows m) r → f r ≡ g r) → IsFitBy m f fit → IsFitBy m g fit
+fit_same m f g Fits same h = λ r c. subst (Within (limit m r)) (same r c) (h r c)
+fit_same m f g (Breaks name flow) same (r, first, name_is, flow_is) =
+    let here = same r (broken_listed m f r first) in (
+      r,
+      record {
+        before = first.before;
+        behind = first.behind;
+        order = first.order;
+        kept = λ k d lt.
+            let s : Row = get_or first.before k d in
+            let stands : Contains first.before s = (k, lt, same_default first.before k s d lt) in
+            let listed : Contains (rows m) s = subst (λ rs. Contains rs s) (sym first.order) (Contains-append_left first.before (r ∷ first.behind) s stands) in
+            subst (Within (limit m s)) (same s listed) (first.kept k d lt);
+        broken = λ within. first.broken (subst (Within (limit m r)) (sym here) within);
+      },
+      name_is,
+      flow_is ∙ here,
+    )
+
+-- a row more that is kept
+pub kept_more : (m : Parts) (f : Row → Fraction) (rs : List Row) (r : Row) → All (λ s. Within (limit m s) (f s)) rs → Within (limit m r) (f r) → All (λ s. Within (limit m s) (f s)) (rs ++ r ∷ [])
+kept_more m f rs r all here = All-append (λ s. Within (limit m s) (f s)) rs (r ∷ []) all (All-cons (λ s. Within (limit m s) (f s)) r [] here (All-nil (λ s. Within (limit m s) (f s))))
+
+-- all of them
+pub all_kept : (m : Parts) (f : Row → Fraction) (rs : List Row) → rs ≡ rows m → All (λ s. Within (limit m s) (f s)) rs → IsFitBy m f Fits
+all_kept m f rs e all r c = All-contains (λ s. Within (limit m s) (f s)) rs r all (subst (λ ss. Contains ss r) (sym e) c)
+
+-- ---- laws
+pub law_of_the_fit : LawOfTheFit
+law_of_the_fit m rights Fits h = (λ e. h, λ together. refl)
+law_of_the_fit m rights (Breaks name flow) (r, first, name_is, flow_is) = (λ e. absurd Prim.cc, λ together. absurd (first.broken (together r (broken_listed m _ r first))))
+
+same_terms : (n : ℕ) (p q : ℕ → Fraction) → ((i : ℕ) → i < n → p i ≡ q i) → (rights : List TransmissionRight) → All (IsTransmissionRight n) rights → right_terms p rights ≡ right_terms q rights
+same_terms n p q same [] are = refl
+same_terms n p q same (t ∷ ts) are =
+    let here = are 0 t (Prim.omega arith) in
+    ap₂ (λ (u : Term) (us : List Term). u ∷ us) (ap₂ (λ (a b : Fraction). Product (whole t.mw) (a -ℚ b)) (same t.to here.to) (same t.from here.from))
+    (same_terms n p q same ts (λ k d lt. are (suc k) d (Prim.omega (arith, lt))))
+
+pub law_of_covered_payments : LawOfTheRights → LawOfCoveredPayments
+unfolding paid_to_rights
+law_of_covered_payments law m d x price rights market feasible supports prices are fits =
+    subst (λ paid. paid ≤ℚ surplus m x d) (sym (ap total (same_terms (length m.buses) price (bus_price m d) prices rights are))) (law m d x rights market feasible supports are fits)

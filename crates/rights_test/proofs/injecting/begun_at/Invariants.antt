@@ -1,0 +1,6 @@
+use Rattle.std.proofs.Common.{◌≡◌}
+use Rattle.rights_test.proofs.BusSteps.{begun_to}
+use Rattle.rights_test.proofs.injecting.begun_at.Given as goal
+
+abbrev pub invariant-loop-right : goal.invariant-loop-right
+invariant-loop-right g l = g.N.Exact.value l.mw ≡ begun_to l.rights l.bus l.right-index

@@ -1,0 +1,13 @@
+use Rattle.std.proofs.Common.{◌≡◌, ◌≤◌, ◌+◌, [], drop, length, All}
+use Rattle.market_model.specs.Rights.{IsTransmissionRight}
+use Rattle.record_reading.specs.Rows.{read_rows}
+use Rattle.rights_test.specs.RightsTable.{right_in}
+use Rattle.rights_test.proofs.reading.rights_of.Given as goal
+
+-- the rights of the records so far, and the records that are left
+abbrev pub invariant-loop-row : goal.invariant-loop-row
+invariant-loop-row l = record {
+  count : length l.rights ≤ l.row;
+  kept : All (IsTransmissionRight (length l.buses)) l.rights;
+  is : read_rows (λ done. right_in l.buses) [] 2 l.table ≡ read_rows (λ done. right_in l.buses) l.rights (l.row + 2) (drop l.row l.table);
+}

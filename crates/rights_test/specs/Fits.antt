@@ -1,0 +1,69 @@
+-- Whether limits could carry rights together, and where not, the first that is broken.
+-- Hogan, Contract Networks for Electric Power Transmission (1992): the simultaneous feasibility test.
+use Rattle.std.specs.Prelude.{◌≡◌, ◌⊎◌, ℕ, ◌==◌, ◌<◌, List, ◌∷◌, ◌++◌, length, map, filter, replicate, All, Contains}
+use Rattle.fraction_theory.specs.Fraction.{Fraction, whole}
+use Rattle.fraction_theory.specs.Sums.{Term, Plain}
+use Rattle.exact_fraction.specs.declared.Passed.{Passed}
+use Rattle.market_model.specs.declared.limits.Row.{Row}
+use Rattle.market_model.specs.declared.participants.Parts.{Parts}
+use Rattle.market_model.specs.declared.participants.TransmissionRight.{TransmissionRight}
+use Rattle.market_model.specs.Dispatch.{places, zero}
+use Rattle.market_model.specs.LimitRows.{Carried, carried_by, flow_by, limit, line_flow, row_id, rows}
+use Rattle.market_model.specs.Optimality.{AreWithin}
+use Rattle.market_model.specs.Overrun.{Within}
+use Rattle.market_model.specs.Rights.{rights_injection, rights_injection_terms}
+use Rattle.market_model.specs.SumTables.{IsFlowRefusal, IsRefusedAmong, LineFlowSum}
+use Rattle.rights_test.specs.declared.right_parts.Fit.{Fit}
+use Rattle.rights_test.specs.declared.right_parts.Fit.TheVariants.{Fits, Breaks}
+
+-- ---- what rights put in
+-- the MW of those that begin at a bus
+abbrev pub begin_terms : List TransmissionRight → ℕ → List Term
+begin_terms rights i = map (λ t. Plain (whole t.mw)) (filter (λ t. t.from == i) rights)
+
+-- what the network carries where rights are put in and nothing else: a unit that is lost puts out nothing of them
+abbrev pub carried_for : Parts → List TransmissionRight → Carried
+carried_for m rights = carried_by m (rights_injection rights) (λ k. zero)
+
+-- the same as a list: the flows of lines, and then the outputs of lost units
+abbrev pub carried_list : Parts → List TransmissionRight → List Fraction
+carried_list m rights = map (line_flow m (rights_injection rights)) (places (length m.lines)) ++ replicate (length m.unit_outages) zero
+
+-- ---- which limit is broken
+-- with the flow f of each row, the first row of the market whose flow is beyond its limit on either side; its excess is left aside
+pub record IsFirstBroken (m : Parts) (f : Row → Fraction) (r : Row) : Type 0 where
+  pub before : List Row
+  pub behind : List Row
+  pub order : rows m ≡ before ++ r ∷ behind
+  pub kept : All (λ s. Within (limit m s) (f s)) before
+  pub broken : ¬ (Within (limit m r) (f r))
+
+-- all limits hold, or which is the first that does not, with its flow
+abbrev pub IsFitBy : Parts → (Row → Fraction) → Fit Fraction → Type 0
+IsFitBy m f Fits = AreWithin (rows m) (limit m) f
+IsFitBy m f (Breaks name flow) = (r : Row) × IsFirstBroken m f r × (name ≡ row_id m r) × (flow ≡ f r)
+
+-- the fit of rights, by their flows
+abbrev pub IsFit : Parts → List TransmissionRight → Fit Fraction → Type 0
+IsFit m rights fit = IsFitBy m (flow_by m (carried_for m rights)) fit
+
+-- a fit with its flow as the fraction that it stands for
+abbrev pub fit_at : {N : Type 0} → (N → Fraction) → Fit N → Fit Fraction
+fit_at value Fits = Fits
+fit_at value (Breaks name flow) = Breaks name (value flow)
+
+-- ---- what may be refused of that
+-- what rights put in at one of so many buses
+pub data RightsInjectionSum (buses : ℕ) (rights : List TransmissionRight) : List Term → Type 0 where
+  put_by_rights : (i : ℕ) → i < buses → RightsInjectionSum buses rights (rights_injection_terms rights i)
+
+-- that, and the flow of a line there
+pub data RightsFlowSum (m : Parts) (rights : List TransmissionRight) : List Term → Type 0 where
+  rights_at_bus : (terms : List Term) → RightsInjectionSum (length m.buses) rights terms → RightsFlowSum m rights terms
+  rights_on_line : (terms : List Term) → LineFlowSum m (rights_injection rights) terms → RightsFlowSum m rights terms
+
+-- an operation refused where the fit of rights is looked for: in one of these, or for the flow of a row of the market
+abbrev pub IsFitRefusal : Parts → List TransmissionRight → ℕ → Passed Fraction → Type 0
+IsFitRefusal m rights bound p =
+    IsRefusedAmong (RightsFlowSum m rights) bound p
+    ⊎ ((r : Row) × Contains (rows m) r × IsFlowRefusal m (carried_for m rights) r bound p)

@@ -1,0 +1,4 @@
+pub mod Fits
+pub mod Paid
+pub mod RightsLaws
+pub mod RightsTable
