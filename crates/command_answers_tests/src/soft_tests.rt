@@ -5,6 +5,7 @@
 //! and 20 after the loss: a limit gives way at once where its penalty is below that, and does not where it is above.
 
 use command_answers::{Status, Told, clear_told, verify_told};
+use market_data::FactorPlaces;
 use market_tables::{GridTables, MarketTables};
 use net_case::PostRating;
 use std::alloc::Global;
@@ -113,7 +114,7 @@ fn cleared(alloc: Global, ratings: &str, records: &str) -> Result<Told, Fail> {
     let case = case(alloc, ratings)?;
     let penalties = penalties(alloc, records)?;
     let bytes = tables(case.as_bytes(), penalties.as_bytes());
-    Ok(clear_told(alloc, &bytes, PostRating::C)?)
+    Ok(clear_told(alloc, &bytes, PostRating::C, FactorPlaces::Six)?)
 }
 
 /// What a verification of a certificate with these ratings and penalties tells.
@@ -122,7 +123,7 @@ fn verified(alloc: Global, ratings: &str, records: &str, certificate: &[u8]) -> 
     let penalties = penalties(alloc, records)?;
     let bytes = tables(case.as_bytes(), penalties.as_bytes());
     let edits = b"op,target,side,block,value\n".as_slice();
-    Ok(verify_told(alloc, &bytes, PostRating::C, edits, certificate)?)
+    Ok(verify_told(alloc, &bytes, PostRating::C, FactorPlaces::Six, edits, certificate)?)
 }
 
 /// Clears, and verifies the certificate where there is one.

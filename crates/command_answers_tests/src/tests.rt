@@ -3,6 +3,7 @@
 use command_answers::{
     Status, Told, check_told, clear_told, make_told, pool_told, replay_told, verify_told,
 };
+use market_data::FactorPlaces;
 use market_tables::{GridTables, MarketTables};
 use net_case::PostRating;
 use std::process::Abort;
@@ -62,12 +63,12 @@ fn tells_of_each_command(rt: HostRuntime) -> Result<(), Fail> {
     let done = Status::Done;
     let pooled = pool_told(alloc, CASE, OFFERS)?;
     expect(&rt, &pooled, done, b"cleared\nwelfare -600\n");
-    let cleared = clear_told(alloc, &bytes, PostRating::C)?;
+    let cleared = clear_told(alloc, &bytes, PostRating::C, FactorPlaces::Six)?;
     expect(&rt, &cleared, done, b"cleared\nwelfare -800\n");
     assert!(rt; cleared.outputs.certificate.is_some());
-    let replayed = replay_told(alloc, &bytes, PostRating::C, edits)?;
+    let replayed = replay_told(alloc, &bytes, PostRating::C, FactorPlaces::Six, edits)?;
     expect(&rt, &replayed, done, b"step 1 clear\ncleared\n");
-    let verified = verify_told(alloc, &bytes, PostRating::C, edits, CERTIFICATE)?;
+    let verified = verify_told(alloc, &bytes, PostRating::C, FactorPlaces::Six, edits, CERTIFICATE)?;
     expect(&rt, &verified, done, b"yes\n");
     expect(&rt, &check_told(alloc, &grid)?, done, b"bus most 0 ");
     let made = make_told(alloc, 4, 7)?;

@@ -4,6 +4,7 @@
 //! Where units 2 and 3 pick up half of unit 1's output each, each MW of it adds 0.125 MW to the flow of branch 3 after its loss.
 
 use command_answers::{Status, Told, clear_told, replay_told, verify_told};
+use market_data::FactorPlaces;
 use market_tables::{GridTables, MarketTables};
 use net_case::PostRating;
 use std::alloc::Global;
@@ -207,7 +208,7 @@ fn clears_with_outages_of_units(rt: HostRuntime) -> Result<(), Fail> {
         (both, BOTH),
     ] {
         let texts = Texts::new(rt.alloc(), &example)?;
-        let told = clear_told(rt.alloc(), &texts.tables(), PostRating::C)?;
+        let told = clear_told(rt.alloc(), &texts.tables(), PostRating::C, FactorPlaces::Six)?;
         assert!(rt; tells(&told, Status::Done, text));
         assert!(rt; told.outputs.certificate.is_some());
         if let Some(certificate) = &told.outputs.certificate {
@@ -230,6 +231,7 @@ fn verifies<R: Abort + AllocGlobal>(
         rt.alloc(),
         &texts.tables(),
         PostRating::C,
+        FactorPlaces::Six,
         edits,
         certificate,
     )?;
@@ -249,7 +251,7 @@ fn refuses_with_outages_of_units(rt: HostRuntime) -> Result<(), Fail> {
         "no Limit branch 3 outage 0 unit 1\n",
     )?;
     let edits = b"op,target,side,block,value\nprice,2,sell,1,31\nquantity,1,sell,1,30\nclear,,,,\n";
-    let replayed = replay_told(rt.alloc(), &texts.tables(), PostRating::C, edits)?;
+    let replayed = replay_told(rt.alloc(), &texts.tables(), PostRating::C, FactorPlaces::Six, edits)?;
     assert!(rt; tells(&replayed, Status::Done, FEWER));
     let short = Texts::new(
         rt.alloc(),
@@ -258,7 +260,7 @@ fn refuses_with_outages_of_units(rt: HostRuntime) -> Result<(), Fail> {
             ..WORKED
         },
     )?;
-    let told = clear_told(rt.alloc(), &short.tables(), PostRating::C)?;
+    let told = clear_told(rt.alloc(), &short.tables(), PostRating::C, FactorPlaces::Six)?;
     assert!(rt;
         tells(
             &told,
