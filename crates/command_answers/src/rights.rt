@@ -72,7 +72,7 @@ struct Entitlement<N> {
 }
 
 /// What rights of a market come to at bus prices.
-fn entitlement<N: Exact>(
+fn entitlement_of<N: Exact>(
     alloc: Global,
     market: &Market,
     rights: &[TransmissionRight],
@@ -104,7 +104,7 @@ fn fit_told<N: Exact>(
 {
     let mut text = Text::new(alloc);
     text.word(reported)?;
-    match entitlement(alloc, market, rights, prices) {
+    match entitlement_of(alloc, market, rights, prices) {
         Ok(made) => {
             rights_lines(&mut text, &made.fit, &made.payments)?;
             Ok(uncertified(fit_status(&made.fit), text.into_bytes()))

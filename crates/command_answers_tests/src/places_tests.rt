@@ -41,8 +41,8 @@ const SIX_REPORT: &str =
 const NINE_REPORT: &str =
     "cleared\nwelfare -799.999999600000000:400000000/500000001\nenergy 10\nbus 1 price 10 congestion 0\nbus 2 price 30 congestion 20\nbus 3 price 39.999999:156666667/166666667 congestion 29.999999:156666667/166666667\nblock 1 sell 1 mw 50.000000019:499999981/500000001\nblock 2 sell 1 mw 9.999999980:20/500000001\nlimit 2 base flow 40 up 39.999999:460000001/500000001 down 0 rent 1599.999996800000006:199999994/500000001\nunit 1 mw 50.000000019:499999981/500000001 paid 500.000000199999999:300000001/500000001\nunit 2 mw 9.999999980:20/500000001 paid 299.999999400000001:33333333/166666667\nload 1 mw 0 pays 0\nload 2 mw 0 pays 0\nload 3 mw 60 pays 2399.999996400000007:33333331/166666667\nsurplus 1599.999996800000006:199999994/500000001\n";
 
-/// What leaves bus 1 for bus 2's MW is a unit of the ninth place too little: twice the bound of half a unit for each of its two branches is
-/// not reached. Round the loop it is 0.1 of that.
+/// What leaves bus 1 for a MW of bus 2 is off by a unit of the ninth place, which is half a unit for each of its two branches: the bound.
+/// Round the loop it is 0.1 of that, and the bound twice as much.
 const NINE_RESIDUALS: &str =
     "bus most -0.000000001 at 1 for 2\nbus within\nloop most 0.0000000001 at 3 for 2\nloop within\noutage bus none\noutage loop none\n";
 
