@@ -150,7 +150,7 @@ blocks-again (x ∷ xs) = rw (blocks-again xs) refl
 
 -- the duals of a limit by the unit that is lost
 module _ (branch outage : ℕ) (up down : Fraction) where
-  abbrev after_unit : ℕ → Dual Fraction
+  abbrev pub after_unit : ℕ → Dual Fraction
   after_unit unit = record { row = record { branch = branch; outage = outage; unit = unit }; up = up; down = down }
 
   unit-again : branch < 2 ^ 32 → outage < 2 ^ 32 → (unit : ℕ) → unit < 2 ^ 32 → of_json (outline (limit_data (after_unit unit))) ≡ Some (limit_data (after_unit unit))
@@ -201,7 +201,7 @@ unfolding each
 limits-back [] h = refl
 limits-back (d ∷ ds) h = rw (limit-back d (h 0 d (omega arith)), limits-back ds (λ k x lt. h (suc k) x (omega (arith, lt)))) refl
 
-places-back : (p : FactorPlaces) → places_named (place_count p) ≡ Some p
+pub places-back : (p : FactorPlaces) → places_named (place_count p) ≡ Some p
 places-back Six = refl
 places-back Nine = refl
 

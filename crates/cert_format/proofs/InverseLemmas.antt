@@ -1,6 +1,6 @@
 -- What is read fits.
 use Rattle.std.specs.Prelude.{◌≡◌, ℕ, ◌<◌, ◌^◌, List, [], ◌∷◌, Bool, true, false, codes, nat_lt, All, Option, Some, None, Result, Ok, option_and_then, is_some, is_none, if◌then◌else◌}
-use Rattle.std.proofs.Common.{◌∙◌, ap, arith, refl, subst, sym, zero, suc}
+use Rattle.std.proofs.Common.{arith, refl, subst, zero, suc}
 use Rattle.std.proofs.lemmas.Bool.{ltb-true}
 use Rattle.std.proofs.lemmas.List.Elements.{All-cons, All-nil}
 use Rattle.std.proofs.lemmas.Option.{cond_some, option_and_then_some}
@@ -18,19 +18,18 @@ use Rattle.cert_format.specs.declared.forms.Version.{Version}
 use Rattle.cert_format.specs.Certificates.{CertFits, DualFits, Fits, NamesNoRowTwice, RowsAreDistinct, most_part}
 use Rattle.cert_format.specs.FractionTexts.{fraction_of}
 use Rattle.cert_format.specs.Grammar.{above_0, blocks_in, cert_in, cert_read, check, distinct, each, farkas_in, fraction_at, fraction_in, has_size, if_distinct, in_32, json_of, kind_in, limit_in, limits_in, member_count, members_with, need, number_at, of_kind, optimal_in, places_in, unit_at, version_in}
-use Rattle.cert_format.specs.Laws.{LawOfMigratedTexts, LawOfMigration}
-use Rattle.cert_format.specs.Written.{cert_text}
+use Rattle.cert_format.specs.Laws.{LawOfMigration}
 use Rattle.cert_format.proofs.CertLemmas.{reads-back}
 use Rattle.cert_format.proofs.FractionLemmas.{fraction_of-spells}
 use Rattle.cert_format.proofs.RowLemmas.{distinct-names, not_0}
 
 -- ---- parts that are there
-record Had {A B : Type 0} (o : Option A) (f : A → Result B Key) (y : B) : Type 0 where
-  value : A
-  is : o ≡ Some value
-  rest : f value ≡ Ok y
+pub record Had {A B : Type 0} (o : Option A) (f : A → Result B Key) (y : B) : Type 0 where
+  pub value : A
+  pub is : o ≡ Some value
+  pub rest : f value ≡ Ok y
 
-needed : {A B : Type 0} (k : Key) (o : Option A) (f : A → Result B Key) (y : B) → need k o f ≡ Ok y → Had o f y
+pub needed : {A B : Type 0} (k : Key) (o : Option A) (f : A → Result B Key) (y : B) → need k o f ≡ Ok y → Had o f y
 needed k None f y h = cc
 needed k (Some x) f y h = record { value = x; is = refl; rest = h }
 
@@ -38,7 +37,7 @@ checked : {B : Type 0} (k : Key) (b : Bool) (r : Result B Key) (y : B) → check
 checked k true r y h = h
 checked k false r y h = cc
 
-ok_is : (x y : Cert Fraction) → ◌≡◌ {A = Result (Cert Fraction) Key} (Ok x) (Ok y) → x ≡ y
+pub ok_is : (x y : Cert Fraction) → ◌≡◌ {A = Result (Cert Fraction) Key} (Ok x) (Ok y) → x ≡ y
 ok_is x y h = cc
 
 -- ---- numbers
@@ -148,6 +147,3 @@ cert_read-distinct bytes c h = (cert_read-fits bytes c h).distinct
 -- ---- what is written of what was read
 pub law_of_migration : LawOfMigration
 law_of_migration bytes c h = reads-back c (cert_read-fits bytes c h)
-
-pub law_of_migrated_texts : LawOfMigratedTexts
-law_of_migrated_texts c d fits h = ap cert_text (ok_is d c (sym h ∙ reads-back c fits))

@@ -22,7 +22,7 @@ pub fn migrating_keeps()
     ensures { LawOfMigration }
 {}
 
-/// Of the text that was written of a certificate that fits, what is read and written again is the same text.
+/// A text that was written, where it is read as a certificate, is written again as the same text. Numbers of rows have 32 bits.
 pub fn migrated_texts_stay()
     ensures { LawOfMigratedTexts }
 {}

@@ -1,4 +1,4 @@
-use Rattle.cert_format.proofs.InverseLemmas.{law_of_migrated_texts}
+use Rattle.cert_format.proofs.SameLemmas.{law_of_migrated_texts}
 use Rattle.cert_format.proofs.laws.migrated_texts_stay.Goals as goal
 
 pub returns : goal.returns
