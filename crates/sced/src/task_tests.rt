@@ -22,6 +22,10 @@ const OPTIMAL: &str =
 const MOVED: &str =
     "{\"blocks\":[\"45000000000/1\",\"15000000000/1\"],\"energy\":\"10000000/1\",\"kind\":\"optimal\",\"limits\":[{\"branch\":2,\"down\":\"0/1\",\"outage\":0,\"up\":\"20000000/1\"}],\"version\":1}";
 
+/// That as it is written anew.
+const MOVED_ANEW: &str =
+    "{\"blocks\":[\"45000000000/1\",\"15000000000/1\"],\"energy\":\"10000000/1\",\"kind\":\"optimal\",\"limits\":[{\"branch\":2,\"down\":\"0/1\",\"outage\":0,\"up\":\"20000000/1\"}],\"places\":6,\"version\":2}";
+
 /// Duals that show that nothing is feasible where branch 2 has a limit of 10.
 const FARKAS: &str =
     "{\"energy\":\"-1/1\",\"kind\":\"farkas\",\"limits\":[{\"branch\":2,\"down\":\"0/1\",\"outage\":0,\"up\":\"2/1\"}],\"places\":6,\"version\":2}";
@@ -99,6 +103,30 @@ fn writes_and_verifies_certificates(rt: HostRuntime) -> Result<(), Fail> {
             "40 0 0 0 0",
             OPTIMAL,
             whole(Status::Refuted, "no NoRow branch 2 outage 1\n"),
+        ),
+        (
+            "migrate --certificate in.json --out",
+            "out.json",
+            "40 0 0 0 0",
+            MOVED,
+            Want {
+                status: Status::Done,
+                start: "migrated\n",
+                end: "migrated\n",
+                written: Some(MOVED_ANEW),
+            },
+        ),
+        (
+            "rights --rights in.json",
+            ALONE,
+            "40 0 0 0 0",
+            "from,to,mw\n1,3,50\n1,2,5\n",
+            Want {
+                status: Status::Done,
+                start: LIMITED,
+                end: "surplus 1600\nrights fit\nright 1 pays 1500\nright 2 pays 100\nrights pay 1600\n",
+                written: None,
+            },
         ),
         (
             "verify --certificate in.json",
