@@ -13,6 +13,7 @@ use Rattle.market_model.specs.Lines.{IsPenalty}
 use Rattle.market_model.specs.Market.{AreUnitOutages, IsLine, IsMarket, bare_parts}
 use Rattle.market_model.proofs.LinePenalties.{no_cost}
 use Rattle.market_model.proofs.PlainMarkets.{plain_market, distinct_by_rise}
+use Rattle.market_data.specs.declared.scales.FactorPlaces.{FactorPlaces}
 use Rattle.net_case.specs.Networks.{LiveNetwork, IsNetwork, IsNetBranch, IsLimit}
 use Rattle.net_case.specs.NetworkReading.{unit_within}
 use Rattle.net_case.specs.declared.live_parts.NetBranch.{NetBranch}
@@ -25,7 +26,7 @@ use Rattle.factor_tables.specs.declared.penalty_list.Penalty.{Penalty}
 use Rattle.outage_list.specs.declared.unit_listing.UnitOutages.{UnitOutages}
 use Rattle.market_inputs.specs.declared.offers.Offered.{Offered}
 use Rattle.market_inputs.specs.declared.tables.Tables.{Tables}
-use Rattle.market_inputs.specs.Clearing.{AreSmall, IsTabled, line_of, loss_by, market_of, shift_by, market_factor}
+use Rattle.market_inputs.specs.Clearing.{AreSmall, IsTabled, line_of, loss_by, market_of, shift_by}
 use Rattle.market_inputs.specs.Pooling.{pool_of}
 use Rattle.market_inputs.specs.Tables.{AreOffered, MayBeLost, MayLoseUnits}
 use Rattle.market_inputs.proofs.FactorLemmas.{factors_by-are}
@@ -111,15 +112,15 @@ module _ (network : LiveNetwork) (offsets : List OffsetEntry) (penalties : List 
 
 -- ---- the market with limits
 -- parts whose lists are those of a network are its market
-pub market-is : (network : LiveNetwork) (tables : Tables) (lost : UnitOutages) (offered : Offered) (offsets : List OffsetEntry) (penalties : List PenaltyEntry) (branches : List NetBranch) (buses whole : List Bus) (lines : List Line) (shift loss : List Factor)
-    → branches ≡ network.branches → buses ≡ network.buses → whole ≡ network.buses → lines ≡ map (line_of offsets penalties) branches → shift ≡ shift_by tables.shift branches buses → loss ≡ loss_by tables.loss branches
-    → record (bare_parts whole offered.units offered.blocks) { lines = lines; outages = tables.outages; shift = shift; loss = loss; unit_outages = lost.lost; pickups = lost.pickups } ≡ market_of network tables lost offered offsets penalties
-market-is network tables lost offered offsets penalties branches buses whole lines shift loss branches_are buses_are whole_is lines_are shift_is loss_is = rw (whole_is, lines_are, shift_is, loss_is, branches_are, buses_are) refl
+pub market-is : (places : FactorPlaces) (network : LiveNetwork) (tables : Tables) (lost : UnitOutages) (offered : Offered) (offsets : List OffsetEntry) (penalties : List PenaltyEntry) (branches : List NetBranch) (buses whole : List Bus) (lines : List Line) (shift loss : List Factor)
+    → branches ≡ network.branches → buses ≡ network.buses → whole ≡ network.buses → lines ≡ map (line_of offsets penalties) branches → shift ≡ shift_by tables.shift.entries branches buses → loss ≡ loss_by tables.loss.entries branches
+    → record (bare_parts whole offered.units offered.blocks) { lines = lines; outages = tables.outages; places = places; shift = shift; loss = loss; unit_outages = lost.lost; pickups = lost.pickups } ≡ market_of places network tables lost offered offsets penalties
+market-is places network tables lost offered offsets penalties branches buses whole lines shift loss branches_are buses_are whole_is lines_are shift_is loss_is = rw (whole_is, lines_are, shift_is, loss_is, branches_are, buses_are) refl
 
-pub clear-market : (network : LiveNetwork) (tables : Tables) (lost : UnitOutages) (offered : Offered) (offsets : List OffsetEntry) (penalties : List PenaltyEntry) → IsNetwork network → MayBeLost network tables.outages → MayLoseUnits network lost → AreOffered network offered
-    → All IsTabled (map (line_of offsets penalties) network.branches) → AreSmall (shift_by tables.shift network.branches network.buses) → AreSmall (loss_by tables.loss network.branches)
-    → IsMarket (market_of network tables lost offered offsets penalties)
-clear-market network tables lost offered offsets penalties net may units given tabled small_shift small_loss =
+pub clear-market : (places : FactorPlaces) (network : LiveNetwork) (tables : Tables) (lost : UnitOutages) (offered : Offered) (offsets : List OffsetEntry) (penalties : List PenaltyEntry) → IsNetwork network → MayBeLost network tables.outages → MayLoseUnits network lost → AreOffered network offered
+    → All IsTabled (map (line_of offsets penalties) network.branches) → AreSmall (shift_by tables.shift.entries network.branches network.buses) → AreSmall (loss_by tables.loss.entries network.branches)
+    → IsMarket (market_of places network tables lost offered offsets penalties)
+clear-market places network tables lost offered offsets penalties net may units given tabled small_shift small_loss =
     let count : length (map (line_of offsets penalties) network.branches) ≡ length network.branches = length-map network.branches (line_of offsets penalties) in
     let rows : map (λ (l : Line). l.row) (map (line_of offsets penalties) network.branches) ≡ map (λ (b : NetBranch). b.row) network.branches = line-rows network offsets penalties net in
     record {
@@ -140,7 +141,7 @@ clear-market network tables lost offered offsets penalties net may units given t
           let o = may.are.each i d lt in
           subst (Contains (map (λ (b : NetBranch). b.row) network.branches)) o.live.row_is (Contains-map (λ (b : NetBranch). b.row) network.branches o.branch o.live.live));
       outages_distinct = may.are.distinct;
-      shift = rw count (factors_by-are (λ branch bus. market_factor (factor_at tables.shift (branch.row, bus.number))) network.buses network.branches small_shift);
-      loss = rw count (factors_by-are (λ branch other. market_factor (factor_at tables.loss (branch.row, other.row))) network.branches network.branches small_loss);
+      shift = rw count (factors_by-are (λ branch bus. factor_at tables.shift.entries (branch.row, bus.number)) network.buses network.branches small_shift);
+      loss = rw count (factors_by-are (λ branch other. factor_at tables.loss.entries (branch.row, other.row)) network.branches network.branches small_loss);
       unit_outages = lost-units network offered lost given units;
     }

@@ -4,6 +4,7 @@ use Rattle.std.proofs.lemmas.Bool.{cases_lt}
 use Rattle.std.proofs.Math.Logic.{⊎_elim}
 use Rattle.record_reading.specs.Steps.{or_as}
 use Rattle.case_text.specs.Matrices.{CaseMatrices}
+use Rattle.market_data.specs.declared.scales.FactorPlaces.{FactorPlaces}
 use Rattle.net_case.specs.declared.live_parts.Branches.TheVariants as branches
 use Rattle.net_case.specs.declared.live_parts.NetBranch.{NetBranch}
 use Rattle.net_case.specs.declared.live_parts.NetFault.{NetFault}
@@ -84,10 +85,10 @@ module _ (network : LiveNetwork) (kept : HasRows network) where
   outages-once : (bytes : Result (List ℕ) Refusal) → OfOne (AreOutagesIn network bytes)
   outages-once bytes = then-once _ _ (is-once (numbers_in bytes)) (λ numbers _. listed-once numbers)
 
-  tables-once : (grid : SizedGrid) → OfOne (AreTables network grid)
-  tables-once grid =
-      then-once _ _ (is-once (shift_in network grid.ptdf))
-      (λ shift _. then-once _ _ (is-once (loss_in network grid.lodf)) (λ loss _. then-once _ _ (outages-once grid.contingencies) (λ outages _. is-once (Ok (record { shift = shift; loss = loss; outages = outages })))))
+  tables-once : (places : FactorPlaces) (grid : SizedGrid) → OfOne (AreTables places network grid)
+  tables-once places grid =
+      then-once _ _ (is-once (shift_in places network grid.ptdf))
+      (λ shift _. then-once _ _ (is-once (loss_in places network grid.lodf)) (λ loss _. then-once _ _ (outages-once grid.contingencies) (λ outages _. is-once (Ok (record { shift = shift; loss = loss; outages = outages })))))
 
 -- ---- the markets
 pub pool-once : (case offers : Result (List ℕ) Refusal) → OfOne (IsPoolMarket case offers)
@@ -95,22 +96,22 @@ pool-once case offers =
     then-once _ _ (is-once (matrices_in case))
     (λ matrices _. then-once _ _ (is-once (network_in branches.Skip matrices)) (λ network _. then-once _ _ (is-once (offers_in network offers)) (λ offered _. is-once (Ok (pool_of network offered)))))
 
-pub clear-once : (rating : PostRating) (files : SizedTables) → OfOne (IsClearMarket rating files)
-clear-once rating files =
+pub clear-once : (rating : PostRating) (places : FactorPlaces) (files : SizedTables) → OfOne (IsClearMarket rating places files)
+clear-once rating places files =
     then-once _ _ (is-once (matrices_in files.grid.case))
     (λ matrices _. then-once _ _ (joined-network-once rating matrices)
-    (λ network is. then-once _ _ (tables-once network (joined-rows rating matrices network is) files.grid)
+    (λ network is. then-once _ _ (tables-once network (joined-rows rating matrices network is) places files.grid)
     (λ tables _. then-once _ _ (is-once (unit_outages_in network files.unit_outages))
     (λ lost _. then-once _ _ (is-once (cover_in network tables lost))
     (λ _ _. then-once _ _ (is-once (offers_in network files.offers))
     (λ offered _. then-once _ _ (is-once (offsets_in network files.offsets))
-    (λ moved _. then-once _ _ (is-once (penalties_in network files.penalties)) (λ priced _. is-once (Ok (market_of network tables lost offered moved priced))))))))))
+    (λ moved _. then-once _ _ (is-once (penalties_in network files.penalties)) (λ priced _. is-once (Ok (market_of places network tables lost offered moved priced))))))))))
 
 -- ---- what a check works on
-pub inputs-once : (files : SizedGrid) → OfOne (AreInputs files)
-inputs-once files =
+pub inputs-once : (places : FactorPlaces) (files : SizedGrid) → OfOne (AreInputs places files)
+inputs-once places files =
     then-once _ _ (is-once (matrices_in files.case))
     (λ matrices _. then-once _ _ (joined-network-once rating.C matrices)
     (λ network is. then-once _ _ (is-once (reactances_in matrices network))
-    (λ reactances _. then-once _ _ (tables-once network (joined-rows rating.C matrices network is) files)
+    (λ reactances _. then-once _ _ (tables-once network (joined-rows rating.C matrices network is) places files)
     (λ tables _. is-once (Ok (inputs_of network reactances tables))))))

@@ -1,5 +1,6 @@
 -- What a check works on.
 use Rattle.std.specs.Prelude.{ℤ, List, All, Result, Ok}
+use Rattle.market_data.specs.declared.scales.FactorPlaces.{FactorPlaces}
 use Rattle.net_case.specs.Networks.{LiveNetwork}
 use Rattle.net_case.specs.declared.live_parts.PostRating.TheVariants as rating
 use Rattle.net_paths.specs.Detours.{IsLiveRow}
@@ -16,14 +17,14 @@ use Rattle.market_inputs.specs.Tables.{AreTables}
 abbrev pub inputs_of : LiveNetwork → List ℤ → Tables → Inputs
 inputs_of network reactances tables = record { network = network; reactances = reactances; shift = tables.shift; loss = tables.loss; outages = tables.outages }
 
--- What the bytes of a case and of its tables stand for, or the first fault. The case comes first: its text, its rows, whether it is
+-- What the bytes of a case and of its tables stand for, or the first fault. The factors may have so many places. The case comes first: its text, its rows, whether it is
 -- joined, and its reactances.
-abbrev pub AreInputs : SizedGrid → Result Inputs Refusal → Type 0
-AreInputs grid told =
+abbrev pub AreInputs : FactorPlaces → SizedGrid → Result Inputs Refusal → Type 0
+AreInputs places grid told =
     Then (Is (matrices_in grid.case)) (λ matrices.
     Then (IsJoinedNetwork rating.C matrices) (λ network.
     Then (Is (reactances_in matrices network)) (λ reactances.
-    Then (AreTables network grid) (λ tables.
+    Then (AreTables places network grid) (λ tables.
     Is (Ok (inputs_of network reactances tables)))))) told
 
 -- one reactance for each live branch, and outages that are rows of live branches

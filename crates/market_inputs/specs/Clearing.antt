@@ -1,9 +1,10 @@
 -- What the bytes of the files of a clear stand for.
-use Rattle.std.specs.Prelude.{true, false, Bool, ℕ, ◌≤◌, ◌==◌, ℤ, pos, ◌*ℤ◌, List, [], ◌∷◌, All, map, unwrap_or, unsigned_abs, if◌then◌else◌, Result, Ok}
+use Rattle.std.specs.Prelude.{true, false, Bool, ℕ, ◌≤◌, ◌==◌, ℤ, pos, List, [], ◌∷◌, All, map, unwrap_or, unsigned_abs, if◌then◌else◌, Result, Ok}
 use Rattle.std.specs.List.{enumerate_from, flat_map}
 use Rattle.market_data.specs.declared.participants.Bus.{Bus}
 use Rattle.market_data.specs.Participants.{IsDatum}
-use Rattle.market_data.specs.Scales.{factor_step, most_factor}
+use Rattle.market_data.specs.Scales.{most_factor}
+use Rattle.market_data.specs.declared.scales.FactorPlaces.{FactorPlaces}
 use Rattle.market_model.specs.declared.participants.Factor.{Factor}
 use Rattle.market_model.specs.declared.participants.Line.{Line}
 use Rattle.market_model.specs.declared.participants.Parts.{Parts}
@@ -62,13 +63,9 @@ factors_of_line value line others = flat_map (λ other. unless_0 (record { line 
 abbrev pub factors_by : {A B : Type 0} → (A → B → ℤ) → List A → List B → List Factor
 factors_by value lines others = flat_map (λ line. factors_of_line (value line.1) line.0 others) (enumerate_from 0 lines)
 
--- a table's factor as a market has it
-abbrev pub market_factor : ℤ → ℤ
-market_factor value = value *ℤ pos factor_step
-
 -- the factors of branches that are not 0, in the columns of others by their names
 abbrev pub named_factors : {B : Type 0} → (B → ℕ) → List Entry → List NetBranch → List B → List Factor
-named_factors name table branches others = factors_by (λ branch other. market_factor (factor_at table (branch.row, name other))) branches others
+named_factors name table branches others = factors_by (λ branch other. factor_at table (branch.row, name other)) branches others
 
 -- the shift factors of branches for buses
 abbrev pub shift_by : List Entry → List NetBranch → List Bus → List Factor
@@ -83,27 +80,28 @@ abbrev pub AreSmall : List Factor → Type 0
 AreSmall factors = All (λ factor. unsigned_abs factor.value ≤ most_factor) factors
 
 -- ---- the market
--- the market of a network with its tables, its outages of units, its offers, its offsets and its penalties
-abbrev pub market_of : LiveNetwork → Tables → UnitOutages → Offered → List OffsetEntry → List PenaltyEntry → Parts
-market_of network tables lost offered offsets penalties = record (bare_parts network.buses offered.units offered.blocks) {
+-- the market of a network with its tables of factors of so many places, its outages of units, its offers, its offsets and its penalties
+abbrev pub market_of : FactorPlaces → LiveNetwork → Tables → UnitOutages → Offered → List OffsetEntry → List PenaltyEntry → Parts
+market_of places network tables lost offered offsets penalties = record (bare_parts network.buses offered.units offered.blocks) {
   lines = map (line_of offsets penalties) network.branches;
   outages = tables.outages;
-  shift = shift_by tables.shift network.branches network.buses;
-  loss = loss_by tables.loss network.branches;
+  places = places;
+  shift = shift_by tables.shift.entries network.branches network.buses;
+  loss = loss_by tables.loss.entries network.branches;
   unit_outages = lost.lost;
   pickups = lost.pickups;
 }
 
--- What the bytes of the files of a clear stand for, or the first fault. The case comes first, then the three tables, the outages of
+-- What the bytes of the files of a clear stand for, or the first fault. The factors may have so many places. The case comes first, then the three tables, the outages of
 -- units and what the tables lack for all outages, the offers, the offsets and the penalties.
-abbrev pub IsClearMarket : PostRating → SizedTables → Result Parts Refusal → Type 0
-IsClearMarket rating files told =
+abbrev pub IsClearMarket : PostRating → FactorPlaces → SizedTables → Result Parts Refusal → Type 0
+IsClearMarket rating places files told =
     Then (Is (matrices_in files.grid.case)) (λ matrices.
     Then (IsJoinedNetwork rating matrices) (λ network.
-    Then (AreTables network files.grid) (λ tables.
+    Then (AreTables places network files.grid) (λ tables.
     Then (Is (unit_outages_in network files.unit_outages)) (λ lost.
     Then (Is (cover_in network tables lost)) (λ _.
     Then (Is (offers_in network files.offers)) (λ offered.
     Then (Is (offsets_in network files.offsets)) (λ moved.
     Then (Is (penalties_in network files.penalties)) (λ priced.
-    Is (Ok (market_of network tables lost offered moved priced)))))))))) told
+    Is (Ok (market_of places network tables lost offered moved priced)))))))))) told

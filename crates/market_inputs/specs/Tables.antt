@@ -3,11 +3,12 @@ use Rattle.std.specs.Prelude.{◌≡◌, ◌≢◌, ℕ, ◌≤◌, nat_lt, ℤ,
 use Rattle.record_reading.specs.Steps.{and_then, or_as}
 use Rattle.market_data.specs.Participants.{IsUnit}
 use Rattle.market_data.specs.Scales.{most_outages, most_units}
+use Rattle.market_data.specs.declared.scales.FactorPlaces.{FactorPlaces}
 use Rattle.market_model.specs.Market.{AreUnitOutages, HaveRoom}
 use Rattle.net_case.specs.Networks.{LiveNetwork}
 use Rattle.net_case.specs.NetworkReading.{unit_list_of}
 use Rattle.factor_tables.specs.Covering.{cover_of}
-use Rattle.factor_tables.specs.Factors.{Entry}
+use Rattle.factor_tables.specs.Factors.{FactorRecords}
 use Rattle.factor_tables.specs.Offsets.{OffsetEntry, offsets_of}
 use Rattle.factor_tables.specs.OutageNumbers.{outage_rows_of}
 use Rattle.factor_tables.specs.Penalties.{PenaltyEntry, penalties_of}
@@ -28,11 +29,12 @@ use Rattle.market_inputs.specs.Files.{SizedGrid}
 use Rattle.market_inputs.specs.Steps.{Is, Then}
 
 -- ---- the tables of factors and of outages
-abbrev pub shift_in : LiveNetwork → Result (List ℕ) Refusal → Result (List Entry) Refusal
-shift_in network bytes = and_then bytes (λ text. or_as (refusal.Table input.Ptdf) (shift_of network text))
+-- the factors may have so many places
+abbrev pub shift_in : FactorPlaces → LiveNetwork → Result (List ℕ) Refusal → Result FactorRecords Refusal
+shift_in places network bytes = and_then bytes (λ text. or_as (refusal.Table input.Ptdf) (shift_of network text places))
 
-abbrev pub loss_in : LiveNetwork → Result (List ℕ) Refusal → Result (List Entry) Refusal
-loss_in network bytes = and_then bytes (λ text. or_as (refusal.Table input.Lodf) (loss_of network text))
+abbrev pub loss_in : FactorPlaces → LiveNetwork → Result (List ℕ) Refusal → Result FactorRecords Refusal
+loss_in places network bytes = and_then bytes (λ text. or_as (refusal.Table input.Lodf) (loss_of network text places))
 
 abbrev pub numbers_in : Result (List ℕ) Refusal → Result (List ℤ) Refusal
 numbers_in bytes = and_then bytes (λ text. or_as (refusal.Table input.Contingencies) (outage_rows_of text))
@@ -53,10 +55,10 @@ pub record MayBeLost (network : LiveNetwork) (rows : List ℕ) : Type 0 where
   pub are : AreOutages network rows
 
 -- the three tables of a network: the shift factors come first, then the outage factors and the outages
-abbrev pub AreTables : LiveNetwork → SizedGrid → Result Tables Refusal → Type 0
-AreTables network grid told =
-    Then (Is (shift_in network grid.ptdf)) (λ shift.
-    Then (Is (loss_in network grid.lodf)) (λ loss.
+abbrev pub AreTables : FactorPlaces → LiveNetwork → SizedGrid → Result Tables Refusal → Type 0
+AreTables places network grid told =
+    Then (Is (shift_in places network grid.ptdf)) (λ shift.
+    Then (Is (loss_in places network grid.lodf)) (λ loss.
     Then (AreOutagesIn network grid.contingencies) (λ outages.
     Is (Ok (record { shift = shift; loss = loss; outages = outages }))))) told
 
@@ -71,7 +73,7 @@ MayLoseUnits network lost = AreUnitOutages (length network.units) lost.lost lost
 -- ---- what the two tables of factors lack
 -- for the outages that are listed, of branches and of units
 abbrev pub cover_in : LiveNetwork → Tables → UnitOutages → Result (Unit {0}) Refusal
-cover_in network tables lost = or_as refusal.Uncovered (cover_of network tables.shift tables.loss tables.outages (nat_lt 0 (length lost.lost)))
+cover_in network tables lost = or_as refusal.Uncovered (cover_of network tables.shift.entries tables.loss.entries tables.outages (nat_lt 0 (length lost.lost)))
 
 -- ---- the tables of offers, of offsets and of penalties
 -- the units of a network, and their blocks

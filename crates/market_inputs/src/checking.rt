@@ -10,6 +10,7 @@ use crate::cases::{case_matrices, case_reactances, joined_network};
 use crate::stops::InputStop;
 use crate::tables::read_tables;
 use factor_tables::{Loss, Shift};
+use market_data::FactorPlaces;
 use market_tables::GridTables;
 use net_case::{Network, PostRating, Reactances};
 use outage_list::Outages;
@@ -25,15 +26,19 @@ pub struct Inputs {
     pub outages: Outages,
 }
 
-/// The network, and the tables that are to fit it, of the whole bytes of these.
-pub fn check_inputs(alloc: Global, bytes: &GridTables<&[u8]>) -> Result<Inputs, InputStop>
-    ensures told { IsToldAs (AreInputs (sized_grid (grid_lent bytes.now))) result }
+/// The network, and the tables that are to fit it, of the whole bytes of these. The factors may have so many places.
+pub fn check_inputs(
+    alloc: Global,
+    bytes: &GridTables<&[u8]>,
+    places: FactorPlaces,
+) -> Result<Inputs, InputStop>
+    ensures told { IsToldAs (AreInputs places (sized_grid (grid_lent bytes.now))) result }
     ensures fit { IfOk result AreFit }
 {
     let raw = case_matrices(alloc, bytes.case)?;
     let network = joined_network(alloc, &raw, PostRating::C)?;
     let reactances = case_reactances(alloc, &raw, &network)?;
-    let tables = read_tables(alloc, &network, bytes)?;
+    let tables = read_tables(alloc, &network, bytes, places)?;
     Ok(Inputs {
         network,
         reactances,

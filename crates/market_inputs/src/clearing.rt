@@ -17,6 +17,7 @@ use crate::tables::{
     Tables, check_cover, offset_table, penalty_table, read_tables, unit_outage_table,
 };
 use factor_tables::{Offsets, Penalties};
+use market_data::FactorPlaces;
 use market_model::{Market, Memory, Parts, assemble};
 use market_tables::MarketTables;
 use net_case::{Network, PostRating};
@@ -32,13 +33,14 @@ fn limited_parts(
     offered: Offered,
     offsets: &Offsets,
     penalties: &Penalties,
+    places: FactorPlaces,
 ) -> Result<Parts, Memory>
     requires network { IsNetwork network }
     requires outages { MayBeLost network tables.outages }
     requires lost { MayLoseUnits network lost }
     requires offered { AreOffered network offered }
     ensures kept { IfOk result IsMarket }
-    ensures is { IfOk result (λ parts. parts ≡ market_of network tables lost offered offsets.now penalties.now) }
+    ensures is { IfOk result (λ parts. parts ≡ market_of places network tables lost offered offsets.now penalties.now) }
 {
     let branches = network.branches().slice();
     let lines = lines_of(alloc, branches, offsets, penalties)?;
@@ -50,6 +52,7 @@ fn limited_parts(
         blocks: offered.blocks,
         lines,
         outages: tables.outages,
+        places,
         shift,
         loss,
         unit_outages: lost.lost,
@@ -58,7 +61,7 @@ fn limited_parts(
 }
 
 /// The market of a case with its tables, its outages of units, its offers, its offsets and its penalties, of the whole bytes of these.
-/// The limits after an outage are of the rating that is asked for.
+/// The limits after an outage are of the rating that is asked for, and the factors may have as many places.
 ///
 /// The whole case is read first, then the tables of factors, the outages of branches and of units, the offers, the offsets and the
 /// penalties.
@@ -66,18 +69,21 @@ pub fn clear_market(
     alloc: Global,
     bytes: &MarketTables<&[u8]>,
     rating: PostRating,
+    places: FactorPlaces,
 ) -> Result<Market, InputStop>
-    ensures told { IsToldAs (IsClearMarket rating (sized_tables (tables_lent bytes.now))) result }
+    ensures told { IsToldAs (IsClearMarket rating places (sized_tables (tables_lent bytes.now))) result }
     ensures kept { IfOk result IsMarket }
 {
     let raw = case_matrices(alloc, bytes.grid.case)?;
     let network = joined_network(alloc, &raw, rating)?;
-    let tables = read_tables(alloc, &network, &bytes.grid)?;
+    let tables = read_tables(alloc, &network, &bytes.grid, places)?;
     let lost = unit_outage_table(alloc, &network, bytes.unit_outages)?;
     check_cover(&network, &tables, &lost)?;
     let offered = offer_table(alloc, &network, bytes.offers)?;
     let offsets = offset_table(alloc, &network, bytes.offsets)?;
     let penalties = penalty_table(alloc, &network, bytes.penalties)?;
-    let parts = limited_parts(alloc, network, tables, lost, offered, &offsets, &penalties)?;
+    let parts = limited_parts(
+        alloc, network, tables, lost, offered, &offsets, &penalties, places,
+    )?;
     Ok(assemble(alloc, parts)?)
 }

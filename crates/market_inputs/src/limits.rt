@@ -1,13 +1,11 @@
 //! The lines of a network, and their factors.
 
-ghost use Rattle.std.specs.Prelude.{◌≡◌, ℕ, ◌++◌, ◌≤◌, All, IfOk, map, unsigned_abs};
-ghost use Rattle.market_data.specs.Scales.{most_factor, most_factor};
+ghost use Rattle.std.specs.Prelude.{◌≡◌, ℕ, ◌++◌, All, IfOk, map};
 ghost use Rattle.factor_tables.specs.Factors.{factor_at};
 ghost use Rattle.market_model.specs.Lines.{IsPenalty};
-ghost use Rattle.market_inputs.specs.Clearing.{AreSmall, IsTabled, factors_of_line, line_of, penalty_for, market_factor, named_factors, unless_0};
+ghost use Rattle.market_inputs.specs.Clearing.{AreSmall, IsTabled, factors_of_line, line_of, penalty_for, named_factors, unless_0};
 
 use factor_tables::{ByBus, ByOutage, FactorTable, Offsets, Penalties, Penalty, TableKind};
-use market_data::FACTOR_STEP;
 use market_model::{Bus, Factor, Line, List, Memory};
 use net_case::NetBranch;
 use std::alloc::Global;
@@ -102,15 +100,6 @@ impl Named for NetBranch {
     }
 }
 
-/// A table's factor as a market has it.
-fn market_factor(value: i64) -> i64
-    requires { unsigned_abs value ≤ most_factor }
-    ensures size { unsigned_abs result ≤ most_factor }
-    ensures is { result ≡ market_factor value }
-{
-    value * FACTOR_STEP
-}
-
 /// Adds the factors of a line in the columns of these. The records are looked for from a place on, and that behind the last one found
 /// is the answer.
 fn push_factors<T: Named>(
@@ -123,13 +112,12 @@ fn push_factors<T: Named>(
 ) -> Result<usize, Memory>
     requires { AreSmall factors.old }
     ensures small { IfOk result (λ _. AreSmall factors.new) }
-    ensures are { IfOk result (λ _. factors.new ≡ factors.old ++ factors_of_line (λ other. market_factor (factor_at table.now (row, T.name other))) line others.now) }
+    ensures are { IfOk result (λ _. factors.new ≡ factors.old ++ factors_of_line (λ other. factor_at table.now.entries (row, T.name other)) line others.now) }
 {
     let mut place = place;
     for (of, other) in others.iter().enumerate() {
-        let (factor, behind) = table.factor_near(place, row, other.name());
+        let (value, behind) = table.factor_near(place, row, other.name());
         place = behind;
-        let value = market_factor(factor);
         push_factor(factors, Factor { line, of, value })?;
     }
     Ok(place)
@@ -143,7 +131,7 @@ pub(crate) fn factors_of<T: Named>(
     table: &FactorTable<T::Column>,
 ) -> Result<List<Factor>, Memory>
     ensures small { IfOk result AreSmall }
-    ensures are { IfOk result (λ factors. factors ≡ named_factors T.name table.now branches.now others.now) }
+    ensures are { IfOk result (λ factors. factors ≡ named_factors T.name table.now.entries branches.now others.now) }
 {
     let mut factors = List::new(alloc);
     let mut place = 0;

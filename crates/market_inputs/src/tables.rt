@@ -16,6 +16,7 @@ use factor_tables::{
     Loss, Offsets, OutageRows, Penalties, Shift, cover, offsets, outage, outage_rows, penalties,
     shift,
 };
+use market_data::FactorPlaces;
 use market_tables::GridTables;
 use net_case::Network;
 use outage_list::{Outages, UnitOutages, listed, unit_outages};
@@ -30,23 +31,33 @@ pub(crate) struct Tables {
     pub outages: Outages,
 }
 
-/// The shift factors of a table.
-fn shift_table(alloc: Global, network: &Network, bytes: &[u8]) -> Result<Shift, InputStop>
-    ensures { IsToldAs (Is (shift_in network.now (sized (refusal.TooLong input.Ptdf) bytes.now))) result }
+/// The shift factors of a table, which may have so many places.
+fn shift_table(
+    alloc: Global,
+    network: &Network,
+    bytes: &[u8],
+    places: FactorPlaces,
+) -> Result<Shift, InputStop>
+    ensures { IsToldAs (Is (shift_in places network.now (sized (refusal.TooLong input.Ptdf) bytes.now))) result }
 {
     check_length(bytes, Input::Ptdf)?;
-    match shift(alloc, network, bytes) {
+    match shift(alloc, network, bytes, places) {
         Ok(shift) => Ok(shift),
         Err(fault) => Err(table_stop(Input::Ptdf, fault)),
     }
 }
 
-/// The outage factors of a table.
-fn loss_table(alloc: Global, network: &Network, bytes: &[u8]) -> Result<Loss, InputStop>
-    ensures { IsToldAs (Is (loss_in network.now (sized (refusal.TooLong input.Lodf) bytes.now))) result }
+/// The outage factors of a table, which may have so many places.
+fn loss_table(
+    alloc: Global,
+    network: &Network,
+    bytes: &[u8],
+    places: FactorPlaces,
+) -> Result<Loss, InputStop>
+    ensures { IsToldAs (Is (loss_in places network.now (sized (refusal.TooLong input.Lodf) bytes.now))) result }
 {
     check_length(bytes, Input::Lodf)?;
-    match outage(alloc, network, bytes) {
+    match outage(alloc, network, bytes, places) {
         Ok(loss) => Ok(loss),
         Err(fault) => Err(table_stop(Input::Lodf, fault)),
     }
@@ -78,12 +89,13 @@ pub(crate) fn read_tables(
     alloc: Global,
     network: &Network,
     grid: &GridTables<&[u8]>,
+    places: FactorPlaces,
 ) -> Result<Tables, InputStop>
-    ensures told { IsToldAs (AreTables network.now (sized_grid (grid_lent grid.now))) result }
+    ensures told { IsToldAs (AreTables places network.now (sized_grid (grid_lent grid.now))) result }
     ensures kept { IfOk result (λ tables. MayBeLost network.now tables.outages) }
 {
-    let shift = shift_table(alloc, network, grid.ptdf)?;
-    let loss = loss_table(alloc, network, grid.lodf)?;
+    let shift = shift_table(alloc, network, grid.ptdf, places)?;
+    let loss = loss_table(alloc, network, grid.lodf, places)?;
     let outages = outage_table(alloc, network, grid.contingencies)?;
     Ok(Tables {
         shift,

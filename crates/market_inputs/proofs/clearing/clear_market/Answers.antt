@@ -10,28 +10,28 @@ returns-in_err-raw-clause-told c =
     let files = sized_tables (tables_lent c.args.bytes.now) in
     let out = c.from_residual.result in
     let given : out ≡ Err c.in_err-raw.field-0.0 = search rules in
-    case-stop c.args.rating files c.case_matrices.result out c.in_err-raw.field-0.0 c.case_matrices.ensures c.in_err-raw.was given
+    case-stop c.args.rating c.args.places files c.case_matrices.result out c.in_err-raw.field-0.0 c.case_matrices.ensures c.in_err-raw.was given
 
 pub returns-in_err-network-clause-told : goal.returns-in_err-network-clause-told
 returns-in_err-network-clause-told c =
     let files = sized_tables (tables_lent c.args.bytes.now) in
     let out = c.from_residual-in_err-network.result in
     let given : out ≡ Err c.in_err-network.field-0.0 = search rules in
-    network-stop c.args.rating files c.in_ok-raw.raw c.in_ok-raw.ensures c.joined_network.result out c.in_err-network.field-0.0 c.joined_network.ensures.told c.in_err-network.was given
+    network-stop c.args.rating c.args.places files c.in_ok-raw.raw c.in_ok-raw.ensures c.joined_network.result out c.in_err-network.field-0.0 c.joined_network.ensures.told c.in_err-network.was given
 
 pub returns-in_err-tables-clause-told : goal.returns-in_err-tables-clause-told
 returns-in_err-tables-clause-told c =
     let files = sized_tables (tables_lent c.args.bytes.now) in
     let out = c.from_residual-in_err-tables.result in
     let given : out ≡ Err c.in_err-tables.field-0.0 = search rules in
-    tables-stop c.args.rating files c.in_ok-raw.raw c.in_ok-raw.ensures c.in_ok-network.network c.in_ok-network.ensures.told c.read_tables.result out c.in_err-tables.field-0.0 c.read_tables.ensures.told c.in_err-tables.was given
+    tables-stop c.args.rating c.args.places files c.in_ok-raw.raw c.in_ok-raw.ensures c.in_ok-network.network c.in_ok-network.ensures.told c.read_tables.result out c.in_err-tables.field-0.0 c.read_tables.ensures.told c.in_err-tables.was given
 
 pub returns-in_err-lost-clause-told : goal.returns-in_err-lost-clause-told
 returns-in_err-lost-clause-told c =
     let files = sized_tables (tables_lent c.args.bytes.now) in
     let out = c.from_residual-in_err-lost.result in
     let given : out ≡ Err c.in_err-lost.field-0.0 = search rules in
-    units-stop c.args.rating files c.in_ok-raw.raw c.in_ok-raw.ensures c.in_ok-network.network c.in_ok-network.ensures.told c.in_ok-tables.tables c.in_ok-tables.ensures.told
+    units-stop c.args.rating c.args.places files c.in_ok-raw.raw c.in_ok-raw.ensures c.in_ok-network.network c.in_ok-network.ensures.told c.in_ok-tables.tables c.in_ok-tables.ensures.told
     c.unit_outage_table.result out c.in_err-lost.field-0.0 c.unit_outage_table.ensures.told c.in_err-lost.was given
 
 pub returns-in_err-check_cover-clause-told : goal.returns-in_err-check_cover-clause-told
@@ -39,15 +39,15 @@ returns-in_err-check_cover-clause-told c =
     let files = sized_tables (tables_lent c.args.bytes.now) in
     let out = c.from_residual-in_err-check_cover.result in
     let given : out ≡ Err c.in_err-check_cover.field-0.0 = search rules in
-    cover-stop c.args.rating files c.in_ok-raw.raw c.in_ok-raw.ensures c.in_ok-network.network c.in_ok-network.ensures.told c.in_ok-tables.tables c.in_ok-tables.ensures.told
+    cover-stop c.args.rating c.args.places files c.in_ok-raw.raw c.in_ok-raw.ensures c.in_ok-network.network c.in_ok-network.ensures.told c.in_ok-tables.tables c.in_ok-tables.ensures.told
     c.in_ok-lost.lost c.in_ok-lost.ensures.told c.check_cover.result out c.in_err-check_cover.field-0.0 c.check_cover.ensures c.in_err-check_cover.was given
 
 pub returns-in_err-offered-clause-told : goal.returns-in_err-offered-clause-told
 returns-in_err-offered-clause-told c =
     let files = sized_tables (tables_lent c.args.bytes.now) in
     let out = c.from_residual-in_err-offered.result in
-    let given : out ≡ Err c.in_err-offered.field-0.0 = search rules in
-    offers-stop c.args.rating files c.in_ok-raw.raw
+    let given : out ≡ Err c.in_err-offered.field-0.0 = err-of out c.in_err-offered.field-0.0 c.from_residual-in_err-offered.ensures.1 in
+    offers-stop c.args.rating c.args.places files c.in_ok-raw.raw
     c.in_ok-network.network c.in_ok-tables.tables c.in_ok-lost.lost (record {
       raw_is = c.in_ok-raw.ensures;
       network_is = c.in_ok-network.ensures.told;
@@ -62,7 +62,7 @@ returns-in_err-offsets-clause-told c =
     let files = sized_tables (tables_lent c.args.bytes.now) in
     let out = c.from_residual-in_err-offsets.result in
     let given : out ≡ Err c.in_err-offsets.field-0.0 = search rules in
-    offsets-stop c.args.rating files c.in_ok-raw.raw
+    offsets-stop c.args.rating c.args.places files c.in_ok-raw.raw
     c.in_ok-network.network c.in_ok-tables.tables c.in_ok-lost.lost (record {
       raw_is = c.in_ok-raw.ensures;
       network_is = c.in_ok-network.ensures.told;
@@ -79,7 +79,7 @@ pub returns-in_err-penalties-clause-told : goal.returns-in_err-penalties-clause-
 returns-in_err-penalties-clause-told c =
     let files = sized_tables (tables_lent c.args.bytes.now) in
     let out = c.from_residual-in_err-penalties.result in
-    penalties-stop c.args.rating files c.in_ok-raw.raw
+    penalties-stop c.args.rating c.args.places files c.in_ok-raw.raw
     c.in_ok-network.network c.in_ok-tables.tables c.in_ok-lost.lost (record {
       raw_is = c.in_ok-raw.ensures;
       network_is = c.in_ok-network.ensures.told;
@@ -92,7 +92,7 @@ returns-in_err-penalties-clause-told c =
 pub returns-clause-told : goal.returns-clause-told
 returns-clause-told c =
     let files = sized_tables (tables_lent c.args.bytes.now) in
-    all-read c.args.rating files c.in_ok-raw.raw
+    all-read c.args.rating c.args.places files c.in_ok-raw.raw
     c.in_ok-network.network c.in_ok-tables.tables c.in_ok-lost.lost (record {
       raw_is = c.in_ok-raw.ensures;
       network_is = c.in_ok-network.ensures.told;
