@@ -32,11 +32,11 @@ use Rattle.factor_residuals.specs.declared.spots.Spot.{Spot}
 use Rattle.factor_residuals.specs.declared.spots.Residual.{Residual}
 use Rattle.factor_residuals.specs.Kirchhoff.{taken, net_outflow, one_at, bus_spot}
 use Rattle.factor_residuals.specs.Residuals.{IsMost, IsResidual, places, shift_column, shift_columns, bus_spots}
-use Rattle.factor_residuals.specs.Injections.{micro, taken_flow, greatest, LawOfInjections}
+use Rattle.factor_residuals.specs.Injections.{billionths, taken_flow, greatest, LawOfInjections}
 
 -- the flow over the branch of a row, by factors of rows and places
 abbrev flow_by : (ℕ → ℕ → ℤ) → ℕ → (ℕ → Fraction) → ℕ → Fraction
-flow_by h n p row = sum_by (λ i. micro (h row i) *ℚ p i) (places n)
+flow_by h n p row = sum_by (λ i. billionths (h row i) *ℚ p i) (places n)
 
 abbrev outflow_by : (ℕ → Fraction) → List NetBranch → ℕ → Fraction
 outflow_by flow branches b = sum_by (taken_flow flow b) branches
@@ -44,42 +44,42 @@ outflow_by flow branches b = sum_by (taken_flow flow b) branches
 abbrev miss : (ℕ → ℤ) → List NetBranch → ℕ → ℕ → ℕ → ℤ
 miss flow branches source sink b = net_outflow flow branches b -ℤ one_at source b +ℤ one_at sink b
 
--- ---- millionths
-micro-whole : (n : ℤ) → micro n ≡ whole n *ℚ micro (pos 1)
-micro-whole n = same_value (micro n) (whole n *ℚ micro (pos 1)) n factor_one (Prim.omega arith) (over_is n factor_one (Prim.omega arith)) product
+-- ---- billionths
+billionths-whole : (n : ℤ) → billionths n ≡ whole n *ℚ billionths (pos 1)
+billionths-whole n = same_value (billionths n) (whole n *ℚ billionths (pos 1)) n factor_one (Prim.omega arith) (over_is n factor_one (Prim.omega arith)) product
   where
-    product : Is (whole n *ℚ micro (pos 1)) n factor_one
-    product = subst (λ m. Is (whole n *ℚ micro (pos 1)) m factor_one) (*ℤ-pos_one n)
-        (times_is (whole n) (micro (pos 1)) n (pos 1) 1 factor_one (whole_is n) (over_is (pos 1) factor_one (Prim.omega arith)))
+    product : Is (whole n *ℚ billionths (pos 1)) n factor_one
+    product = subst (λ m. Is (whole n *ℚ billionths (pos 1)) m factor_one) (*ℤ-pos_one n)
+        (times_is (whole n) (billionths (pos 1)) n (pos 1) 1 factor_one (whole_is n) (over_is (pos 1) factor_one (Prim.omega arith)))
 
-micro-plus : (m n : ℤ) → micro (m +ℤ n) ≡ micro m +ℚ micro n
-micro-plus m n = micro-whole (m +ℤ n) ∙ ap (λ t. t *ℚ micro (pos 1)) (whole-+ℚ m n)
-    ∙ by_ring ring_ℚ (whole m ∷ whole n ∷ micro (pos 1) ∷ []) (pmul (padd (at 0) (at 1)) (at 2)) (padd (pmul (at 0) (at 2)) (pmul (at 1) (at 2))) refl
-    ∙ sym (ap₂ ◌+ℚ◌ (micro-whole m) (micro-whole n))
+billionths-plus : (m n : ℤ) → billionths (m +ℤ n) ≡ billionths m +ℚ billionths n
+billionths-plus m n = billionths-whole (m +ℤ n) ∙ ap (λ t. t *ℚ billionths (pos 1)) (whole-+ℚ m n)
+    ∙ by_ring ring_ℚ (whole m ∷ whole n ∷ billionths (pos 1) ∷ []) (pmul (padd (at 0) (at 1)) (at 2)) (padd (pmul (at 0) (at 2)) (pmul (at 1) (at 2))) refl
+    ∙ sym (ap₂ ◌+ℚ◌ (billionths-whole m) (billionths-whole n))
 
-micro-neg : (n : ℤ) → micro (neg_ℤ n) ≡ neg_ℚ (micro n)
-micro-neg n = micro-whole (neg_ℤ n) ∙ ap (λ t. t *ℚ micro (pos 1)) (whole-neg n)
-    ∙ by_ring ring_ℚ (whole n ∷ micro (pos 1) ∷ []) (pmul (pneg (at 0)) (at 1)) (pneg (pmul (at 0) (at 1))) refl ∙ sym (ap neg_ℚ (micro-whole n))
+billionths-neg : (n : ℤ) → billionths (neg_ℤ n) ≡ neg_ℚ (billionths n)
+billionths-neg n = billionths-whole (neg_ℤ n) ∙ ap (λ t. t *ℚ billionths (pos 1)) (whole-neg n)
+    ∙ by_ring ring_ℚ (whole n ∷ billionths (pos 1) ∷ []) (pmul (pneg (at 0)) (at 1)) (pneg (pmul (at 0) (at 1))) refl ∙ sym (ap neg_ℚ (billionths-whole n))
 
 minus-is : (m n : ℤ) → m -ℤ n ≡ m +ℤ neg_ℤ n
 minus-is m n = Prim.omega (arith, ints)
 
-micro-minus : (m n : ℤ) → micro (m -ℤ n) ≡ micro m -ℚ micro n
-micro-minus m n = ap micro (minus-is m n) ∙ micro-plus m (neg_ℤ n) ∙ ap (λ t. micro m +ℚ t) (micro-neg n)
+billionths-minus : (m n : ℤ) → billionths (m -ℤ n) ≡ billionths m -ℚ billionths n
+billionths-minus m n = ap billionths (minus-is m n) ∙ billionths-plus m (neg_ℤ n) ∙ ap (λ t. billionths m +ℚ t) (billionths-neg n)
 
-micro-none : micro (pos 0) ≡ whole (pos 0)
-micro-none = micro-whole (pos 0) ∙ *ℚ_comm (whole (pos 0)) (micro (pos 1)) ∙ times_nil ring_ℚ (micro (pos 1))
+billionths-none : billionths (pos 0) ≡ whole (pos 0)
+billionths-none = billionths-whole (pos 0) ∙ *ℚ_comm (whole (pos 0)) (billionths (pos 1)) ∙ times_nil ring_ℚ (billionths (pos 1))
 
-micro-one : micro (pos factor_one) ≡ whole (pos 1)
-micro-one = same_value (micro (pos factor_one)) (whole (pos 1)) (pos factor_one) factor_one (Prim.omega arith) (over_is (pos factor_one) factor_one (Prim.omega arith)) (one_is (pos factor_one) factor_one refl)
+billionths-one : billionths (pos factor_one) ≡ whole (pos 1)
+billionths-one = same_value (billionths (pos factor_one)) (whole (pos 1)) (pos factor_one) factor_one (Prim.omega arith) (over_is (pos factor_one) factor_one (Prim.omega arith)) (one_is (pos factor_one) factor_one refl)
 
 -- ---- sums
 -- the sum of a whole number of millionths times x
-micro-sum : {T : Type 0} (f : T → ℤ) (x : Fraction) (ls : List T) → sum_by (λ l. micro (f l) *ℚ x) ls ≡ micro (int_sum f ls) *ℚ x
-micro-sum f x [] = sym (ap (λ t. t *ℚ x) micro-none ∙ *ℚ_comm (whole (pos 0)) x ∙ times_nil ring_ℚ x)
-micro-sum f x (l ∷ ls) = ap (λ t. (micro (f l) *ℚ x) +ℚ t) (micro-sum f x ls)
-    ∙ by_ring ring_ℚ (micro (f l) ∷ x ∷ micro (int_sum f ls) ∷ []) (padd (pmul (at 0) (at 1)) (pmul (at 2) (at 1))) (pmul (padd (at 0) (at 2)) (at 1)) refl
-    ∙ ap (λ t. t *ℚ x) (sym (micro-plus (f l) (int_sum f ls)))
+billionths-sum : {T : Type 0} (f : T → ℤ) (x : Fraction) (ls : List T) → sum_by (λ l. billionths (f l) *ℚ x) ls ≡ billionths (int_sum f ls) *ℚ x
+billionths-sum f x [] = sym (ap (λ t. t *ℚ x) billionths-none ∙ *ℚ_comm (whole (pos 0)) x ∙ times_nil ring_ℚ x)
+billionths-sum f x (l ∷ ls) = ap (λ t. (billionths (f l) *ℚ x) +ℚ t) (billionths-sum f x ls)
+    ∙ by_ring ring_ℚ (billionths (f l) ∷ x ∷ billionths (int_sum f ls) ∷ []) (padd (pmul (at 0) (at 1)) (pmul (at 2) (at 1))) (pmul (padd (at 0) (at 2)) (at 1)) refl
+    ∙ ap (λ t. t *ℚ x) (sym (billionths-plus (f l) (int_sum f ls)))
 
 sum_by-minus : {T : Type 0} (f g : T → Fraction) (xs : List T) → sum_by (λ x. f x -ℚ g x) xs ≡ sum_by f xs -ℚ sum_by g xs
 sum_by-minus f g [] = by_ring ring_ℚ [] pnil (padd pnil (pneg pnil)) refl
@@ -91,33 +91,33 @@ more-places f n = sum_by-append f (places n) (n ∷ []) ∙ ap (λ t. sum_by f (
 
 -- ---- one branch
 picked : (c : Bool) (h : ℕ → ℤ) (p : ℕ → Fraction) (is : List ℕ)
-    → (if c then sum_by (λ i. micro (h i) *ℚ p i) is else whole (pos 0)) ≡ sum_by (λ i. micro (if c then h i else pos 0) *ℚ p i) is
+    → (if c then sum_by (λ i. billionths (h i) *ℚ p i) is else whole (pos 0)) ≡ sum_by (λ i. billionths (if c then h i else pos 0) *ℚ p i) is
 picked true h p is = refl
-picked false h p is = sym (sum_by-same (λ i. micro (pos 0) *ℚ p i) (λ i. whole (pos 0)) is (λ i. ap (λ t. t *ℚ p i) micro-none ∙ *ℚ_comm (whole (pos 0)) (p i) ∙ times_nil ring_ℚ (p i)) ∙ sum_by-nil is)
+picked false h p is = sym (sum_by-same (λ i. billionths (pos 0) *ℚ p i) (λ i. whole (pos 0)) is (λ i. ap (λ t. t *ℚ p i) billionths-none ∙ *ℚ_comm (whole (pos 0)) (p i) ∙ times_nil ring_ℚ (p i)) ∙ sum_by-nil is)
 
 module _ (h : ℕ → ℕ → ℤ) (n : ℕ) (p : ℕ → Fraction) (b : ℕ) where
-  one_branch : (l : NetBranch) → taken_flow (flow_by h n p) b l ≡ sum_by (λ i. micro (taken (λ row. h row i) b l) *ℚ p i) (places n)
+  one_branch : (l : NetBranch) → taken_flow (flow_by h n p) b l ≡ sum_by (λ i. billionths (taken (λ row. h row i) b l) *ℚ p i) (places n)
   one_branch l =
       let out : ℕ → ℤ = λ i. if l.from == b then h l.row i else pos 0 in
       let into : ℕ → ℤ = λ i. if l.to == b then h l.row i else pos 0 in
       ap₂ ◌-ℚ◌ (picked (l.from == b) (h l.row) p (places n)) (picked (l.to == b) (h l.row) p (places n))
-      ∙ sym (sum_by-minus (λ i. micro (out i) *ℚ p i) (λ i. micro (into i) *ℚ p i) (places n))
-      ∙ sum_by-same (λ i. (micro (out i) *ℚ p i) -ℚ (micro (into i) *ℚ p i)) (λ i. micro (out i -ℤ into i) *ℚ p i) (places n)
-      (λ i. by_ring ring_ℚ (micro (out i) ∷ micro (into i) ∷ p i ∷ []) (padd (pmul (at 0) (at 2)) (pneg (pmul (at 1) (at 2)))) (pmul (padd (at 0) (pneg (at 1))) (at 2)) refl
-      ∙ ap (λ t. t *ℚ p i) (sym (micro-minus (out i) (into i))))
+      ∙ sym (sum_by-minus (λ i. billionths (out i) *ℚ p i) (λ i. billionths (into i) *ℚ p i) (places n))
+      ∙ sum_by-same (λ i. (billionths (out i) *ℚ p i) -ℚ (billionths (into i) *ℚ p i)) (λ i. billionths (out i -ℤ into i) *ℚ p i) (places n)
+      (λ i. by_ring ring_ℚ (billionths (out i) ∷ billionths (into i) ∷ p i ∷ []) (padd (pmul (at 0) (at 2)) (pneg (pmul (at 1) (at 2)))) (pmul (padd (at 0) (pneg (at 1))) (at 2)) refl
+      ∙ ap (λ t. t *ℚ p i) (sym (billionths-minus (out i) (into i))))
 
   -- the net outflow, by columns
-  by_columns : (branches : List NetBranch) → outflow_by (flow_by h n p) branches b ≡ sum_by (λ i. micro (net_outflow (λ row. h row i) branches b) *ℚ p i) (places n)
+  by_columns : (branches : List NetBranch) → outflow_by (flow_by h n p) branches b ≡ sum_by (λ i. billionths (net_outflow (λ row. h row i) branches b) *ℚ p i) (places n)
   by_columns branches =
-      sum_by-same (taken_flow (flow_by h n p) b) (λ l. sum_by (λ i. micro (taken (λ row. h row i) b l) *ℚ p i) (places n)) branches one_branch
-      ∙ sum_by-exchange (λ l i. micro (taken (λ row. h row i) b l) *ℚ p i) branches (places n)
-      ∙ sum_by-same (λ i. sum_by (λ l. micro (taken (λ row. h row i) b l) *ℚ p i) branches) (λ i. micro (net_outflow (λ row. h row i) branches b) *ℚ p i) (places n)
-      (λ i. micro-sum (taken (λ row. h row i) b) (p i) branches)
+      sum_by-same (taken_flow (flow_by h n p) b) (λ l. sum_by (λ i. billionths (taken (λ row. h row i) b l) *ℚ p i) (places n)) branches one_branch
+      ∙ sum_by-exchange (λ l i. billionths (taken (λ row. h row i) b l) *ℚ p i) branches (places n)
+      ∙ sum_by-same (λ i. sum_by (λ l. billionths (taken (λ row. h row i) b l) *ℚ p i) branches) (λ i. billionths (net_outflow (λ row. h row i) branches b) *ℚ p i) (places n)
+      (λ i. billionths-sum (taken (λ row. h row i) b) (p i) branches)
 
 -- ---- what goes in
-at-place : (c : Bool) (x : Fraction) → micro (if c then pos factor_one else pos 0) *ℚ x ≡ (if c then x else whole (pos 0))
-at-place true x = ap (λ t. t *ℚ x) micro-one ∙ *ℚ_comm (whole (pos 1)) x ∙ *ℚ_one x
-at-place false x = ap (λ t. t *ℚ x) micro-none ∙ *ℚ_comm (whole (pos 0)) x ∙ times_nil ring_ℚ x
+at-place : (c : Bool) (x : Fraction) → billionths (if c then pos factor_one else pos 0) *ℚ x ≡ (if c then x else whole (pos 0))
+at-place true x = ap (λ t. t *ℚ x) billionths-one ∙ *ℚ_comm (whole (pos 1)) x ∙ *ℚ_one x
+at-place false x = ap (λ t. t *ℚ x) billionths-none ∙ *ℚ_comm (whole (pos 0)) x ∙ times_nil ring_ℚ x
 
 eq-not : (i b : ℕ) → i < b → (i == b) ≡ false
 eq-not i b h = ne_eqb i b (Prim.omega (arith, h))
@@ -125,56 +125,56 @@ eq-not i b h = ne_eqb i b (Prim.omega (arith, h))
 eq-same : (b : ℕ) → (b == b) ≡ true
 eq-same b = eq-eqb b b refl
 
-others-none : (p : ℕ → Fraction) (b n : ℕ) → n ≤ b → sum_by (λ i. micro (one_at i b) *ℚ p i) (places n) ≡ whole (pos 0)
+others-none : (p : ℕ → Fraction) (b n : ℕ) → n ≤ b → sum_by (λ i. billionths (one_at i b) *ℚ p i) (places n) ≡ whole (pos 0)
 others-none p b zero h = refl
 others-none p b (suc n) h =
-    more-places (λ i. micro (one_at i b) *ℚ p i) n
+    more-places (λ i. billionths (one_at i b) *ℚ p i) n
     ∙ ap₂ ◌+ℚ◌ (others-none p b n (Prim.omega (arith, h))) (at-place (n == b) (p n) ∙ ap (λ c. if c then p n else whole (pos 0)) (eq-not n b (Prim.omega (arith, h))))
     ∙ ring_ℚ.plus_nil (whole (pos 0))
 
-goes-in : (p : ℕ → Fraction) (b n : ℕ) → b < n → sum_by (λ i. micro (one_at i b) *ℚ p i) (places n) ≡ p b
+goes-in : (p : ℕ → Fraction) (b n : ℕ) → b < n → sum_by (λ i. billionths (one_at i b) *ℚ p i) (places n) ≡ p b
 goes-in p b zero h = absurd (Prim.omega (arith, h))
-goes-in p b (suc n) h = more-places (λ i. micro (one_at i b) *ℚ p i) n ∙ by (goes-in p b n) (eq-or-lt_of_le below)
+goes-in p b (suc n) h = more-places (λ i. billionths (one_at i b) *ℚ p i) n ∙ by (goes-in p b n) (eq-or-lt_of_le below)
   where
     below : b ≤ n
     below = Prim.omega (arith, h)
 
-    by : (b < n → sum_by (λ i. micro (one_at i b) *ℚ p i) (places n) ≡ p b) → (b ≡ n) ⊎ (b < n) → sum_by (λ i. micro (one_at i b) *ℚ p i) (places n) +ℚ (micro (one_at n b) *ℚ p n) ≡ p b
+    by : (b < n → sum_by (λ i. billionths (one_at i b) *ℚ p i) (places n) ≡ p b) → (b ≡ n) ⊎ (b < n) → sum_by (λ i. billionths (one_at i b) *ℚ p i) (places n) +ℚ (billionths (one_at n b) *ℚ p n) ≡ p b
     by before (inl e) = ap₂ ◌+ℚ◌ (others-none p b n (Prim.omega (arith, e))) (at-place (n == b) (p n) ∙ ap (λ c. if c then p n else whole (pos 0)) (ap (λ m. m == b) (sym e) ∙ eq-same b))
         ∙ nil_plus ring_ℚ (p n) ∙ ap p (sym e)
     by before (inr l) = ap₂ ◌+ℚ◌ (before l) (at-place (n == b) (p n) ∙ ap (λ c. if c then p n else whole (pos 0)) (ne_eqb n b (Prim.omega (arith, l))))
         ∙ ring_ℚ.plus_nil (p b)
 
 -- ---- sizes
-micro-≤ : (m n : ℤ) → m ≤ℤ n → micro m ≤ℚ micro n
-micro-≤ m n h =
-    ≤ℚ_trans (micro m) (micro (pos 1) *ℚ whole m) (micro n) (≤ℚ_of_same _ _ (micro-whole m ∙ *ℚ_comm (whole m) (micro (pos 1))))
-    (≤ℚ_trans (micro (pos 1) *ℚ whole m) (micro (pos 1) *ℚ whole n) (micro n) (*ℚ-≤ℚ (micro (pos 1)) (whole m) (whole n) one_above (whole-≤ℚ m n h))
-    (≤ℚ_of_same _ _ (*ℚ_comm (micro (pos 1)) (whole n) ∙ sym (micro-whole n))))
+billionths-≤ : (m n : ℤ) → m ≤ℤ n → billionths m ≤ℚ billionths n
+billionths-≤ m n h =
+    ≤ℚ_trans (billionths m) (billionths (pos 1) *ℚ whole m) (billionths n) (≤ℚ_of_same _ _ (billionths-whole m ∙ *ℚ_comm (whole m) (billionths (pos 1))))
+    (≤ℚ_trans (billionths (pos 1) *ℚ whole m) (billionths (pos 1) *ℚ whole n) (billionths n) (*ℚ-≤ℚ (billionths (pos 1)) (whole m) (whole n) one_above (whole-≤ℚ m n h))
+    (≤ℚ_of_same _ _ (*ℚ_comm (billionths (pos 1)) (whole n) ∙ sym (billionths-whole n))))
   where
-    one_above : NonNeg (micro (pos 1))
-    one_above = record { sign = zero≤-cancel (micro (pos 1)).num factor_one (Prim.omega arith) (subst (λ z. pos 0 ≤ℤ z) (sym (over_is (pos 1) factor_one (Prim.omega arith)).cross) (zero≤-times (pos 1) (micro (pos 1)).den (Prim.omega (arith, ints)))) }
+    one_above : NonNeg (billionths (pos 1))
+    one_above = record { sign = zero≤-cancel (billionths (pos 1)).num factor_one (Prim.omega arith) (subst (λ z. pos 0 ≤ℤ z) (sym (over_is (pos 1) factor_one (Prim.omega arith)).cross) (zero≤-times (pos 1) (billionths (pos 1)).den (Prim.omega (arith, ints)))) }
 
 below-size : (m : ℤ) (g : ℕ) → unsigned_abs m ≤ g → (m ≤ℤ pos g) × (neg_ℤ m ≤ℤ pos g)
 below-size (pos n) g h = (Prim.omega (arith, ints, h), Prim.omega (arith, ints, h))
 below-size (negsuc n) g h = (Prim.omega (arith, ints, h), Prim.omega (arith, ints, h))
 
 -- a product with a number of millionths of at most this size
-product-≤ : (m : ℤ) (g : ℕ) (x : Fraction) → unsigned_abs m ≤ g → (micro m *ℚ x) ≤ℚ (micro (pos g) *ℚ abs_ℚ x)
+product-≤ : (m : ℤ) (g : ℕ) (x : Fraction) → unsigned_abs m ≤ g → (billionths m *ℚ x) ≤ℚ (billionths (pos g) *ℚ abs_ℚ x)
 product-≤ m g x h = by (NonNeg_or x)
   where
-    by : NonNeg x ⊎ NonNeg (neg_ℚ x) → (micro m *ℚ x) ≤ℚ (micro (pos g) *ℚ abs_ℚ x)
+    by : NonNeg x ⊎ NonNeg (neg_ℚ x) → (billionths m *ℚ x) ≤ℚ (billionths (pos g) *ℚ abs_ℚ x)
     by (inl above) =
         let size : abs_ℚ x ≡ x = abs_above x (by_rest (x ∷ []) pnil (at 0) (at 0) above refl) in
-        ≤ℚ_trans _ _ _ (≤ℚ_of_same _ _ (*ℚ_comm (micro m) x))
-        (≤ℚ_trans _ _ _ (*ℚ-≤ℚ x (micro m) (micro (pos g)) above (micro-≤ m (pos g) (below-size m g h).0)) (≤ℚ_of_same _ _ (*ℚ_comm x (micro (pos g)) ∙ ap (λ t. micro (pos g) *ℚ t) (sym size))))
+        ≤ℚ_trans _ _ _ (≤ℚ_of_same _ _ (*ℚ_comm (billionths m) x))
+        (≤ℚ_trans _ _ _ (*ℚ-≤ℚ x (billionths m) (billionths (pos g)) above (billionths-≤ m (pos g) (below-size m g h).0)) (≤ℚ_of_same _ _ (*ℚ_comm x (billionths (pos g)) ∙ ap (λ t. billionths (pos g) *ℚ t) (sym size))))
     by (inr below) =
         let size : abs_ℚ x ≡ neg_ℚ x = abs_below x (by_rest (x ∷ []) (at 0) pnil (pneg (at 0)) below refl) in
-        let turned : micro m *ℚ x ≡ neg_ℚ x *ℚ micro (neg_ℤ m) =
-        by_ring ring_ℚ (micro m ∷ x ∷ []) (pmul (at 0) (at 1)) (pmul (pneg (at 1)) (pneg (at 0))) refl ∙ ap (λ t. neg_ℚ x *ℚ t) (sym (micro-neg m)) in
+        let turned : billionths m *ℚ x ≡ neg_ℚ x *ℚ billionths (neg_ℤ m) =
+        by_ring ring_ℚ (billionths m ∷ x ∷ []) (pmul (at 0) (at 1)) (pmul (pneg (at 1)) (pneg (at 0))) refl ∙ ap (λ t. neg_ℚ x *ℚ t) (sym (billionths-neg m)) in
         ≤ℚ_trans _ _ _ (≤ℚ_of_same _ _ turned)
-        (≤ℚ_trans _ _ _ (*ℚ-≤ℚ (neg_ℚ x) (micro (neg_ℤ m)) (micro (pos g)) below (micro-≤ (neg_ℤ m) (pos g) (below-size m g h).1))
-        (≤ℚ_of_same _ _ (*ℚ_comm (neg_ℚ x) (micro (pos g)) ∙ ap (λ t. micro (pos g) *ℚ t) (sym size))))
+        (≤ℚ_trans _ _ _ (*ℚ-≤ℚ (neg_ℚ x) (billionths (neg_ℤ m)) (billionths (pos g)) below (billionths-≤ (neg_ℤ m) (pos g) (below-size m g h).1))
+        (≤ℚ_of_same _ _ (*ℚ_comm (neg_ℚ x) (billionths (pos g)) ∙ ap (λ t. billionths (pos g) *ℚ t) (sym size))))
 
 sum-≤ : (f g : ℕ → Fraction) (n : ℕ) → ((i : ℕ) → i < n → f i ≤ℚ g i) → sum_by f (places n) ≤ℚ sum_by g (places n)
 sum-≤ f g zero h = ≤ℚ_refl (whole (pos 0))
@@ -199,43 +199,43 @@ module _ (h : ℕ → ℕ → ℤ) (branches : List NetBranch) (n reference : �
   net : ℕ → ℤ
   net i = net_outflow (λ row. h row i) branches b
 
-  one_column : (i : ℕ) → micro (net i) *ℚ p i ≡ ((micro (missing i) *ℚ p i) +ℚ (micro (one_at i b) *ℚ p i)) -ℚ (micro (one_at reference b) *ℚ p i)
+  one_column : (i : ℕ) → billionths (net i) *ℚ p i ≡ ((billionths (missing i) *ℚ p i) +ℚ (billionths (one_at i b) *ℚ p i)) -ℚ (billionths (one_at reference b) *ℚ p i)
   unfolding net missing
   one_column i =
-      ap (λ t. micro t *ℚ p i) (net-is (net i) (one_at i b) (one_at reference b) (missing i) refl)
-      ∙ ap (λ t. t *ℚ p i) (micro-minus (missing i +ℤ one_at i b) (one_at reference b) ∙ ap (λ t. t -ℚ micro (one_at reference b)) (micro-plus (missing i) (one_at i b)))
-      ∙ by_ring ring_ℚ (micro (missing i) ∷ micro (one_at i b) ∷ micro (one_at reference b) ∷ p i ∷ [])
+      ap (λ t. billionths t *ℚ p i) (net-is (net i) (one_at i b) (one_at reference b) (missing i) refl)
+      ∙ ap (λ t. t *ℚ p i) (billionths-minus (missing i +ℤ one_at i b) (one_at reference b) ∙ ap (λ t. t -ℚ billionths (one_at reference b)) (billionths-plus (missing i) (one_at i b)))
+      ∙ by_ring ring_ℚ (billionths (missing i) ∷ billionths (one_at i b) ∷ billionths (one_at reference b) ∷ p i ∷ [])
       (pmul (padd (padd (at 0) (at 1)) (pneg (at 2))) (at 3)) (padd (padd (pmul (at 0) (at 3)) (pmul (at 1) (at 3))) (pneg (pmul (at 2) (at 3)))) refl
 
-  difference : sum_by p (places n) ≡ whole (pos 0) → b < n → outflow_by (flow_by h n p) branches b -ℚ p b ≡ sum_by (λ i. micro (missing i) *ℚ p i) (places n)
+  difference : sum_by p (places n) ≡ whole (pos 0) → b < n → outflow_by (flow_by h n p) branches b -ℚ p b ≡ sum_by (λ i. billionths (missing i) *ℚ p i) (places n)
   unfolding net
   difference balanced within =
       let all = places n in
-      let r = sum_by (λ i. micro (missing i) *ℚ p i) all in
-      let s = sum_by (λ i. micro (one_at i b) *ℚ p i) all in
-      let k = micro (one_at reference b) in
+      let r = sum_by (λ i. billionths (missing i) *ℚ p i) all in
+      let s = sum_by (λ i. billionths (one_at i b) *ℚ p i) all in
+      let k = billionths (one_at reference b) in
       let out : outflow_by (flow_by h n p) branches b ≡ (r +ℚ s) -ℚ (k *ℚ sum_by p all) =
       by_columns h n p b branches
-      ∙ sum_by-same (λ i. micro (net i) *ℚ p i) (λ i. ((micro (missing i) *ℚ p i) +ℚ (micro (one_at i b) *ℚ p i)) -ℚ (k *ℚ p i)) all one_column
-      ∙ sum_by-minus (λ i. (micro (missing i) *ℚ p i) +ℚ (micro (one_at i b) *ℚ p i)) (λ i. k *ℚ p i) all
-      ∙ ap₂ ◌-ℚ◌ (sum_by-plus (λ i. micro (missing i) *ℚ p i) (λ i. micro (one_at i b) *ℚ p i) all) (sum_by-times k p all) in
+      ∙ sum_by-same (λ i. billionths (net i) *ℚ p i) (λ i. ((billionths (missing i) *ℚ p i) +ℚ (billionths (one_at i b) *ℚ p i)) -ℚ (k *ℚ p i)) all one_column
+      ∙ sum_by-minus (λ i. (billionths (missing i) *ℚ p i) +ℚ (billionths (one_at i b) *ℚ p i)) (λ i. k *ℚ p i) all
+      ∙ ap₂ ◌-ℚ◌ (sum_by-plus (λ i. billionths (missing i) *ℚ p i) (λ i. billionths (one_at i b) *ℚ p i) all) (sum_by-times k p all) in
       ap (λ t. t -ℚ p b) (out ∙ ap₂ (λ x y. (r +ℚ x) -ℚ (k *ℚ y)) (goes-in p b n within) balanced ∙ ap (λ t. (r +ℚ p b) -ℚ t) (times_nil ring_ℚ k))
       ∙ by_ring ring_ℚ (r ∷ p b ∷ []) (padd (padd (padd (at 0) (at 1)) (pneg pnil)) (pneg (at 1))) (at 0) refl
 
 core_law : (h : ℕ → ℕ → ℤ) (branches : List NetBranch) (n reference : ℕ) (p : ℕ → Fraction) (g : ℕ) → sum_by p (places n) ≡ whole (pos 0)
     → ((i b : ℕ) → i < n → b < n → unsigned_abs (miss (λ row. h row i) branches i reference b) ≤ g)
-    → (b : ℕ) → b < n → abs_ℚ (outflow_by (flow_by h n p) branches b -ℚ p b) ≤ℚ (micro (pos g) *ℚ sum_by (λ i. abs_ℚ (p i)) (places n))
+    → (b : ℕ) → b < n → abs_ℚ (outflow_by (flow_by h n p) branches b -ℚ p b) ≤ℚ (billionths (pos g) *ℚ sum_by (λ i. abs_ℚ (p i)) (places n))
 unfolding missing
 core_law h branches n reference p most_size balanced most b within =
-    let f : ℕ → Fraction = λ i. micro (missing h branches n reference p b i) *ℚ p i in
-    let g : ℕ → Fraction = λ i. micro (pos most_size) *ℚ abs_ℚ (p i) in
+    let f : ℕ → Fraction = λ i. billionths (missing h branches n reference p b i) *ℚ p i in
+    let g : ℕ → Fraction = λ i. billionths (pos most_size) *ℚ abs_ℚ (p i) in
     let is = difference h branches n reference p b balanced within in
     let high : sum_by f (places n) ≤ℚ sum_by g (places n) = sum-≤ f g n (λ i l. product-≤ (missing h branches n reference p b i) most_size (p i) (most i b l within)) in
     let low : neg_ℚ (sum_by f (places n)) ≤ℚ sum_by g (places n) =
     ≤ℚ_trans _ _ _ (≤ℚ_of_same _ _ (sum-neg f (places n))) (sum-≤ (λ i. neg_ℚ (f i)) g n (λ i l.
-    ≤ℚ_trans _ _ _ (≤ℚ_of_same _ _ (by_ring ring_ℚ (micro (missing h branches n reference p b i) ∷ p i ∷ []) (pneg (pmul (at 0) (at 1))) (pmul (pneg (at 0)) (at 1)) refl ∙ ap (λ t. t *ℚ p i) (sym (micro-neg (missing h branches n reference p b i)))))
+    ≤ℚ_trans _ _ _ (≤ℚ_of_same _ _ (by_ring ring_ℚ (billionths (missing h branches n reference p b i) ∷ p i ∷ []) (pneg (pmul (at 0) (at 1))) (pmul (pneg (at 0)) (at 1)) refl ∙ ap (λ t. t *ℚ p i) (sym (billionths-neg (missing h branches n reference p b i)))))
     (product-≤ (neg_ℤ (missing h branches n reference p b i)) most_size (p i) (subst (λ k. k ≤ most_size) (sym (unsigned_abs-neg (missing h branches n reference p b i))) (most i b l within))))) in
-    let whole_sum = sum_by-times (micro (pos most_size)) (λ i. abs_ℚ (p i)) (places n) in
+    let whole_sum = sum_by-times (billionths (pos most_size)) (λ i. abs_ℚ (p i)) (places n) in
     ≤ℚ_trans _ _ _ (≤ℚ_of_same _ _ (ap abs_ℚ is)) (≤ℚ_trans _ _ _ (size-≤ _ _ high low) (≤ℚ_of_same _ _ whole_sum))
 
 -- ---- the residuals of a table
@@ -279,7 +279,7 @@ in-flat_map f (z ∷ xs) x y (suc k, lt, is) h = Contains-append_right (f z) (fl
 
 pub law_of_injections : LawOfInjections
 law_of_injections network shift residual p is balanced b within =
-    core_law (λ row i. factor_at shift (row, bus_number network i)) network.branches (length network.buses) network.reference p (greatest residual) balanced
+    core_law (λ row i. factor_at shift.entries (row, bus_number network i)) network.branches (length network.buses) network.reference p (greatest residual) balanced
     (λ i bus li lb. All-contains (λ (t : Spot). unsigned_abs t.value ≤ greatest residual) (flat_map (bus_spots network) (shift_columns network shift)) (bus_spot network (shift_column network shift i) bus)
     (all_below (flat_map (bus_spots network) (shift_columns network shift)) residual is)
     (in-flat_map (bus_spots network) (shift_columns network shift) (shift_column network shift i) (bus_spot network (shift_column network shift i) bus)

@@ -1,23 +1,24 @@
 -- The columns of a table of factors, as they are read.
 use Rattle.std.specs.Prelude.{◌≡◌, ℕ, ◌*◌, ◌^◌, ◌<◌, ◌≤◌, ℤ, pos, ◌+ℤ◌, unsigned_abs, List, length, get_or}
-use Rattle.market_data.specs.Scales.{most_factor, most_scaled_reactance}
+use Rattle.market_data.specs.Scales.{most_factor, most_scaled_reactance, place_step}
 use Rattle.net_case.specs.Networks.{LiveNetwork}
 use Rattle.net_case.specs.declared.live_parts.NetBranch.{NetBranch}
 use Rattle.net_paths.specs.Loops.{kept}
-use Rattle.factor_tables.specs.Factors.{Entry, factor_at}
+use Rattle.factor_tables.specs.Factors.{FactorRecords, factor_at}
 use Rattle.factor_residuals.specs.Kirchhoff.{Column, Flows, net_outflow, branches_at}
 use Rattle.factor_residuals.specs.declared.columns.Flow.{Flow}
 use Rattle.factor_residuals.specs.declared.loop_sums.LoopSum.{LoopSum}
 use Rattle.factor_residuals.specs.declared.node_sums.Node.{Node}
 
 -- the flow over a branch by its row
-abbrev pub flows_of : List Entry → ℕ → Flows
-flows_of factors name = λ row. factor_at factors (row, name)
+abbrev pub flows_of : FactorRecords → ℕ → Flows
+flows_of factors name = λ row. factor_at factors.entries (row, name)
 
-abbrev pub column_of : LiveNetwork → List Entry → Flow → Column
+abbrev pub column_of : LiveNetwork → FactorRecords → Flow → Column
 column_of network factors flow = record {
   name = flow.name;
   flow = flows_of factors flow.name;
+  step = place_step factors.places;
   branches = kept flow.lost network.branches;
   source = flow.source;
   sink = flow.sink;
@@ -48,5 +49,5 @@ with_drop loop_sum drop reactance = record { miss = loop_sum.miss +ℤ drop; siz
 
 -- what at most k branches come to
 pub record IsLoopSum (k : ℕ) (loop_sum : LoopSum) : Type 0 where
-  pub miss : unsigned_abs loop_sum.miss ≤ 10 ^ 31 * k
+  pub miss : unsigned_abs loop_sum.miss ≤ 10 ^ 34 * k
   pub sizes : unsigned_abs loop_sum.sizes ≤ most_scaled_reactance * k

@@ -13,11 +13,12 @@ use Rattle.factor_residuals.specs.declared.spots.Spot.{Spot}
 abbrev pub Flows : Type 0
 Flows = ℕ → ℤ
 
--- The flows, in 10^-6, of one MW that goes in at the bus of one place and out at that of another, over some branches. They are named by
--- the number of the bus where it goes in, or by the row of the branch that was lost.
+-- The flows, in 10^-9, of one MW that goes in at the bus of one place and out at that of another, over some branches. They are named by
+-- the number of the bus where it goes in, or by the row of the branch that was lost. Each is rounded to a whole number of steps.
 pub record Column : Type 0 where
   pub name : ℕ
   pub flow : Flows
+  pub step : ℕ
   pub branches : List NetBranch
   pub source : ℕ
   pub sink : ℕ
@@ -35,7 +36,7 @@ net_outflow flow branches b = int_sum (taken flow b) branches
 abbrev pub branches_at : List NetBranch → ℕ → ℕ
 branches_at branches b = count_by (λ l. l.from == b || l.to == b) branches
 
--- one MW at a place, in 10^-6
+-- one MW at a place, in 10^-9
 abbrev pub one_at : ℕ → ℕ → ℤ
 one_at place b = if place == b then pos factor_one else pos 0
 
@@ -43,9 +44,9 @@ one_at place b = if place == b then pos factor_one else pos 0
 abbrev pub bus_miss : Column → ℕ → ℤ
 bus_miss c b = net_outflow c.flow c.branches b -ℤ one_at c.source b +ℤ one_at c.sink b
 
--- Half a unit for each branch at the bus, in 10^-7.
+-- Rounding explains half a step for each branch at the bus. The bound is in 10^-10.
 abbrev pub bus_spot : LiveNetwork → Column → ℕ → Spot
-bus_spot network c b = record { value = bus_miss c b; bound = pos (5 * branches_at c.branches b); at = bus_number network b; of = c.name }
+bus_spot network c b = record { value = bus_miss c b; bound = pos (5 * c.step * branches_at c.branches b); at = bus_number network b; of = c.name }
 
 -- ---- round a loop
 abbrev pub value_at : List ℤ → Option ℕ → ℤ
@@ -59,7 +60,7 @@ reactance_at network xs row = value_at xs (branch_place network (pos row))
 abbrev pub directed : Bool → ℤ → ℤ
 directed forward x = if forward then x else neg_ℤ x
 
--- the sum round a loop of reactance times ratio times flow, against it where a branch is passed from T_BUS to F_BUS, in 10^-24
+-- the sum round a loop of reactance times ratio times flow, against it where a branch is passed from T_BUS to F_BUS, in 10^-27
 abbrev pub loop_miss : Flows → Flows → List Member → ℤ
 loop_miss x flow members = int_sum (λ m. directed m.forward (x m.branch *ℤ flow m.branch)) members
 
@@ -67,11 +68,12 @@ abbrev pub first_branch : List Member → ℕ
 first_branch [] = 0
 first_branch (m ∷ members) = m.branch
 
--- Half a unit of the factor for each branch, by the size of its reactance times ratio, in 10^-25. A loop is named by its first branch.
+-- Rounding explains half a step for each branch, by the size of its reactance times ratio. The bound is in 10^-28. A loop is named by
+-- its first branch.
 abbrev pub loop_spot : Flows → Column → List Member → Spot
 loop_spot x c members = record {
   value = loop_miss x c.flow members;
-  bound = pos (5 * sum_by (λ m. unsigned_abs (x m.branch)) members);
+  bound = pos (5 * c.step * sum_by (λ m. unsigned_abs (x m.branch)) members);
   at = first_branch members;
   of = c.name;
 }

@@ -2,13 +2,13 @@
 use Rattle.std.specs.Prelude.{◌≡◌, ℕ, zero, suc, ◌*◌, ◌<◌, ◌≤◌, ℤ, pos, unsigned_abs, Bool, List, [], ◌∷◌, ◌++◌, length, map, All, Contains, Some, MatchOption}
 use Rattle.std.specs.Int.Signed.{lt_z}
 use Rattle.std.specs.List.{find, flat_map, AllZip}
-use Rattle.market_data.specs.Scales.{most_scaled_reactance}
+use Rattle.market_data.specs.Scales.{most_scaled_reactance, place_step}
 use Rattle.net_case.specs.Networks.{LiveNetwork}
 use Rattle.net_case.specs.declared.live_parts.NetBranch.{NetBranch}
 use Rattle.net_paths.specs.Connection.{bus_number}
 use Rattle.net_paths.specs.Loops.{kept, AreLoops}
 use Rattle.net_paths.specs.declared.loops_of_tree.Member.{Member}
-use Rattle.factor_tables.specs.Factors.{Entry, factor_at}
+use Rattle.factor_tables.specs.Factors.{FactorRecords, factor_at}
 use Rattle.factor_residuals.specs.Kirchhoff.{Column, bus_spot, loop_spot, reactance_at}
 use Rattle.factor_residuals.specs.declared.spots.Spot.{Spot}
 use Rattle.factor_residuals.specs.declared.spots.Residual.{Residual}
@@ -37,20 +37,22 @@ places zero = []
 places (suc n) = places n ++ n ∷ []
 
 -- one MW from the bus at a place to the reference, by a table's shift factors
-abbrev pub shift_column : LiveNetwork → List Entry → ℕ → Column
+abbrev pub shift_column : LiveNetwork → FactorRecords → ℕ → Column
 shift_column network shift i = record {
   name = bus_number network i;
-  flow = λ row. factor_at shift (row, bus_number network i);
+  flow = λ row. factor_at shift.entries (row, bus_number network i);
+  step = place_step shift.places;
   branches = network.branches;
   source = i;
   sink = network.reference;
 }
 
 -- one MW from F_BUS to T_BUS of the branch that was lost, over the others, by a table's outage factors
-abbrev pub outage_column : LiveNetwork → List Entry → NetBranch → Column
+abbrev pub outage_column : LiveNetwork → FactorRecords → NetBranch → Column
 outage_column network loss k = record {
   name = k.row;
-  flow = λ row. factor_at loss (row, k.row);
+  flow = λ row. factor_at loss.entries (row, k.row);
+  step = place_step loss.places;
   branches = kept (Some k.row) network.branches;
   source = k.from;
   sink = k.to;
@@ -63,15 +65,15 @@ bus_spots network c = map (bus_spot network c) (places (length network.buses))
 abbrev pub loop_spots : LiveNetwork → List ℤ → List (List Member) → Column → List Spot
 loop_spots network xs loops c = map (loop_spot (reactance_at network xs) c) loops
 
-abbrev pub shift_columns : LiveNetwork → List Entry → List Column
+abbrev pub shift_columns : LiveNetwork → FactorRecords → List Column
 shift_columns network shift = map (shift_column network shift) (places (length network.buses))
 
 -- at the buses, of shift factors
-abbrev pub IsBusResidual : LiveNetwork → List Entry → Residual → Type 0
+abbrev pub IsBusResidual : LiveNetwork → FactorRecords → Residual → Type 0
 IsBusResidual network shift residual = IsResidual (flat_map (bus_spots network) (shift_columns network shift)) residual
 
 -- round the loops, of shift factors
-pub record IsLoopResidual (network : LiveNetwork) (xs : List ℤ) (shift : List Entry) (residual : Residual) : Type 0 where
+pub record IsLoopResidual (network : LiveNetwork) (xs : List ℤ) (shift : FactorRecords) (residual : Residual) : Type 0 where
   pub loops : List (List Member)
   pub are : AreLoops network.branches loops
   pub is : IsResidual (flat_map (loop_spots network xs loops) (shift_columns network shift)) residual
@@ -81,20 +83,20 @@ abbrev pub AreLost : LiveNetwork → List ℕ → List NetBranch → Type 0
 AreLost network outages lost = AllZip (λ row branch. Contains network.branches branch × (branch.row ≡ row)) outages lost
 
 -- at the buses, of outage factors
-pub record IsOutageBusResidual (network : LiveNetwork) (loss : List Entry) (outages : List ℕ) (residual : Residual) : Type 0 where
+pub record IsOutageBusResidual (network : LiveNetwork) (loss : FactorRecords) (outages : List ℕ) (residual : Residual) : Type 0 where
   pub lost : List NetBranch
   pub are : AreLost network outages lost
   pub is : IsResidual (flat_map (λ k. bus_spots network (outage_column network loss k)) lost) residual
 
 -- the spots round the loops that are left without each lost branch
-pub data AreOutageLoopSpots (network : LiveNetwork) (xs : List ℤ) (loss : List Entry) : List NetBranch → List Spot → Type 0 where
+pub data AreOutageLoopSpots (network : LiveNetwork) (xs : List ℤ) (loss : FactorRecords) : List NetBranch → List Spot → Type 0 where
   none : AreOutageLoopSpots network xs loss [] []
   more : (lost : List NetBranch) (spots : List Spot) (k : NetBranch) (loops : List (List Member)) → AreOutageLoopSpots network xs loss lost spots
       → AreLoops (kept (Some k.row) network.branches) loops
       → AreOutageLoopSpots network xs loss (lost ++ k ∷ []) (spots ++ loop_spots network xs loops (outage_column network loss k))
 
 -- round the loops, of outage factors
-pub record IsOutageLoopResidual (network : LiveNetwork) (xs : List ℤ) (loss : List Entry) (outages : List ℕ) (residual : Residual) : Type 0 where
+pub record IsOutageLoopResidual (network : LiveNetwork) (xs : List ℤ) (loss : FactorRecords) (outages : List ℕ) (residual : Residual) : Type 0 where
   pub lost : List NetBranch
   pub are : AreLost network outages lost
   pub spots : List Spot

@@ -6,7 +6,7 @@ ghost use Rattle.factor_residuals.specs.Kirchhoff.{loop_spot, reactance_at, dire
 ghost use Rattle.factor_residuals.specs.Columns.{IsLoopSum, with_drop, column_of};
 ghost use Rattle.factor_residuals.specs.Residuals.{AreReactances, IsResidual, loop_spots};
 
-use crate::columns::Flow;
+use crate::columns::{Flow, rounding};
 use crate::spots::{Residual, Spot};
 use factor_tables::{FactorTable, TableKind};
 use net_case::{Network, Reactances};
@@ -35,7 +35,7 @@ struct LoopSum {
 fn drop_over(reactance: i128, flow: i64, forward: bool) -> i128
     requires reactance { unsigned_abs reactance ≤ most_scaled_reactance }
     requires flow { unsigned_abs flow ≤ most_factor }
-    ensures size { unsigned_abs result ≤ 10 ^ 31 }
+    ensures size { unsigned_abs result ≤ 10 ^ 34 }
     ensures is { result ≡ directed forward (reactance *ℤ flow) }
 {
     let drop = reactance * i128::from(flow);
@@ -76,8 +76,7 @@ fn loop_spot<K: TableKind>(
 ) -> Spot
     requires reactances { AreReactances network.now reactances.now }
     requires few { length members.now ≤ most_buses }
-    ensures size { unsigned_abs result.value < 10 ^ 37 }
-    ensures is { result ≡ loop_spot (reactance_at network.now reactances.now) (column_of network.now factors.now column.now) members.now }
+    ensures { result ≡ loop_spot (reactance_at network.now reactances.now) (column_of network.now factors.now column.now) members.now }
 {
     let mut loop_sum = LoopSum { miss: 0, sizes: 0 };
     for member in members {
@@ -87,7 +86,7 @@ fn loop_spot<K: TableKind>(
     }
     Spot {
         value: loop_sum.miss,
-        bound: 5 * loop_sum.sizes,
+        bound: rounding(factors.places(), loop_sum.sizes),
         at: first_branch(members),
         of: column.name,
     }

@@ -1,25 +1,25 @@
 //! What leaves each bus.
 
 ghost use Rattle.std.specs.Prelude.{◌≡◌, ◌++◌, ◌∷◌, [], ◌≤◌, ◌<◌, ◌+◌, ◌*◌, ◌^◌, ◌+ℤ◌, ◌-ℤ◌, ℕ, pos, List, length, unsigned_abs, get_or, slice_set, IfOk};
-ghost use Rattle.market_data.specs.Scales.{factor_one, most_factor, most_lines};
+ghost use Rattle.market_data.specs.Scales.{factor_one, most_factor, most_lines, place_step};
 ghost use Rattle.net_case.specs.Networks.{IsNetBranch};
 ghost use Rattle.net_case.specs.declared.live_parts.NetBranch.{NetBranch};
 ghost use Rattle.net_paths.specs.Loops.{kept};
-ghost use Rattle.factor_tables.specs.Factors.{Entry};
+ghost use Rattle.factor_tables.specs.Factors.{FactorRecords};
 ghost use Rattle.factor_residuals.specs.Kirchhoff.{Flows, bus_spot, one_at};
 ghost use Rattle.factor_residuals.specs.Columns.{HoldNodes, IsWithin, left_by, node_at, column_of, flows_of};
 ghost use Rattle.factor_residuals.specs.Residuals.{IsResidual, bus_spots};
 
-use crate::columns::Flow;
+use crate::columns::{Flow, rounding};
 use crate::spots::{Residual, Spot};
 use factor_tables::{FactorTable, TableKind};
-use market_data::FACTOR_ONE;
+use market_data::{FACTOR_ONE, FactorPlaces};
 use net_case::{NetBranch, Network};
 use net_paths::{bus_number, is_lost};
 use plain_list::Memory;
 use std::alloc::Global;
 
-/// What leaves a bus less what enters it, in 10^-6, and how many branches stand there.
+/// What leaves a bus less what enters it, in 10^-9, and how many branches stand there.
 #[derive(Clone, Copy, Debug)]
 pub(crate) struct Node {
     pub outflow: i64,
@@ -88,7 +88,7 @@ fn nodes_of<K: TableKind>(
     Ok(nodes)
 }
 
-/// One MW at a place, in 10^-6.
+/// One MW at a place, in 10^-9.
 fn one_at(place: usize, bus: usize) -> i64
     ensures size { unsigned_abs result ≤ factor_one }
     ensures is { result ≡ one_at place bus }
@@ -107,25 +107,24 @@ fn missing_at(node: Node, goes_in: i64, goes_out: i64) -> i128
     i128::from(node.outflow - goes_in + goes_out)
 }
 
-/// Half a unit for each branch at a bus, in a tenth of the unit.
-fn bound_at(node: Node) -> i128
+/// What rounding explains at a bus: half a unit of the last place for each branch there.
+fn bound_at(node: Node, places: FactorPlaces) -> i128
     requires { IsWithin most_lines node }
-    ensures { (count : ℕ) → node.branches ≡ pos count → result ≡ pos (5 * count) }
+    ensures { (count : ℕ) → node.branches ≡ pos count → result ≡ pos (5 * place_step places * count) }
 {
-    i128::from(5 * node.branches)
+    rounding(places, i128::from(node.branches))
 }
 
 /// The residual of a column at a bus.
-fn bus_spot(network: &Network, node: Node, column: &Flow, bus: usize) -> Spot
+fn bus_spot(network: &Network, node: Node, column: &Flow, bus: usize, places: FactorPlaces) -> Spot
     requires bus { bus < length network.now.buses }
     requires within { IsWithin most_lines node }
-    ensures size { unsigned_abs result.value < 10 ^ 37 }
-    ensures is { (factors : List Entry) → node ≡ node_at (flows_of factors column.now.name) (kept column.now.lost network.now.branches) bus
+    ensures { (factors : FactorRecords) → places ≡ factors.places → node ≡ node_at (flows_of factors column.now.name) (kept column.now.lost network.now.branches) bus
         → result ≡ bus_spot network.now (column_of network.now factors column.now) bus }
 {
     Spot {
         value: missing_at(node, one_at(column.source, bus), one_at(column.sink, bus)),
-        bound: bound_at(node),
+        bound: bound_at(node, places),
         at: bus_number(network, bus),
         of: column.name,
     }
@@ -143,9 +142,10 @@ pub(crate) fn note_buses<K: TableKind>(
         → IfOk result (IsResidual (spots ++ bus_spots network.now (column_of network.now factors.now column.now))) }
 {
     let nodes = nodes_of(alloc, network, factors, column)?;
+    let places = factors.places();
     let mut residual = residual;
     for bus in 0..network.buses().len() {
-        residual = residual.with(bus_spot(network, nodes[bus], column, bus));
+        residual = residual.with(bus_spot(network, nodes[bus], column, bus, places));
     }
     Ok(residual)
 }

@@ -5,7 +5,7 @@ ghost use Rattle.market_data.specs.Scales.{most_buses};
 ghost use Rattle.net_case.specs.declared.live_parts.NetBranch.{NetBranch};
 ghost use Rattle.net_paths.specs.Loops.{AreLoops, kept};
 ghost use Rattle.net_paths.specs.Detours.{IsLiveRow, IsBranchOf};
-ghost use Rattle.factor_tables.specs.Factors.{Entry};
+ghost use Rattle.factor_tables.specs.Factors.{FactorRecords};
 ghost use Rattle.factor_residuals.specs.Columns.{column_of};
 ghost use Rattle.factor_residuals.specs.Residuals.{AreReactances, IsBusResidual, IsLoopResidual, IsOutageBusResidual, IsOutageLoopResidual, shift_column, outage_column};
 
@@ -23,7 +23,7 @@ use std::alloc::Global;
 /// One MW from the bus at a place to the reference.
 fn shift_flow(network: &Network, place: usize) -> Flow
     requires { place < length network.now.buses }
-    ensures { (shift : List Entry) → column_of network.now shift result ≡ shift_column network.now shift place }
+    ensures { (shift : FactorRecords) → column_of network.now shift result ≡ shift_column network.now shift place }
 {
     Flow {
         name: network.buses().at(place).number,
@@ -36,7 +36,7 @@ fn shift_flow(network: &Network, place: usize) -> Flow
 /// One MW from F_BUS to T_BUS of the live branch of a row, over the others.
 fn outage_flow(network: &Network, row: u32) -> Flow
     requires { IsLiveRow network.now row }
-    ensures { (loss : List Entry) → (branch : NetBranch) × IsBranchOf network.now row branch
+    ensures { (loss : FactorRecords) → (branch : NetBranch) × IsBranchOf network.now row branch
         × (column_of network.now loss result ≡ outage_column network.now loss branch) }
 {
     let branch = branch_of(network, row);

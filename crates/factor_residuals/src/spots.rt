@@ -1,13 +1,13 @@
 //! Residuals at their places.
 
-ghost use Rattle.std.specs.Prelude.{◌≡◌, ◌++◌, ◌∷◌, [], ◌<◌, ◌^◌, List, unsigned_abs, nat_lt, MatchOption};
+ghost use Rattle.std.specs.Prelude.{◌≡◌, ◌++◌, ◌∷◌, [], List, unsigned_abs, nat_lt, MatchOption};
 ghost use Rattle.std.specs.List.{find};
 ghost use Rattle.factor_residuals.specs.Residuals.{exceeds, IsMost, IsResidual};
 
 /// A residual at its place.
 #[derive(Clone, Copy, Debug, PartialEq, Eq)]
 pub struct Spot {
-    /// In 10^-6 at a bus, in 10^-24 round a loop.
+    /// In 10^-9 at a bus, in 10^-27 round a loop.
     pub value: i128,
     /// What the rounding of factors explains, in a tenth of the value's unit.
     pub bound: i128,
@@ -26,12 +26,12 @@ pub struct Residual {
     pub over: Option<Spot>,
 }
 
-/// Whether a residual's size exceeds its bound.
+/// Whether a residual's size exceeds its bound: ten times the size is above it. The bound is divided, and the size is not multiplied, so
+/// that no size is too great.
 pub(crate) fn exceeds(spot: &Spot) -> bool
-    requires { unsigned_abs spot.now.value < 10 ^ 37 }
     ensures { result ≡ exceeds spot.now }
 {
-    spot.bound < spot.value.abs() * 10
+    spot.bound < 0 || spot.bound.unsigned_abs() / 10 < spot.value.unsigned_abs()
 }
 
 /// Whether the size of a residual is above that of another.
@@ -54,7 +54,6 @@ impl Residual {
 
     /// With one spot more behind those before it.
     pub(crate) fn with(self, spot: Spot) -> Residual
-        requires { unsigned_abs spot.value < 10 ^ 37 }
         ensures { (spots : List Spot) → IsResidual spots self → IsResidual (spots ++ spot ∷ []) result }
     {
         Residual {
@@ -76,7 +75,6 @@ fn most_with(most: Option<Spot>, spot: Spot) -> Spot
 
 /// The first beyond its bound, with one spot more behind those before it.
 fn over_with(over: Option<Spot>, spot: Spot) -> Option<Spot>
-    requires { unsigned_abs spot.value < 10 ^ 37 }
     ensures { (spots : List Spot) → over ≡ find exceeds spots → result ≡ find exceeds (spots ++ spot ∷ []) }
 {
     match over {

@@ -3,6 +3,7 @@ use Rattle.std.specs.Prelude.{◌≡◌, ◌≢◌, ℕ, ◌≤◌, ◌==◌, �
 use Rattle.std.specs.List.{list_any}
 use Rattle.std.specs.Map.{lookup}
 use Rattle.market_data.specs.Scales.{most_factor}
+use Rattle.market_data.specs.declared.scales.FactorPlaces.{FactorPlaces}
 use Rattle.factor_tables.specs.declared.by_pair.Column.{Column}
 use Rattle.factor_tables.specs.declared.by_pair.Column.TheVariants as column
 use Rattle.factor_tables.specs.declared.by_pair.Pairs.{Pairs}
@@ -14,6 +15,11 @@ Pair = ℕ × ℕ
 -- a record: its pair, and the factor
 abbrev pub Entry : Type 0
 Entry = Pair × ℤ
+
+-- a table: how many places its factors may have, and its records with their factors in 10^-9
+pub record FactorRecords : Type 0 where
+  pub places : FactorPlaces
+  pub entries : List Entry
 
 abbrev pub same_pair : Pair → Pair → Bool
 same_pair p q = (p.0 == q.0) && (p.1 == q.1)

@@ -1,5 +1,6 @@
 -- A record of a table: the numbers in its cells.
-use Rattle.std.specs.Prelude.{ℕ, ◌<◌, ◌≤◌, ◌^◌, ℤ, Bool, true, false, codes, nat_lt, unsigned_abs, if◌then◌else◌, Result, Ok, Err}
+use Rattle.std.specs.Prelude.{ℕ, ◌*◌, ◌<◌, ◌≤◌, ◌^◌, ℤ, pos, ◌*ℤ◌, Bool, true, false, codes, nat_lt, unsigned_abs, if◌then◌else◌, Option, Some, None, Result, Ok, Err}
+use Rattle.std.specs.Option.{option_map_or}
 use Rattle.std.specs.Str.{bytes_eq}
 use Rattle.record_reading.specs.Records.{Record, cell_of}
 use Rattle.record_reading.specs.Steps.{and_then, or_as}
@@ -11,23 +12,28 @@ use Rattle.factor_tables.specs.declared.cells.OffsetRecord.{OffsetRecord}
 use Rattle.factor_tables.specs.declared.cells.PenaltyRecord.{PenaltyRecord}
 use Rattle.factor_tables.specs.declared.table_fault.TableFault.{TableFault}
 use Rattle.factor_tables.specs.declared.table_fault.TableFault.TheVariants as fault
-use Rattle.market_data.specs.Scales.{factor_places, most_factor, mw_places, price_places}
+use Rattle.market_data.specs.Scales.{most_factor, mw_places, place_count, place_step, price_places}
+use Rattle.market_data.specs.declared.scales.FactorPlaces.{FactorPlaces}
 
 -- ---- the numbers of a record
 -- the number in a cell, in units of so many places
 abbrev pub number : ℕ → Record → ℕ → ℕ → Result ℤ TableFault
 number line r col places = or_as fault.Frame (number_in line r col places)
 
--- the factor in the third cell, of a size of 1000 at most
-unfoldable pub factor_cell : ℕ → Record → Result ℤ TableFault
-factor_cell line r = and_then (number line r 2 factor_places) (λ factor. if nat_lt most_factor (unsigned_abs factor) then Err (fault.Frame (frame.Cell line 3 why.Bounds)) else Ok factor)
+-- the factor that is so many units of the last of its places, in 10^-9; none where its size is above 1000
+abbrev pub factor_of_units : FactorPlaces → ℤ → Option ℤ
+factor_of_units places units = if nat_lt most_factor (unsigned_abs units * place_step places) then None else Some (units *ℤ pos (place_step places))
+
+-- the factor in the third cell, which has at most so many places
+unfoldable pub factor_cell : FactorPlaces → ℕ → Record → Result ℤ TableFault
+factor_cell places line r = and_then (number line r 2 (place_count places)) (λ units. option_map_or Ok (factor_of_units places units) (Err (fault.Frame (frame.Cell line 3 why.Bounds))))
 
 -- the numbers of a record of factors, from left to right
-unfoldable pub record_in : ℕ → Record → Result FactorRecord TableFault
-record_in line r =
+unfoldable pub record_in : FactorPlaces → ℕ → Record → Result FactorRecord TableFault
+record_in places line r =
     and_then (number line r 0 0) (λ branch.
     and_then (number line r 1 0) (λ of.
-    and_then (factor_cell line r) (λ factor.
+    and_then (factor_cell places line r) (λ factor.
     Ok (record { branch = branch; of = of; factor = factor }))))
 
 -- the numbers of a record of offsets

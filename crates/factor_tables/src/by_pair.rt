@@ -2,9 +2,10 @@
 
 ghost use Rattle.std.specs.Prelude.{◌≡◌, ℕ, ◌≤◌, ◌<◌, ◌+◌, ◌++◌, ◌∷◌, [], List, unsigned_abs, length, get_or, slice_set, IfOk, false, true};
 ghost use Rattle.market_data.specs.Scales.{most_factor, most_lines};
-ghost use Rattle.factor_tables.specs.Factors.{Entry, ArePairFactors, IsFactorOfPair, factor_at, has_pair, has_row, marked_row};
+ghost use Rattle.factor_tables.specs.Factors.{Entry, ArePairFactors, FactorRecords, IsFactorOfPair, factor_at, has_pair, has_row, marked_row};
 
 use indexmap::IndexMap;
+use market_data::FactorPlaces;
 use plain_list::Memory;
 use std::alloc::Global;
 use std::marker::{Model, PhantomData};
@@ -124,9 +125,11 @@ impl TableKind for ByOutage {
     ghost column = { names.Outage };
 }
 
-/// A table of factors of one kind, in 10^-6. Contracts see it as the list of its records, also of those that are not used.
+/// A table of factors of one kind, in 10^-9. Contracts see it as how many places its factors may have and the list of its records, also
+/// of those that are not used.
 #[derive(Drop)]
 pub struct FactorTable<K: TableKind> {
+    pub(crate) places: FactorPlaces,
     pub(crate) pairs: Pairs,
     pub(crate) kind: PhantomData<K>,
 }
@@ -138,22 +141,28 @@ pub type Shift = FactorTable<ByBus>;
 pub type Loss = FactorTable<ByOutage>;
 
 impl<K: TableKind> Model for FactorTable<K> {
-    ghost use Rattle.std.specs.Prelude.{List};
-    ghost use Rattle.factor_tables.specs.Factors.{Entry, ArePairFactors};
+    ghost use Rattle.factor_tables.specs.Factors.{ArePairFactors, FactorRecords};
 
-    ghost Value = { List Entry };
+    ghost Value = { FactorRecords };
 
-    ghost view = { λ table. table.pairs.by_pair.entries };
+    ghost view = { λ table. record { places = table.places; entries = table.pairs.by_pair.entries } };
 
     ghost invariant = { λ table. ArePairFactors K.column table.pairs };
 }
 
 impl<K: TableKind> FactorTable<K> {
+    /// How many places the table was read with.
+    pub fn places(&self) -> FactorPlaces
+        ensures { result ≡ self.now.places }
+    {
+        self.places
+    }
+
     /// The factor of a branch's row and a number of the second column, 0 where they have no record.
     pub fn factor(&self, branch: u32, of: u32) -> i64
         ensures size { unsigned_abs result ≤ most_factor }
-        ensures means { IsFactorOfPair self.now (branch, of) result }
-        ensures is { result ≡ factor_at self.now (branch, of) }
+        ensures means { IsFactorOfPair self.now.entries (branch, of) result }
+        ensures is { result ≡ factor_at self.now.entries (branch, of) }
     {
         self.pairs.factor((branch, of))
     }
@@ -162,15 +171,15 @@ impl<K: TableKind> FactorTable<K> {
     /// before all others: where factors are asked for in the order of the records, each is found at once.
     pub fn factor_near(&self, place: usize, branch: u32, of: u32) -> (i64, usize)
         ensures size { unsigned_abs result.0 ≤ most_factor }
-        ensures means { IsFactorOfPair self.now (branch, of) result.0 }
-        ensures is { result.0 ≡ factor_at self.now (branch, of) }
+        ensures means { IsFactorOfPair self.now.entries (branch, of) result.0 }
+        ensures is { result.0 ≡ factor_at self.now.entries (branch, of) }
     {
         self.pairs.factor_near(place, (branch, of))
     }
 
     /// Whether some record is of this row: that of a branch in a shift table, that of an outage in an outage table.
     pub fn has(&self, row: u32) -> bool
-        ensures { result ≡ has_row K.column self.now row }
+        ensures { result ≡ has_row K.column self.now.entries row }
     {
         self.pairs.is_marked(row)
     }

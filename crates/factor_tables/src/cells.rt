@@ -1,13 +1,13 @@
 //! The numbers in the cells of a record.
 
-ghost use Rattle.std.specs.Prelude.{◌≡◌, ◌+◌, ◌<◌, ◌≤◌, ◌^◌, unsigned_abs, length, get_or, [], IfOk};
+ghost use Rattle.std.specs.Prelude.{◌≡◌, ◌+◌, ◌<◌, ◌≤◌, ◌^◌, unsigned_abs, length, get_or, [], IfOk, IfSome};
 ghost use Rattle.market_data.specs.Scales.{most_factor};
-ghost use Rattle.factor_tables.specs.Records.{FactorIsRead, OffsetIsRead, PenaltyIsRead, factor_cell, offset_in, penalty_in, post_in, record_in};
+ghost use Rattle.factor_tables.specs.Records.{FactorIsRead, OffsetIsRead, PenaltyIsRead, factor_cell, factor_of_units, offset_in, penalty_in, post_in, record_in};
 
 use crate::TableFault;
 use crate::penalty_list::Penalty;
 use csv_table::Table;
-use market_data::{FACTOR_PLACES, MOST_FACTOR, MW_PLACES, PRICE_PLACES};
+use market_data::{FactorPlaces, MOST_FACTOR, MW_PLACES, PRICE_PLACES};
 use record_reading::{FrameFault, Why};
 
 /// A record of a table of factors as it is written.
@@ -16,7 +16,7 @@ pub(crate) struct FactorRecord {
     pub(crate) branch: i64,
     /// The number of a bus, or of an outage's branch.
     pub(crate) of: i64,
-    /// In 10^-6.
+    /// In 10^-9.
     pub(crate) factor: i64,
 }
 
@@ -37,34 +37,51 @@ pub(crate) struct PenaltyRecord {
     pub(crate) penalty: Penalty,
 }
 
-/// The factor in the third cell of a record.
+/// The factor that is so many units of the last place, in 10^-9; none where its size is above 1000.
+fn factor_of_units(places: FactorPlaces, units: i64) -> Option<i64>
+    ensures size { IfSome result (λ factor. unsigned_abs factor ≤ most_factor) }
+    ensures is { result ≡ factor_of_units places units }
+{
+    let most = MOST_FACTOR / places.step().unsigned_abs();
+    if units.unsigned_abs() > most {
+        None
+    } else {
+        Some(units * places.step())
+    }
+}
+
+/// The factor in the third cell of a record, in 10^-9.
 #[tactic(auto, unfolding(crate::specs::Records::factor_cell))]
-fn factor_of(table: &Table, row: usize) -> Result<i64, TableFault>
+fn factor_of(table: &Table, row: usize, places: FactorPlaces) -> Result<i64, TableFault>
     requires { (row < length table.now) × (row + 2 < 2 ^ 64) }
     ensures size { IfOk result (λ factor. unsigned_abs factor ≤ most_factor) }
-    ensures is { result ≡ factor_cell (row + 2) (get_or table.now row []) }
+    ensures is { result ≡ factor_cell places (row + 2) (get_or table.now row []) }
 {
-    let factor = table.number(row, 2, FACTOR_PLACES)?;
-    if factor.unsigned_abs() > MOST_FACTOR {
-        return Err(TableFault::Frame(FrameFault::Cell {
+    let units = table.number(row, 2, places.count())?;
+    match factor_of_units(places, units) {
+        Some(factor) => Ok(factor),
+        None => Err(TableFault::Frame(FrameFault::Cell {
             line: row + 2,
             col: 3,
             why: Why::Bounds,
-        }));
+        })),
     }
-    Ok(factor)
 }
 
 /// The numbers of a record, from left to right.
 #[tactic(auto, unfolding(crate::specs::Records::record_in))]
-pub(crate) fn record_of(table: &Table, row: usize) -> Result<FactorRecord, TableFault>
+pub(crate) fn record_of(
+    table: &Table,
+    row: usize,
+    places: FactorPlaces,
+) -> Result<FactorRecord, TableFault>
     requires { (row < length table.now) × (row + 2 < 2 ^ 64) }
     ensures read { IfOk result FactorIsRead }
-    ensures is { result ≡ record_in (row + 2) (get_or table.now row []) }
+    ensures is { result ≡ record_in places (row + 2) (get_or table.now row []) }
 {
     let branch = table.number(row, 0, 0)?;
     let of = table.number(row, 1, 0)?;
-    let factor = factor_of(table, row)?;
+    let factor = factor_of(table, row, places)?;
     Ok(FactorRecord { branch, of, factor })
 }
 

@@ -29,14 +29,14 @@ fn needs_shift(branch: &NetBranch, outages: &[u32], units: bool) -> bool
 
 /// Whether a branch has to have a record in the shift table and has none.
 fn lacks_shift(shift: &Shift, branch: &NetBranch, outages: &[u32], units: bool) -> bool
-    ensures { result ≡ lacks_shift shift.now outages.now units branch.now }
+    ensures { result ≡ lacks_shift shift.now.entries outages.now units branch.now }
 {
     needs_shift(branch, outages, units) && !shift.has(branch.row)
 }
 
 /// The row of the first branch that has to have a record in the shift table and has none.
 fn without_shift(branches: &[NetBranch], shift: &Shift, outages: &[u32], units: bool) -> Option<u32>
-    ensures { result ≡ option_map (λ branch. branch.row) (find (lacks_shift shift.now outages.now units) branches.now) }
+    ensures { result ≡ option_map (λ branch. branch.row) (find (lacks_shift shift.now.entries outages.now units) branches.now) }
 {
     for branch in branches {
         if lacks_shift(shift, branch, outages, units) {
@@ -48,7 +48,7 @@ fn without_shift(branches: &[NetBranch], shift: &Shift, outages: &[u32], units: 
 
 /// The first of some outages that the outage table has no record of.
 fn without_loss(loss: &Loss, outages: &[u32]) -> Option<u32>
-    ensures { result ≡ find (λ outage. not (has_outage loss.now outage)) outages.now }
+    ensures { result ≡ find (λ outage. not (has_outage loss.now.entries outage)) outages.now }
 {
     for outage in outages {
         if !loss.has(*outage) {
@@ -69,7 +69,7 @@ pub fn cover(
     outages: &[u32],
     units: bool,
 ) -> Result<(), Uncovered>
-    ensures { result ≡ cover_of network.now shift.now loss.now outages.now units }
+    ensures { result ≡ cover_of network.now shift.now.entries loss.now.entries outages.now units }
 {
     let branches = network.branches().slice();
     if let Some(branch) = without_shift(branches, shift, outages, units) {

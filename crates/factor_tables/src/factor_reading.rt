@@ -14,6 +14,7 @@ use crate::by_pair::{Column, FactorTable, Loss, Pairs, Shift, marked_row};
 use crate::cells::{FactorRecord, record_of};
 use crate::names::{is_idle, is_live_branch, is_live_bus, is_row};
 use csv_table::{Table, read_table};
+use market_data::FactorPlaces;
 use net_case::Network;
 use std::alloc::Global;
 use std::marker::PhantomData;
@@ -92,14 +93,15 @@ fn entry_of(
     done: &Pairs,
     table: &Table,
     row: usize,
+    places: FactorPlaces,
 ) -> Result<((u32, u32), i64), TableFault>
     requires { (row < length table.now) × (row + 2 < 2 ^ 64) }
     ensures new { IfOk result (λ entry. has_pair done.now.by_pair.entries entry.0 ≡ false) }
     ensures size { IfOk result (λ entry. unsigned_abs entry.1 ≤ most_factor) }
     ensures row { IfOk result (λ entry. marked_row column entry.0 ≤ network.now.branch_rows) }
-    ensures is { result ≡ entry_in network.now column done.now.by_pair.entries (row + 2) (get_or table.now row []) }
+    ensures is { result ≡ entry_in places network.now column done.now.by_pair.entries (row + 2) (get_or table.now row []) }
 {
-    let numbers = record_of(table, row)?;
+    let numbers = record_of(table, row, places)?;
     check_names(network, column, numbers, row + 2)?;
     let pair = (numbers.branch as u32, numbers.of as u32);
     if done.has(pair) {
@@ -114,14 +116,15 @@ fn pairs_of(
     network: &Network,
     column: Column,
     table: &Table,
+    places: FactorPlaces,
 ) -> Result<Pairs, TableFault>
     ensures kept { IfOk result (ArePairFactors column) }
-    ensures ok { IfOk result (λ pairs. read_rows (entry_in network.now column) [] 2 table.now ≡ Ok pairs.by_pair.entries) }
-    ensures err { IfErr result (λ fault. fault ≢ TableFault.Memory → read_rows (entry_in network.now column) [] 2 table.now ≡ Err fault) }
+    ensures ok { IfOk result (λ pairs. read_rows (entry_in places network.now column) [] 2 table.now ≡ Ok pairs.by_pair.entries) }
+    ensures err { IfErr result (λ fault. fault ≢ TableFault.Memory → read_rows (entry_in places network.now column) [] 2 table.now ≡ Err fault) }
 {
     let mut pairs = Pairs::new(alloc, network.branch_rows(), table.len())?;
     for row in 0..table.len() {
-        let (pair, factor) = entry_of(network, column, &pairs, table, row)?;
+        let (pair, factor) = entry_of(network, column, &pairs, table, row, places)?;
         pairs.add(pair, factor, marked_row(column, pair))?;
     }
     Ok(pairs)
@@ -134,35 +137,48 @@ fn factors_of(
     column: Column,
     header: &[&str],
     bytes: &[u8],
+    places: FactorPlaces,
 ) -> Result<Pairs, TableFault>
     requires { map (λ name. name.now) header.now ≡ header_of column }
     ensures kept { IfOk result (ArePairFactors column) }
-    ensures ok { IfOk result (λ pairs. factors_of column network.now bytes.now ≡ Ok pairs.by_pair.entries) }
-    ensures err { IfErr result (λ fault. fault ≢ TableFault.Memory → factors_of column network.now bytes.now ≡ Err fault) }
+    ensures ok { IfOk result (λ pairs. factors_of column network.now bytes.now places ≡ Ok pairs.by_pair.entries) }
+    ensures err { IfErr result (λ fault. fault ≢ TableFault.Memory → factors_of column network.now bytes.now places ≡ Err fault) }
 {
     let table = read_table(alloc, bytes, header, None)??;
-    pairs_of(alloc, network, column, &table)
+    pairs_of(alloc, network, column, &table, places)
 }
 
-/// Reads a shift table. Its factors are in 10^-6.
-pub fn shift(alloc: Global, network: &Network, bytes: &[u8]) -> Result<Shift, TableFault>
-    ensures once { IfOk result HasNoPairTwice }
-    ensures is { result ≢ Err TableFault.Memory → result ≡ shift_of network.now bytes.now }
+/// Reads a shift table, whose factors may have so many places.
+pub fn shift(
+    alloc: Global,
+    network: &Network,
+    bytes: &[u8],
+    places: FactorPlaces,
+) -> Result<Shift, TableFault>
+    ensures once { IfOk result (λ shift. HasNoPairTwice shift.entries) }
+    ensures is { result ≢ Err TableFault.Memory → result ≡ shift_of network.now bytes.now places }
 {
-    let pairs = factors_of(alloc, network, Column::Bus, SHIFT_HEADER, bytes)?;
+    let pairs = factors_of(alloc, network, Column::Bus, SHIFT_HEADER, bytes, places)?;
     Ok(FactorTable {
+        places,
         pairs,
         kind: PhantomData,
     })
 }
 
-/// Reads an outage table. Its factors are in 10^-6.
-pub fn outage(alloc: Global, network: &Network, bytes: &[u8]) -> Result<Loss, TableFault>
-    ensures once { IfOk result HasNoPairTwice }
-    ensures is { result ≢ Err TableFault.Memory → result ≡ loss_of network.now bytes.now }
+/// Reads an outage table, whose factors may have so many places.
+pub fn outage(
+    alloc: Global,
+    network: &Network,
+    bytes: &[u8],
+    places: FactorPlaces,
+) -> Result<Loss, TableFault>
+    ensures once { IfOk result (λ loss. HasNoPairTwice loss.entries) }
+    ensures is { result ≢ Err TableFault.Memory → result ≡ loss_of network.now bytes.now places }
 {
-    let pairs = factors_of(alloc, network, Column::Outage, LOSS_HEADER, bytes)?;
+    let pairs = factors_of(alloc, network, Column::Outage, LOSS_HEADER, bytes, places)?;
     Ok(FactorTable {
+        places,
         pairs,
         kind: PhantomData,
     })

@@ -1,5 +1,6 @@
 use crate::{Penalties, Penalty, TableFault, penalties, shift};
 use case_text::read_case;
+use market_data::FactorPlaces;
 use net_case::{Branches, Network, PostRating, network};
 use record_reading::FrameFault;
 use std::alloc::Global;
@@ -148,23 +149,65 @@ fn finds_factors_from_a_place(rt: HostRuntime) -> Result<(), Fail> {
         rt.alloc(),
         &network,
         b"branch,bus,factor\n1,2,-0.5\n1,3,0.25\n2,1,0\n3,3,1\n",
+        FactorPlaces::Six,
     )?;
     for (place, branch, bus, want) in [
-        (0, 1, 2, (-500_000, 1)),
-        (1, 1, 3, (250_000, 2)),
+        (0, 1, 2, (-500_000_000, 1)),
+        (1, 1, 3, (250_000_000, 2)),
         (2, 1, 1, (0, 2)),
         (2, 2, 1, (0, 3)),
-        (3, 1, 2, (-500_000, 1)),
-        (0, 3, 3, (1_000_000, 4)),
-        (4, 3, 3, (1_000_000, 4)),
+        (3, 1, 2, (-500_000_000, 1)),
+        (0, 3, 3, (1_000_000_000, 4)),
+        (4, 3, 3, (1_000_000_000, 4)),
         (4, 3, 1, (0, 4)),
-        (usize::MAX, 1, 3, (250_000, 2)),
+        (usize::MAX, 1, 3, (250_000_000, 2)),
     ] {
         assert_eq!(rt;
             shift.factor_near(place, branch, bus),
             want,
             "{place}: {branch}, {bus}"
         );
+    }
+    Ok(())
+}
+
+/// Shift tables of one record, by the text of its factor, with what it is in 10^-9 or the fault with six places and with nine.
+const FACTORS: &[(&str, &str, &str)] = &[
+    ("-0.500000001", TOO_FINE, "Ok(-500000001)"),
+    ("0.0000001", TOO_FINE, "Ok(100)"),
+    ("-0.333333", "Ok(-333333000)", "Ok(-333333000)"),
+    ("1e-9", TOO_FINE, "Ok(1)"),
+    ("1e-10", TOO_FINE, TOO_FINE),
+    // The greatest size is 1000.
+    ("1000", "Ok(1000000000000)", "Ok(1000000000000)"),
+    ("-1000", "Ok(-1000000000000)", "Ok(-1000000000000)"),
+    ("1000.000001", BOUNDS, BOUNDS),
+    ("-1000.000000001", TOO_FINE, BOUNDS),
+    // Its number of 10^-9 is no i64, that of 10^-6 is one.
+    ("9000000000000", BOUNDS, OUT_OF_RANGE),
+];
+
+const TOO_FINE: &str = "Err(Frame(Cell { line: 2, col: 3, why: Decimal(TooFine) }))";
+
+const BOUNDS: &str = "Err(Frame(Cell { line: 2, col: 3, why: Bounds }))";
+
+const OUT_OF_RANGE: &str = "Err(Frame(Cell { line: 2, col: 3, why: Decimal(OutOfRange) }))";
+
+#[test]
+fn reads_factors_of_so_many_places(rt: HostRuntime) -> Result<(), Fail> {
+    let network = triangle(rt.alloc())?;
+    for (factor, six, nine) in FACTORS {
+        let table = format!(in rt.alloc(); "branch,bus,factor\n1,2,{factor}\n")?;
+        for (places, want) in [(FactorPlaces::Six, *six), (FactorPlaces::Nine, *nine)] {
+            let told = match shift(rt.alloc(), &network, table.as_bytes(), places) {
+                Ok(shift) => {
+                    assert_eq!(rt; shift.places(), places);
+                    format!(in rt.alloc(); "Ok({})", shift.factor(1, 2))?
+                }
+                Err(fault) => format!(in rt.alloc(); "Err({fault:?})")?,
+            };
+            assert_eq!(rt; told.as_str(), want, "{factor}, {places:?}");
+        }
     }
     Ok(())
 }

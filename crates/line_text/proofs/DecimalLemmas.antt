@@ -18,8 +18,8 @@ trimmed-digits zero n h z = absurd (omega (arith, h))
 trimmed-digits (suc k) n h z = let is : nat_eq (n % 10) 0 ≡ false = ne_eqb (n % 10) 0 z in rw is refl
 
 -- a unit of few places
-pub unit_fits : (places : ℕ) → places ≤ 25 → 10 ^ places < 340282366920938463463374607431768211456
-unit_fits places h = let most : 10 ^ places ≤ 10 ^ 25 = pow-le-pow_right (omega arith) h in omega (arith, most)
+pub unit_fits : (places : ℕ) → places ≤ 28 → 10 ^ places < 340282366920938463463374607431768211456
+unit_fits places h = let most : 10 ^ places ≤ 10 ^ 28 = pow-le-pow_right (omega arith) h in omega (arith, most)
 
 pub unit_above : (places u : ℕ) → u ≡ 10 ^ places → 0 < u
 unit_above places u e = let least : 1 ≤ 10 ^ places = one-le-pow places 10 (omega arith) in omega (arith, least, e)

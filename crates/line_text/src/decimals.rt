@@ -49,7 +49,7 @@ impl Text {
     /// A whole number of units, of which `10^places` are a whole.
     #[tactic(auto, using(std::proofs::Common::append_assoc), unfolding(crate::specs::Decimals::decimal_text))]
     pub fn decimal(&mut self, number: i128, places: u8) -> Result<(), Memory>
-        requires { places ≤ 25 }
+        requires { places ≤ 28 }
         ensures { IfOk result (λ _. self.new ≡ self.old ++ decimal_text places number) }
     {
         let size = number.unsigned_abs();

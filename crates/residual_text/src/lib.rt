@@ -4,3 +4,6 @@
 mod lines;
 
 pub use lines::residuals_text;
+
+#[cfg(test)]
+mod tests;

@@ -27,7 +27,7 @@ fn put_place(text: &mut Text, spot: &Spot) -> Result<(), Memory>
 
 #[tactic(auto, using(std::proofs::Common::append_assoc), unfolding(crate::specs::ResidualLines::most_line))]
 fn put_most(text: &mut Text, kind: &[u8], places: u8, spot: &Spot) -> Result<(), Memory>
-    requires { places ≤ 24 }
+    requires { places ≤ 27 }
     ensures { IfOk result (λ _. text.new ≡ text.old ++ most_line kind.now places spot.now) }
 {
     text.word(kind)?;
@@ -38,7 +38,7 @@ fn put_most(text: &mut Text, kind: &[u8], places: u8, spot: &Spot) -> Result<(),
 
 #[tactic(auto, using(std::proofs::Common::append_assoc), unfolding(crate::specs::ResidualLines::over_line))]
 fn put_over(text: &mut Text, kind: &[u8], places: u8, over: Option<Spot>) -> Result<(), Memory>
-    requires { places ≤ 24 }
+    requires { places ≤ 27 }
     ensures { IfOk result (λ _. text.new ≡ text.old ++ over_line kind.now places over) }
 {
     text.word(kind)?;
@@ -56,7 +56,7 @@ fn put_over(text: &mut Text, kind: &[u8], places: u8, over: Option<Spot>) -> Res
 
 #[tactic(auto, using(std::proofs::Common::append_assoc), unfolding(crate::specs::ResidualLines::residual_lines))]
 fn put_residual(text: &mut Text, kind: &[u8], places: u8, residual: &Residual) -> Result<(), Memory>
-    requires { places ≤ 24 }
+    requires { places ≤ 27 }
     ensures { IfOk result (λ _. text.new ≡ text.old ++ residual_lines kind.now places residual.now) }
 {
     match residual.most {

@@ -11,7 +11,7 @@ returns-then-forward-clause-is c = product_is c.args.reactance c.args.flow c.fro
 pub returns-else-forward-clause-size : goal.returns-else-forward-clause-size
 returns-else-forward-clause-size c =
     let size = product-size c.args.reactance c.args.flow c.requires.reactance c.requires.flow in
-    subst (λ (n : ℤ). unsigned_abs n ≤ 10000000000000000000000000000000) (sym (opposite_is c.args.reactance c.args.flow c.from.result c.requires.reactance c.requires.flow (c.from.ensures ∙ to_z-of_z w64 c.args.flow c.ranges.flow))) (omega (arith, ints, size))
+    subst (λ (n : ℤ). unsigned_abs n ≤ 10000000000000000000000000000000000) (sym (opposite_is c.args.reactance c.args.flow c.from.result c.requires.reactance c.requires.flow (c.from.ensures ∙ to_z-of_z w64 c.args.flow c.ranges.flow))) (omega (arith, ints, size))
 
 pub returns-else-forward-clause-is : goal.returns-else-forward-clause-is
 returns-else-forward-clause-is c = opposite_is c.args.reactance c.args.flow c.from.result c.requires.reactance c.requires.flow (c.from.ensures ∙ to_z-of_z w64 c.args.flow c.ranges.flow)

@@ -13,6 +13,6 @@ loop-bus-preserved g c = λ spots is.
     let before = spots ++ map f (places i) in
     let count : c.len-bus-end.result ≡ length c.args.network.now.buses = c.len-bus-end.ensures ∙ ap length c.buses.ensures.list in
     let node = c.index.ensures ∙ c.in_ok-nodes.ensures.nodes.each i c.index.result.now (omega (arith, count, c.loop-bus-test.true)) in
-    let spot : c.bus_spot.result ≡ f i = c.bus_spot.ensures.is c.args.factors.now node in
+    let spot : c.bus_spot.result ≡ f i = c.bus_spot.ensures c.args.factors.now c.places-places.ensures node in
     subst (λ xs. IsResidual xs c.with-residual.result) (behind f spots (places i) i ∙ ap (λ ps. spots ++ map f ps) (sym (places_more i)))
     (subst (λ (s : Spot). IsResidual (before ++ s ∷ []) c.with-residual.result) spot (c.with-residual.ensures before (c.loop-bus.invariant spots is)))

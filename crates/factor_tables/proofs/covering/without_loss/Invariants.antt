@@ -6,4 +6,4 @@ use Rattle.factor_tables.proofs.covering.without_loss.Given as goal
 
 -- no outage before this one is without a record
 abbrev pub invariant-loop-outage : goal.invariant-loop-outage
-invariant-loop-outage l = find (λ outage. not (has_outage l.loss outage)) l.outages ≡ find (λ outage. not (has_outage l.loss outage)) (drop l.outage-index l.outages)
+invariant-loop-outage l = find (λ outage. not (has_outage l.loss.entries outage)) l.outages ≡ find (λ outage. not (has_outage l.loss.entries outage)) (drop l.outage-index l.outages)

@@ -5,4 +5,4 @@ use Rattle.factor_tables.proofs.covering.without_shift.Given as goal
 
 -- no branch before this one lacks a record
 abbrev pub invariant-loop-branch : goal.invariant-loop-branch
-invariant-loop-branch l = find (lacks_shift l.shift l.outages l.units) l.branches ≡ find (lacks_shift l.shift l.outages l.units) (drop l.branch-index l.branches)
+invariant-loop-branch l = find (lacks_shift l.shift.entries l.outages l.units) l.branches ≡ find (lacks_shift l.shift.entries l.outages l.units) (drop l.branch-index l.branches)

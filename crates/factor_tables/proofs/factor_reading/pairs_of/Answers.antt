@@ -13,7 +13,7 @@ pub returns-in_err-pair-clause-err : goal.returns-in_err-pair-clause-err
 returns-in_err-pair-clause-err c =
     let lt : c.loop-row.row < length c.args.table.now = omega arith in
     let here = c.loop-row.invariant.is
-    ∙ read_rows-fault (entry_in c.args.network.now c.args.column) c.loop-row.pairs.by_pair.entries (c.loop-row.row + 2) c.args.table.now c.loop-row.row c.in_err-pair.field-0.0 lt (sym c.entry_of.ensures.is ∙ c.in_err-pair.was) in
+    ∙ read_rows-fault (entry_in c.args.places c.args.network.now c.args.column) c.loop-row.pairs.by_pair.entries (c.loop-row.row + 2) c.args.table.now c.loop-row.row c.in_err-pair.field-0.0 lt (sym c.entry_of.ensures.is ∙ c.in_err-pair.was) in
     let given : c.from_residual-in_err-pair.result ≡ Err c.in_err-pair.field-0.0 = search rules in
     rw given (λ _. here)
 
@@ -28,7 +28,7 @@ pub loop-row-preserved : goal.loop-row-preserved
 loop-row-preserved c =
     let lt : c.loop-row.row < length c.args.table.now = omega arith in
     let here = c.loop-row.invariant.is
-    ∙ read_rows-step (entry_in c.args.network.now c.args.column) c.loop-row.pairs.by_pair.entries (c.loop-row.row + 2) c.args.table.now c.loop-row.row (c.in_ok-pair.pair, c.in_ok-pair.factor) lt (sym c.entry_of.ensures.is ∙ c.in_ok-pair.was) in
+    ∙ read_rows-step (entry_in c.args.places c.args.network.now c.args.column) c.loop-row.pairs.by_pair.entries (c.loop-row.row + 2) c.args.table.now c.loop-row.row (c.in_ok-pair.pair, c.in_ok-pair.factor) lt (sym c.entry_of.ensures.is ∙ c.in_ok-pair.was) in
     let next : c.loop-row.row + 2 + 1 ≡ c.loop-row.row + 1 + 2 = omega arith in
     let datum : unsigned_abs c.in_ok-pair.factor < 2 ^ 63 = omega (arith, c.in_ok-pair.ensures.size) in
     let fits : to_z w64 (of_z w64 c.in_ok-pair.factor) ≡ c.in_ok-pair.factor = to_z-of_z w64 _ (datum_fits _ datum) in
@@ -45,4 +45,4 @@ loop-row-preserved c =
 pub returns-clause-ok : goal.returns-clause-ok
 returns-clause-ok c =
     let le : length c.args.table.now ≤ c.loop-row.row = omega arith in
-    c.loop-row.invariant.is ∙ read_rows-end (entry_in c.args.network.now c.args.column) c.loop-row.pairs.by_pair.entries (c.loop-row.row + 2) c.args.table.now c.loop-row.row le
+    c.loop-row.invariant.is ∙ read_rows-end (entry_in c.args.places c.args.network.now c.args.column) c.loop-row.pairs.by_pair.entries (c.loop-row.row + 2) c.args.table.now c.loop-row.row le

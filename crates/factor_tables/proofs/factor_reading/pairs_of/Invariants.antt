@@ -9,5 +9,5 @@ abbrev pub invariant-loop-row : goal.invariant-loop-row
 invariant-loop-row l = record {
   kept : ArePairFactors l.column l.pairs;
   rows : length l.pairs.marked.items ≡ l.network.branch_rows + 1;
-  is : read_rows (entry_in l.network l.column) [] 2 l.table ≡ read_rows (entry_in l.network l.column) l.pairs.by_pair.entries (l.row + 2) (drop l.row l.table);
+  is : read_rows (entry_in l.places l.network l.column) [] 2 l.table ≡ read_rows (entry_in l.places l.network l.column) l.pairs.by_pair.entries (l.row + 2) (drop l.row l.table);
 }
