@@ -1,6 +1,6 @@
 -- What rights put in at a bus, one right more.
-use Rattle.std.specs.Prelude.{◌≡◌, ◌==◌, ℕ, ℤ, ◌+◌, ◌<◌, ◌≤◌, ◌≤ℤ◌, pos, Bool, true, false, cond, if◌then◌else◌, List, [], ◌∷◌, ◌++◌, All, map, filter, length, take, unsigned_abs, refl}
-use Rattle.std.proofs.Common.{arith, ap, sym, ◌∙◌, get_or, drop, append_assoc}
+use Rattle.std.specs.Prelude.{◌≡◌, ◌==◌, ℕ, ◌+◌, ◌<◌, ◌≤◌, ◌≤ℤ◌, pos, Bool, true, false, cond, if◌then◌else◌, List, [], ◌∷◌, ◌++◌, All, map, filter, length, take, refl}
+use Rattle.std.proofs.Common.{ap, sym, ◌∙◌, get_or, drop, append_assoc}
 use Rattle.std.proofs.lemmas.List.{map-append, take-append-drop, take_all, take_more, drop_more}
 use Rattle.std.proofs.lemmas.List.Elements.{filter-append}
 use Rattle.fraction_theory.specs.Fraction.{Fraction, whole, neg_ℚ, ◌+ℚ◌, ◌-ℚ◌}

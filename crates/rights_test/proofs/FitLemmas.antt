@@ -1,5 +1,5 @@
 -- Flows of rights, and which limit they break first.
-use Rattle.std.specs.Prelude.{◌≡◌, ◌⊎◌, ◌↔◌, ℕ, ◌+◌, ◌<◌, ◌≤◌, pos, List, [], ◌∷◌, ◌++◌, length, map, replicate, All, Contains, refl}
+use Rattle.std.specs.Prelude.{◌≡◌, ◌⊎◌, ℕ, ◌+◌, ◌<◌, pos, List, [], ◌∷◌, ◌++◌, length, map, replicate, All, Contains, refl}
 use Rattle.std.specs.Ordering.{MatchOrdering}
 use Rattle.std.proofs.Common.{suc, zero, arith, inl, inr, ap, ap₂, sym, subst, ◌∙◌, get_or, Ordering, Less, Equal, Greater}
 use Rattle.std.proofs.lemmas.List.{get_or_append_left, get_or-append-add, length-append, length-map, length-replicate, map-append}
@@ -14,11 +14,12 @@ use Rattle.fraction_theory.proofs.OrderLaws.{NonNeg-one, by_le1, <ℚ-not-≤ℚ
 use Rattle.fraction_theory.proofs.Ring.{at, pneg, pnil, pone}
 use Rattle.fraction_theory.proofs.SignLaws.{abs_above, abs_below, abs_within}
 use Rattle.exact_fraction.specs.declared.Passed.{Passed}
+use Rattle.market_model.specs.declared.answered.RowId.{RowId}
 use Rattle.market_model.specs.declared.limits.Row.{Row}
 use Rattle.market_model.specs.declared.participants.Parts.{Parts}
 use Rattle.market_model.specs.declared.participants.TransmissionRight.{TransmissionRight}
 use Rattle.market_model.specs.Dispatch.{places}
-use Rattle.market_model.specs.LimitRows.{flow_by, flow_terms, limit, line_flow, rows}
+use Rattle.market_model.specs.LimitRows.{flow_by, flow_terms, limit, line_flow, row_id, rows}
 use Rattle.market_model.specs.Market.{IsMarket}
 use Rattle.market_model.specs.NamedSums.{IsRefusedIn}
 use Rattle.market_model.specs.Optimality.{bus_price}
@@ -35,7 +36,7 @@ use Rattle.limit_rows.proofs.FlowSteps.{flow_terms-same, line_flow-same, line_te
 use Rattle.rights_test.specs.declared.right_parts.Fit.{Fit}
 use Rattle.rights_test.specs.declared.right_parts.Fit.TheVariants.{Fits, Breaks}
 use Rattle.rights_test.specs.Fits.{carried_for, carried_list, IsFirstBroken, IsFitBy}
-use Rattle.rights_test.specs.RightsLaws.{LawOfTheFit, LawOfCoveredPayments}
+use Rattle.rights_test.specs.RightsLaws.{LawOfTheFit, LawOfOneFit, LawOfCoveredPayments}
 
 -- ---- within a limit on both sides
 pub not_past : (o : Ordering) (x y : Fraction) → MatchOrdering o (x <ℚ y) (x ≡ y) (y <ℚ x) → (o ≡ Less) ⊎ (o ≡ Equal) → x ≤ℚ y
@@ -179,6 +180,33 @@ all_kept m f rs e all r c = All-contains (λ s. Within (limit m s) (f s)) rs r a
 pub law_of_the_fit : LawOfTheFit
 law_of_the_fit m rights Fits h = (λ e. h, λ together. refl)
 law_of_the_fit m rights (Breaks name flow) (r, first, name_is, flow_is) = (λ e. absurd Prim.cc, λ together. absurd (first.broken (together r (broken_listed m _ r first))))
+
+-- of two rows that some others stand before, those of which P holds, the first of which it does not hold is one
+abbrev head_or : Row → List Row → Row
+head_or d [] = d
+head_or d (r ∷ rs) = r
+
+abbrev rest_of : List Row → List Row
+rest_of [] = []
+rest_of (r ∷ rs) = rs
+
+same_first : (P : Row → Type 0) (xs ys : List Row) (a b : Row) (us vs : List Row) → xs ++ a ∷ us ≡ ys ++ b ∷ vs → All P xs → ¬ (P a) → All P ys → ¬ (P b) → a ≡ b
+same_first P [] [] a b us vs e p not_a q not_b = ap (head_or a) e
+same_first P [] (y ∷ ys) a b us vs e p not_a q not_b = absurd (not_a (subst P (sym (ap (head_or a) e)) (q 0 y (Prim.omega arith))))
+same_first P (x ∷ xs) [] a b us vs e p not_a q not_b = absurd (not_b (subst P (ap (head_or x) e) (p 0 x (Prim.omega arith))))
+same_first P (x ∷ xs) (y ∷ ys) a b us vs e p not_a q not_b =
+    same_first P xs ys a b us vs (ap rest_of e) (λ k d lt. p (suc k) d (Prim.omega (arith, lt))) not_a (λ k d lt. q (suc k) d (Prim.omega (arith, lt))) not_b
+
+one_fit_by : (m : Parts) (f : Row → Fraction) (a b : Fit Fraction) → IsFitBy m f a → IsFitBy m f b → a ≡ b
+one_fit_by m f Fits Fits h k = refl
+one_fit_by m f Fits (Breaks name flow) h (r, first, name_is, flow_is) = absurd (first.broken (h r (broken_listed m f r first)))
+one_fit_by m f (Breaks name flow) Fits (r, first, name_is, flow_is) k = absurd (first.broken (k r (broken_listed m f r first)))
+one_fit_by m f (Breaks name flow) (Breaks name' flow') (r, first, name_is, flow_is) (s, other, name_is', flow_is') =
+    let same : r ≡ s = same_first (λ t. Within (limit m t) (f t)) first.before other.before r s first.behind other.behind (sym first.order ∙ other.order) first.kept first.broken other.kept other.broken in
+    ap₂ (λ (i : RowId) (x : Fraction). Breaks i x) (name_is ∙ ap (row_id m) same ∙ sym name_is') (flow_is ∙ ap f same ∙ sym flow_is')
+
+pub law_of_one_fit : LawOfOneFit
+law_of_one_fit m rights = one_fit_by m (flow_by m (carried_for m rights))
 
 same_terms : (n : ℕ) (p q : ℕ → Fraction) → ((i : ℕ) → i < n → p i ≡ q i) → (rights : List TransmissionRight) → All (IsTransmissionRight n) rights → right_terms p rights ≡ right_terms q rights
 same_terms n p q same [] are = refl

@@ -1,3 +1,4 @@
 pub mod BusSteps
 pub mod FitLemmas
 pub mod PaySteps
+pub mod TestMarkets

@@ -3,7 +3,7 @@ use Rattle.std.specs.Prelude.{◌≡◌, ◌⊎◌, ℕ, ◌+◌, ◌<◌, ◌�
 use Rattle.std.proofs.Common.{inl, inr, ap, ap₂, sym, ◌∙◌, get_or, drop}
 use Rattle.std.proofs.lemmas.List.{get_or-map, map-append, take_all, take_more}
 use Rattle.fraction_theory.specs.Fraction.{Fraction, whole, ◌+ℚ◌, ◌-ℚ◌}
-use Rattle.fraction_theory.specs.Sums.{Term, term_value, total}
+use Rattle.fraction_theory.specs.Sums.{term_value, total}
 use Rattle.fraction_theory.proofs.FieldLaws.{+ℚ_nil}
 use Rattle.fraction_theory.proofs.SumLaws.{total-append}
 use Rattle.exact_fraction.specs.declared.Op.TheVariants.{Minus, Plus, Times}
@@ -15,7 +15,6 @@ use Rattle.market_model.specs.Valued.{total_at}
 use Rattle.market_model.specs.Rights.{right_term, right_terms}
 use Rattle.market_model.proofs.ListSteps.{mapped_at}
 use Rattle.market_model.proofs.SumSteps.{plus_at, product_at}
-use Rattle.rights_test.specs.declared.right_parts.Payments.{Payments}
 use Rattle.rights_test.specs.Paid.{payments_of, paid_to_all, paid_to_right, IsPayRefusal}
 
 -- a whole price that was read by its bus

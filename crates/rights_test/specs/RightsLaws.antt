@@ -20,7 +20,11 @@ use Rattle.rights_test.specs.Paid.{payments_of}
 abbrev pub LawOfTheFit : Type 0
 LawOfTheFit = (m : Parts) (rights : List TransmissionRight) (fit : Fit Fraction) → IsFit m rights fit → (fit ≡ Fits) ↔ AreFeasibleTogether m rights
 
--- and then, at the bus prices of duals that support a feasible dispatch, they are paid at most the surplus
+-- rights have one fit
+abbrev pub LawOfOneFit : Type 0
+LawOfOneFit = (m : Parts) (rights : List TransmissionRight) (a b : Fit Fraction) → IsFit m rights a → IsFit m rights b → a ≡ b
+
+-- where they fit, at the bus prices of duals that support a feasible dispatch, they are paid at most the surplus
 abbrev pub LawOfCoveredPayments : Type 0
 LawOfCoveredPayments = (m : Parts) (d : Duals Fraction) (x : Dispatch) (price : ℕ → Fraction) (rights : List TransmissionRight) → IsMarket m → Feasible m x → Supports m x d
     → ((i : ℕ) → i < length m.buses → price i ≡ bus_price m d i) → All (IsTransmissionRight (length m.buses)) rights → IsFit m rights Fits

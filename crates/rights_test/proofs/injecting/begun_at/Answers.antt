@@ -1,4 +1,4 @@
-use Rattle.std.proofs.Common.{rules, Err, ◌≡◌, ◌∙◌, get_or, pos, refl}
+use Rattle.std.proofs.Common.{rules, Err, ◌≡◌, ◌∙◌, get_or}
 use Rattle.market_model.specs.declared.participants.TransmissionRight.{TransmissionRight}
 use Rattle.market_model.specs.Valued.{passed_at}
 use Rattle.market_model.proofs.ChangeLemmas.{same_default}

@@ -1,4 +1,4 @@
-use Rattle.std.proofs.Common.{sym, [], ◌∷◌, refl}
+use Rattle.std.proofs.Common.{[], ◌∷◌, refl}
 use Rattle.fraction_theory.proofs.FieldLaws.{ring_ℚ}
 use Rattle.fraction_theory.proofs.Ring.{by_ring, at, pneg, pnil, ◌⊕◌}
 use Rattle.rights_test.proofs.injecting.less_end.Goals as goal

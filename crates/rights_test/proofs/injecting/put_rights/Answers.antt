@@ -1,4 +1,4 @@
-use Rattle.std.proofs.Common.{rules, Err, ◌≡◌, ◌∙◌, length, arith}
+use Rattle.std.proofs.Common.{rules, Err, ◌≡◌, length, arith}
 use Rattle.market_model.specs.Rights.{rights_injection}
 use Rattle.market_model.proofs.PlaceLists.{put_more, all_put}
 use Rattle.rights_test.specs.Fits.{put_by_rights}

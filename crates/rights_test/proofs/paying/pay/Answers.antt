@@ -1,6 +1,5 @@
 use Rattle.std.proofs.Common.{rules, Err, ◌≡◌, ◌∙◌, ◌+◌, ◌∷◌, ◌++◌, [], ap, sym, subst, get_or, map, refl}
 use Rattle.std.proofs.lemmas.List.{map-append}
-use Rattle.fraction_theory.specs.Fraction.{Fraction}
 use Rattle.exact_fraction.specs.declared.Op.TheVariants as Op
 use Rattle.market_model.specs.declared.participants.TransmissionRight.{TransmissionRight}
 use Rattle.market_model.specs.declared.stops.Stop.TheVariants as why
