@@ -112,7 +112,14 @@ fn verifies_by_places(rt: HostRuntime) -> Result<(), Fail> {
     ] {
         let bytes = tables(SIX);
         let certificate = certificate.as_bytes();
-        let told = verify_told(rt.alloc(), &bytes, PostRating::C, places, edits, certificate)?;
+        let told = verify_told(
+            rt.alloc(),
+            &bytes,
+            PostRating::C,
+            places,
+            edits,
+            certificate,
+        )?;
         assert!(rt; told.status == status);
         assert!(rt; told.text.as_slice() == text.as_bytes());
     }
@@ -125,7 +132,11 @@ fn writes_certificates_anew(rt: HostRuntime) -> Result<(), Fail> {
         let told = migrate_told(rt.alloc(), text.as_bytes())?;
         assert!(rt; told.status == Status::Done);
         assert!(rt; told.text.as_slice() == b"migrated\n".as_slice());
-        let written = told.outputs.certificate.as_deref().unwrap_or(b"".as_slice());
+        let written = told
+            .outputs
+            .certificate
+            .as_deref()
+            .unwrap_or(b"".as_slice());
         assert!(rt; written == SECOND.as_bytes());
     }
     let told = migrate_told(rt.alloc(), b"{\"energy\":\"1/1\"}".as_slice())?;

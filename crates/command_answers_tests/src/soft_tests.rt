@@ -123,7 +123,14 @@ fn verified(alloc: Global, ratings: &str, records: &str, certificate: &[u8]) -> 
     let penalties = penalties(alloc, records)?;
     let bytes = tables(case.as_bytes(), penalties.as_bytes());
     let edits = b"op,target,side,block,value\n".as_slice();
-    Ok(verify_told(alloc, &bytes, PostRating::C, FactorPlaces::Six, edits, certificate)?)
+    Ok(verify_told(
+        alloc,
+        &bytes,
+        PostRating::C,
+        FactorPlaces::Six,
+        edits,
+        certificate,
+    )?)
 }
 
 /// Clears, and verifies the certificate where there is one.

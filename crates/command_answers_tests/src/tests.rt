@@ -68,9 +68,21 @@ fn tells_of_each_command(rt: HostRuntime) -> Result<(), Fail> {
     assert!(rt; cleared.outputs.certificate.is_some());
     let replayed = replay_told(alloc, &bytes, PostRating::C, FactorPlaces::Six, edits)?;
     expect(&rt, &replayed, done, b"step 1 clear\ncleared\n");
-    let verified = verify_told(alloc, &bytes, PostRating::C, FactorPlaces::Six, edits, CERTIFICATE)?;
+    let verified = verify_told(
+        alloc,
+        &bytes,
+        PostRating::C,
+        FactorPlaces::Six,
+        edits,
+        CERTIFICATE,
+    )?;
     expect(&rt, &verified, done, b"yes\n");
-    expect(&rt, &check_told(alloc, &grid, FactorPlaces::Six)?, done, b"bus most 0 ");
+    expect(
+        &rt,
+        &check_told(alloc, &grid, FactorPlaces::Six)?,
+        done,
+        b"bus most 0 ",
+    );
     let made = make_told(alloc, 4, 7)?;
     expect(
         &rt,

@@ -208,7 +208,12 @@ fn clears_with_outages_of_units(rt: HostRuntime) -> Result<(), Fail> {
         (both, BOTH),
     ] {
         let texts = Texts::new(rt.alloc(), &example)?;
-        let told = clear_told(rt.alloc(), &texts.tables(), PostRating::C, FactorPlaces::Six)?;
+        let told = clear_told(
+            rt.alloc(),
+            &texts.tables(),
+            PostRating::C,
+            FactorPlaces::Six,
+        )?;
         assert!(rt; tells(&told, Status::Done, text));
         assert!(rt; told.outputs.certificate.is_some());
         if let Some(certificate) = &told.outputs.certificate {
@@ -251,7 +256,13 @@ fn refuses_with_outages_of_units(rt: HostRuntime) -> Result<(), Fail> {
         "no Limit branch 3 outage 0 unit 1\n",
     )?;
     let edits = b"op,target,side,block,value\nprice,2,sell,1,31\nquantity,1,sell,1,30\nclear,,,,\n";
-    let replayed = replay_told(rt.alloc(), &texts.tables(), PostRating::C, FactorPlaces::Six, edits)?;
+    let replayed = replay_told(
+        rt.alloc(),
+        &texts.tables(),
+        PostRating::C,
+        FactorPlaces::Six,
+        edits,
+    )?;
     assert!(rt; tells(&replayed, Status::Done, FEWER));
     let short = Texts::new(
         rt.alloc(),
@@ -260,7 +271,12 @@ fn refuses_with_outages_of_units(rt: HostRuntime) -> Result<(), Fail> {
             ..WORKED
         },
     )?;
-    let told = clear_told(rt.alloc(), &short.tables(), PostRating::C, FactorPlaces::Six)?;
+    let told = clear_told(
+        rt.alloc(),
+        &short.tables(),
+        PostRating::C,
+        FactorPlaces::Six,
+    )?;
     assert!(rt;
         tells(
             &told,

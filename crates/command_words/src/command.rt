@@ -62,12 +62,7 @@ fn file_option<'a>(alloc: Global, name: &'a str, help: &'a str) -> Arg<'a>
 }
 
 /// An option that takes one of these words.
-fn choice_option<'a>(
-    alloc: Global,
-    name: &'a str,
-    help: &'a str,
-    choices: &'a [&'a str],
-) -> Arg<'a>
+fn choice_option<'a>(alloc: Global, name: &'a str, help: &'a str, choices: &'a [&'a str]) -> Arg<'a>
     ensures rule { rule_of result ≡ choice_rule name.entry.now choices.entry }
     ensures local { result.global ≡ false }
 {

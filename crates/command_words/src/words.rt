@@ -320,7 +320,12 @@ pub fn request_of<'a>(alloc: Global, words: &'a [String]) -> Result<Request<'a>,
     ensures asked { IfOk result (Asks (map string_bytes words.entry.now)) }
     ensures refused { IfErr result (λ stop. stop ≢ WordsStop.Memory → AsksNothing (map string_bytes words.entry.now)) }
 {
-    let command = match sced_command(alloc, SIZES.as_slice(), RATINGS.as_slice(), PLACES.as_slice()) {
+    let command = match sced_command(
+        alloc,
+        SIZES.as_slice(),
+        RATINGS.as_slice(),
+        PLACES.as_slice(),
+    ) {
         Ok(command) => command,
         Err(_) => return Err(WordsStop::Memory),
     };

@@ -19,7 +19,7 @@ use crate::causes::lost_unit;
 use crate::flowing::with_share;
 use crate::places::found_row;
 use exact_fraction::{Exact, Passed, exact_difference};
-use market_data::{SHARE_ONE, FACTOR_ONE};
+use market_data::{FACTOR_ONE, SHARE_ONE};
 use market_model::{Cause, Market, Pickup, Row, RowId};
 
 /// The shift factor of a line for a bus, in 10^-9, with its size.
