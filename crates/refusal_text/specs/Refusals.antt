@@ -23,6 +23,8 @@ use Rattle.outage_list.specs.declared.unit_fault.UnitOutageFault.{UnitOutageFaul
 use Rattle.outage_list.specs.declared.unit_fault.UnitOutageFault.TheVariants as unit_outage_fault
 use Rattle.offer_book.specs.declared.offer_table.OfferFault.{OfferFault}
 use Rattle.offer_book.specs.declared.offer_table.OfferFault.TheVariants as offer_fault
+use Rattle.rights_test.specs.declared.right_parts.RightsFault.{RightsFault}
+use Rattle.rights_test.specs.declared.right_parts.RightsFault.TheVariants as rights_fault
 use Rattle.edit_table.specs.declared.StepFault.{StepFault}
 use Rattle.edit_table.specs.declared.StepFault.TheVariants as step_fault
 use Rattle.cert_format.specs.declared.certificate.Key.{Key}
@@ -83,6 +85,12 @@ offer_words (offer_fault.Negative line) = codes "Negative" ++ codes " line " ++ 
 offer_words (offer_fault.OutOfOrder line) = codes "OutOfOrder" ++ codes " line " ++ decimal line
 offer_words (offer_fault.OverCapacity line) = codes "OverCapacity" ++ codes " line " ++ decimal line
 offer_words offer_fault.Memory = []
+
+unfoldable pub rights_words : RightsFault → List ℕ
+rights_words (rights_fault.Frame f) = frame_words f
+rights_words (rights_fault.NoBus line) = codes "NoBus" ++ codes " line " ++ decimal line
+rights_words (rights_fault.Negative line) = codes "Negative" ++ codes " line " ++ decimal line
+rights_words rights_fault.Memory = []
 
 unfoldable pub step_words : StepFault → List ℕ
 step_words (step_fault.Frame f) = frame_words f
@@ -152,6 +160,7 @@ input_name input.UnitOutages = codes "unit-outages "
 input_name input.Offers = codes "offers "
 input_name input.Offsets = codes "offsets "
 input_name input.Penalties = codes "penalties "
+input_name input.Rights = codes "rights "
 input_name input.Edits = codes "edits "
 input_name input.Certificate = codes "certificate "
 
@@ -166,6 +175,7 @@ refusal_words (refusal.Outages f) = codes "contingencies " ++ outage_words f
 refusal_words (refusal.UnitOutages f) = codes "unit-outages " ++ unit_outage_words f
 refusal_words (refusal.Uncovered lack) = codes "factors " ++ lack_words lack
 refusal_words (refusal.Offers f) = codes "offers " ++ offer_words f
+refusal_words (refusal.Rights f) = codes "rights " ++ rights_words f
 refusal_words (refusal.Edits f) = codes "edits " ++ step_words f
 refusal_words (refusal.Certificate k) = codes "certificate Key " ++ key_name k
 

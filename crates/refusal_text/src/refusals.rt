@@ -2,7 +2,7 @@
 
 ghost use Rattle.std.specs.Prelude.{◌≡◌, ◌++◌, codes, decimal, IfOk};
 ghost use Rattle.line_text.specs.Decimals.{decimal_text};
-ghost use Rattle.refusal_text.specs.Refusals.{field_name, why_name, case_words, net_words, frame_words, table_words, side_text, outage_words, unit_outage_words, lack_words, offer_words, step_words, key_name, input_name, refusal_words, refusal_line};
+ghost use Rattle.refusal_text.specs.Refusals.{field_name, why_name, case_words, net_words, frame_words, table_words, side_text, outage_words, unit_outage_words, lack_words, offer_words, rights_words, step_words, key_name, input_name, refusal_words, refusal_line};
 
 use case_text::{CaseFault, Field};
 use cert_format::Key;
@@ -14,6 +14,7 @@ use offer_book::OfferFault;
 use outage_list::{OutageFault, UnitOutageFault};
 use plain_list::{List, Memory};
 use record_reading::{FrameFault, Why};
+use rights_test::RightsFault;
 use scaled_decimal::DecimalFault;
 use std::alloc::Global;
 
@@ -34,6 +35,8 @@ pub enum Input {
     Offsets,
     /// The table of penalties.
     Penalties,
+    /// The table of transmission rights.
+    Rights,
     /// The table of edits and clears.
     Edits,
     /// What shows that a clear came to what it did.
@@ -59,6 +62,7 @@ pub enum Refusal {
     /// What the two tables of factors lack together.
     Uncovered(Uncovered),
     Offers(OfferFault),
+    Rights(RightsFault),
     Edits(StepFault),
     /// The first part of a certificate that is at fault.
     Certificate(Key),
@@ -220,6 +224,18 @@ fn write_offer_fault(text: &mut Text, fault: OfferFault) -> Result<(), Memory>
     }
 }
 
+#[tactic(auto, using(std::proofs::Common::append_assoc), unfolding(crate::specs::Refusals::rights_words))]
+fn write_rights_fault(text: &mut Text, fault: RightsFault) -> Result<(), Memory>
+    ensures { IfOk result (λ _. text.new ≡ text.old ++ rights_words fault) }
+{
+    match fault {
+        RightsFault::Frame(fault) => write_frame_fault(text, fault),
+        RightsFault::NoBus { line } => at_line(text, b"NoBus", line),
+        RightsFault::Negative { line } => at_line(text, b"Negative", line),
+        RightsFault::Memory => Ok(()),
+    }
+}
+
 #[tactic(auto, using(std::proofs::Common::append_assoc), unfolding(crate::specs::Refusals::step_words))]
 fn write_step_fault(text: &mut Text, fault: StepFault) -> Result<(), Memory>
     ensures { IfOk result (λ _. text.new ≡ text.old ++ step_words fault) }
@@ -339,6 +355,7 @@ fn input_word(input: Input) -> &'static [u8]
         Input::Offers => b"offers ",
         Input::Offsets => b"offsets ",
         Input::Penalties => b"penalties ",
+        Input::Rights => b"rights ",
         Input::Edits => b"edits ",
         Input::Certificate => b"certificate ",
     }
@@ -386,6 +403,10 @@ fn write_refusal(text: &mut Text, refusal: &Refusal) -> Result<(), Memory>
         Refusal::Offers(fault) => {
             text.word(b"offers ")?;
             write_offer_fault(text, *fault)
+        }
+        Refusal::Rights(fault) => {
+            text.word(b"rights ")?;
+            write_rights_fault(text, *fault)
         }
         Refusal::Edits(fault) => {
             text.word(b"edits ")?;
