@@ -13,10 +13,10 @@ use Rattle.network_theory.specs.Networks.{Branch, Network, IsNetwork, flow, leav
 use Rattle.network_theory.proofs.SignedSums.{sum_above, term_within, sum_by-neg}
 use Rattle.network_theory.proofs.FlowSigns.{falls, rises, carried_down, carried_back}
 
-pub test_holds : (w i : ℕ) → w ≡ i → (w == i) ≡ true
+test_holds : (w i : ℕ) → w ≡ i → (w == i) ≡ true
 test_holds w i e = elim (eqb_tells w i) [ inl t ↦ t.0 | inr t ↦ absurd (t.1 e) ]
 
-pub test_tells : (w i : ℕ) → (w == i) ≡ true → w ≡ i
+test_tells : (w i : ℕ) → (w == i) ≡ true → w ≡ i
 test_tells w i e = elim (eqb_tells w i) [ inl t ↦ t.1 | inr t ↦ absurd (Prim.cc) ]
 
 -- no bus has a lesser angle
@@ -24,7 +24,7 @@ pub record IsLeast (n : Network) (angle : ℕ → Fraction) (i : ℕ) : Type 0 w
   pub within : i < n.buses
   pub least : (j : ℕ) → j < n.buses → angle i ≤ℚ angle j
 
--- of finitely many numbers one is least
+-- of finitely many numbers one is the least
 least_of : (angle : ℕ → Fraction) (k : ℕ) → (m : ℕ) × (m < suc k) × ((j : ℕ) → j < suc k → angle m ≤ℚ angle j)
 least_of angle zero = (0, Prim.omega arith, λ j h. ≤ℚ_of_same (angle 0) (angle j) (ap angle (Prim.omega (arith, h))))
 least_of angle (suc k) = by_order (least_of angle k)
@@ -49,7 +49,7 @@ least_of angle (suc k) = by_order (least_of angle k)
       )
     ]
 
-pub least_place : (n : Network) (angle : ℕ → Fraction) (i : ℕ) → i < n.buses → (m : ℕ) × IsLeast n angle m
+least_place : (n : Network) (angle : ℕ → Fraction) (i : ℕ) → i < n.buses → (m : ℕ) × IsLeast n angle m
 least_place n angle i h = by_count n.buses refl
   where
     by_count : (k : ℕ) → k ≡ n.buses → (m : ℕ) × IsLeast n angle m
@@ -114,13 +114,13 @@ module _ (n : Network) (angle : ℕ → Fraction) (is : IsNetwork n) where
         let one = is.branches b near.there in
         elim near.ends [
           | inl e ↦ lower k (subst (λ (t : ℕ). t < n.buses) e.1 one.to)
-              (subst₂' (λ (s t : ℕ). angle t ≤ℚ angle s) e.0 e.1 (falls b.susceptance (angle b.from) (angle b.to) one.susceptance (from_rests b near.there e.0)))
+              (at_both (λ (s t : ℕ). angle t ≤ℚ angle s) e.0 e.1 (falls b.susceptance (angle b.from) (angle b.to) one.susceptance (from_rests b near.there e.0)))
           | inr e ↦ lower k (subst (λ (t : ℕ). t < n.buses) e.0 one.from)
-              (subst₂' (λ (s t : ℕ). angle s ≤ℚ angle t) e.0 e.1 (rises b.susceptance (angle b.from) (angle b.to) one.susceptance (to_rests b near.there e.1)))
+              (at_both (λ (s t : ℕ). angle s ≤ℚ angle t) e.0 e.1 (rises b.susceptance (angle b.from) (angle b.to) one.susceptance (to_rests b near.there e.1)))
         ]
       where
-        subst₂' : (P : ℕ → ℕ → Type 0) {s s' t t' : ℕ} → s ≡ s' → t ≡ t' → P s t → P s' t'
-        subst₂' P {s} {s'} {t} {t'} p q x = subst (λ (v : ℕ). P s' v) q (subst (λ (v : ℕ). P v t) p x)
+        at_both : (P : ℕ → ℕ → Type 0) {s s' t t' : ℕ} → s ≡ s' → t ≡ t' → P s t → P s' t'
+        at_both P {s} {s'} {t} {t'} p q x = subst (λ (v : ℕ). P s' v) q (subst (λ (v : ℕ). P v t) p x)
 
         lower : (k : ℕ) → k < n.buses → angle k ≤ℚ angle i → IsLeast n angle k
         lower k w p = record { within = w; least = λ j q. ≤ℚ_trans (angle k) (angle i) (angle j) p (l.least j q) }

@@ -6,14 +6,14 @@ use Rattle.fraction_theory.specs.Fraction.{Fraction, whole, ◌-ℚ◌, ◌*ℚ�
 use Rattle.fraction_theory.specs.Order.{◌<ℚ◌}
 use Rattle.fraction_theory.specs.Sums.{sum_by}
 
--- A branch between the buses at two places; its susceptance is 1 over its reactance. A flow from the first to the second is
--- above 0.
+-- A branch between the buses at two places, and its susceptance, which is 1 over its reactance: the power that it carries for
+-- each unit of the angle between its ends. A flow from the first bus to the second is above 0.
 pub record Branch : Type 0 where
   pub from : ℕ
   pub to : ℕ
   pub susceptance : Fraction
 
--- So many buses, and the branches between them; several may join the same two.
+-- So many buses, and the branches between them. Several may join the same two; one that leads from a bus to itself carries nothing.
 pub record Network : Type 0 where
   pub buses : ℕ
   pub branches : List Branch
