@@ -1,0 +1,24 @@
+-- Chains of neighbours turned round and put together: a network that is connected to one bus is connected to each.
+use Rattle.std.specs.Prelude.{ℕ, ◌<◌, List, [], ◌∷◌, ◌++◌, refl}
+use Rattle.std.proofs.Common.{sym, subst, inl, inr}
+use Rattle.network_theory.specs.Networks.{Network, AreNeighbours, Lead, AreJoined, IsConnected}
+
+module _ (n : Network) where
+  neighbours_sym : (i j : ℕ) → AreNeighbours n i j → AreNeighbours n j i
+  neighbours_sym i j h = record { branch = h.branch; there = h.there; ends = elim h.ends [ inl e ↦ inr e | inr e ↦ inl e ] }
+
+  Lead-append : (ks more : List ℕ) (i j k : ℕ) → Lead n ks i j → Lead n more j k → Lead n (ks ++ more) i k
+  Lead-append [] more i j k e h = subst (λ (t : ℕ). Lead n more t k) (sym e) h
+  Lead-append (c ∷ ks) more i j k h g = (h.0, Lead-append ks more c j k h.1 g)
+
+  joined_trans : (i j k : ℕ) → AreJoined n i j → AreJoined n j k → AreJoined n i k
+  joined_trans i j k h g = record { chain = h.chain ++ g.chain; lead = Lead-append h.chain g.chain i j k h.lead g.lead }
+
+  turned_lead : (ks : List ℕ) (i j : ℕ) → Lead n ks i j → AreJoined n j i
+  turned_lead [] i j e = record { chain = []; lead = sym e }
+  turned_lead (k ∷ ks) i j h = joined_trans j k i (turned_lead ks k j h.1) (record { chain = i ∷ []; lead = (neighbours_sym i k h.0, refl) })
+
+  pub connected_to : (r s : ℕ) → IsConnected n r → s < n.buses → IsConnected n s
+  connected_to r s c h =
+      let back = c.joined s h in
+      record { joined = λ i p. joined_trans i r s (c.joined i p) (turned_lead back.chain s r back.lead) }

@@ -1,0 +1,9 @@
+pub mod ByParts
+pub mod Chains
+pub mod Factors
+pub mod FlowSigns
+pub mod LeastAngles
+pub mod Places
+pub mod SignedSums
+pub mod Solutions
+mod WorkedCases

@@ -1,0 +1,5 @@
+use Rattle.network_theory.proofs.Solutions.{law_of_the_greatest_angle}
+use Rattle.network_theory.proofs.laws.greatest_angle.Goals as goal
+
+pub returns : goal.returns
+returns c = law_of_the_greatest_angle

@@ -1,0 +1,42 @@
+//! Laws of the definitions, each the contract of a function that does nothing.
+ghost use Rattle.network_theory.specs.Laws.{LawOfTheLeastAngle, LawOfTheGreatestAngle, LawOfOneSolution, LawOfRest, LawOfTheTransfer, LawOfTheFactors, LawOfBalance, LawOfReciprocity};
+
+/// In a connected network where no bus but the reference has an injection below 0, no angle is below that of the reference.
+pub fn least_angle()
+    ensures { LawOfTheLeastAngle }
+{}
+
+/// Where none but the reference has an injection above 0, no angle is above that of the reference.
+pub fn greatest_angle()
+    ensures { LawOfTheGreatestAngle }
+{}
+
+/// Angles are fixed by the angle at the reference and the injections at all other buses.
+pub fn one_solution()
+    ensures { LawOfOneSolution }
+{}
+
+/// Without injections all angles are that of the reference.
+pub fn no_injections()
+    ensures { LawOfRest }
+{}
+
+/// The angles of a transfer are greatest at its source and least at its sink.
+pub fn transfer_falls()
+    ensures { LawOfTheTransfer }
+{}
+
+/// The factors of a transfer have a size of at most 1.
+pub fn factors_within_one()
+    ensures { LawOfTheFactors }
+{}
+
+/// All injections sum to 0.
+pub fn injections_balance()
+    ensures { LawOfBalance }
+{}
+
+/// Two solutions of one network are reciprocal.
+pub fn solutions_are_reciprocal()
+    ensures { LawOfReciprocity }
+{}
