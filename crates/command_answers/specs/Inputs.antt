@@ -74,8 +74,8 @@ IsCertified rating places texts edits certificate told =
 
 -- ---- a certificate alone
 -- what its text stands for
-abbrev pub IsMigrated : List ℕ → Result (Cert Fraction) Refusal → Type 0
-IsMigrated certificate told = Is (certificate_in (sized (refusal.TooLong input.Certificate) certificate)) told
+abbrev pub IsCertificate : List ℕ → Result (Cert Fraction) Refusal → Type 0
+IsCertificate certificate told = Is (certificate_in (sized (refusal.TooLong input.Certificate) certificate)) told
 
 -- ---- a market with transmission rights
 pub record MarketRights : Type 0 where

@@ -22,7 +22,7 @@ use Rattle.command_answers.specs.Inputs.{MarketRights}
 use Rattle.command_answers.specs.RightsLines.{rights_lines}
 use Rattle.command_answers.specs.Tellings.{Telling, uncertified}
 
--- rights that fit are as well as could be; those that do not are refuted
+-- done where they fit, and refuted where they do not
 abbrev pub fit_status : Fit Fraction → Status
 fit_status fit.Fits = status.Done
 fit_status (fit.Breaks row flow) = status.Refuted

@@ -2,7 +2,7 @@
 
 ghost use Rattle.std.specs.Prelude.{◌≡◌, IfOk};
 ghost use Rattle.cert_format.specs.Certificates.{cert_at};
-ghost use Rattle.command_answers.specs.Inputs.{IsMigrated};
+ghost use Rattle.command_answers.specs.Inputs.{IsCertificate};
 ghost use Rattle.command_answers.specs.Migrating.{TellsMigration};
 ghost use Rattle.command_answers.specs.Status.{IsOfWork};
 ghost use Rattle.command_answers.specs.Tellings.{Tells, telling_of};
@@ -34,7 +34,7 @@ fn migrated<N: Exact>(alloc: Global, certificate: &Cert<N>) -> Result<Told, Memo
 /// What the whole bytes of a certificate come to, of whatever version, that is to be written anew.
 pub fn migrate_told(alloc: Global, certificate: &[u8]) -> Result<Told, Memory>
     ensures status { IfOk result (λ told. IsOfWork told.status) }
-    ensures tells { IfOk result (λ told. Tells (IsMigrated certificate.now) TellsMigration (telling_of told)) }
+    ensures tells { IfOk result (λ told. Tells (IsCertificate certificate.now) TellsMigration (telling_of told)) }
 {
     match read_certificate(alloc, certificate) {
         Ok(read) => migrated(alloc, &read),

@@ -5,7 +5,7 @@ ghost use Rattle.std.specs.Prelude.{◌≡◌};
 /// The exit status of a run.
 #[derive(Clone, Copy, PartialEq, Eq, Debug)]
 pub enum Status {
-    /// Cleared, each step of a replay accepted or cleared, a certificate that holds, or within rounding.
+    /// Cleared, each step of a replay accepted or cleared, a certificate that holds or is written anew, rights that fit, or within rounding.
     Done,
     /// The words are none that the program takes.
     Usage,

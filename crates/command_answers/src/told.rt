@@ -12,7 +12,7 @@ use std::alloc::Global;
 /// What a command has to write to files, whatever stands for each: its bytes, the name of its file. They are written in this order.
 #[derive(Clone, Copy, Debug, Drop)]
 pub struct Outputs<T> {
-    /// The certificate of what was cleared last.
+    /// The certificate of what was cleared last, or one that is written anew.
     pub certificate: Option<T>,
 }
 

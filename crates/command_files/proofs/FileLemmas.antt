@@ -19,7 +19,7 @@ use Rattle.edit_table.specs.EditTable.{header as edit_header}
 use Rattle.command_words.specs.Words.{CheckNames, MarketNames}
 use Rattle.command_answers.specs.Checking.{TellsCheck}
 use Rattle.command_answers.specs.Clearing.{TellsClear}
-use Rattle.command_answers.specs.Inputs.{AreEntitled, IsCertified, IsCheck, IsLimited, IsMigrated, IsPool, IsReplayed, MarketCertificate, MarketRights, MarketSteps}
+use Rattle.command_answers.specs.Inputs.{AreEntitled, IsCertificate, IsCertified, IsCheck, IsLimited, IsPool, IsReplayed, MarketCertificate, MarketRights, MarketSteps}
 use Rattle.command_answers.specs.Migrating.{TellsMigration}
 use Rattle.command_answers.specs.Replaying.{TellsReplay}
 use Rattle.command_answers.specs.Rights.{TellsRights}
@@ -160,7 +160,7 @@ files-rights (Some f) names rights bytes rights_read t read read_rights right =
       comes = right.comes;
     }
 
-pub file-migrate : (files : Option Files) (certificate certificate_read : List ℕ) (t : Telling) → Reads files certificate 33554432 certificate_read → Tells (IsMigrated certificate_read) TellsMigration t
+pub file-migrate : (files : Option Files) (certificate certificate_read : List ℕ) (t : Telling) → Reads files certificate 33554432 certificate_read → Tells (IsCertificate certificate_read) TellsMigration t
     → OfFiles files (λ f. IsMigratedFile f certificate) TellsMigration t
 file-migrate None certificate certificate_read t read right = tt
 file-migrate (Some f) certificate certificate_read t read right =

@@ -9,7 +9,7 @@ use Rattle.market_tables.specs.Tables.{GridTexts, MarketTexts}
 use Rattle.refusal_text.specs.declared.refusals.Refusal.{Refusal}
 use Rattle.edit_table.specs.EditTable.{header as edit_header}
 use Rattle.command_words.specs.Words.{CheckNames, MarketNames}
-use Rattle.command_answers.specs.Inputs.{AreEntitled, IsCertified, IsCheck, IsLimited, IsMigrated, IsPool, IsReplayed, MarketCertificate, MarketRights, MarketSteps}
+use Rattle.command_answers.specs.Inputs.{AreEntitled, IsCertificate, IsCertified, IsCheck, IsLimited, IsPool, IsReplayed, MarketCertificate, MarketRights, MarketSteps}
 use Rattle.command_answers.specs.Tellings.{Telling, Tells}
 use Rattle.command_files.specs.Reading.{HaveGridTexts, HaveTexts, IsTable, source_of}
 
@@ -57,7 +57,7 @@ pub record AreRightsFiles (files : Files) (names : MarketNames) (rights_name : L
 pub record IsMigratedFile (files : Files) (certificate_name : List ℕ) (told : Result (Cert Fraction) Refusal) : Type 0 where
   pub certificate : List ℕ
   pub certificate_is : files certificate_name ≡ Some certificate
-  pub read : IsMigrated certificate told
+  pub read : IsCertificate certificate told
 
 -- those of a check stand for these inputs
 pub record AreCheckFiles (files : Files) (names : CheckNames) (told : Result Inputs Refusal) : Type 0 where

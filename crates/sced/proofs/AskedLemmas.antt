@@ -15,7 +15,7 @@ use Rattle.command_words.specs.Words.{AsksClear, AsksMake, AsksPool, CheckNames,
 use Rattle.command_words.proofs.WordsLemmas.{asks-once, checks-once, clears-once, enters-one, makes-once, migrates-once, names-apart, replays-once, rights-once, verifies-once}
 use Rattle.command_answers.specs.Checking.{TellsCheck}
 use Rattle.command_answers.specs.Clearing.{TellsClear, most_size}
-use Rattle.command_answers.specs.Inputs.{AreEntitled, IsCertified, IsCheck, IsLimited, IsMigrated, IsReplayed, MarketCertificate, MarketRights, MarketSteps}
+use Rattle.command_answers.specs.Inputs.{AreEntitled, IsCertificate, IsCertified, IsCheck, IsLimited, IsReplayed, MarketCertificate, MarketRights, MarketSteps}
 use Rattle.command_answers.specs.Migrating.{TellsMigration}
 use Rattle.command_answers.specs.Replaying.{TellsReplay}
 use Rattle.command_answers.specs.Rights.{TellsRights}
@@ -81,7 +81,7 @@ rights-files-once files names rights a b h k =
 
 migrated-file-once : (files : Files) (certificate : List ℕ) → OfOne (IsMigratedFile files certificate)
 migrated-file-once files certificate a b h k =
-    sym h.read ∙ sym (subst (λ text. IsMigrated text b) (same-bytes k.certificate h.certificate (files certificate) k.certificate_is h.certificate_is) k.read) ∙ refl
+    sym h.read ∙ sym (subst (λ text. IsCertificate text b) (same-bytes k.certificate h.certificate (files certificate) k.certificate_is h.certificate_is) k.read) ∙ refl
 
 -- what is told is told of what the files stand for, or of their first fault
 told-of : {A : Type 0} (stand : Result A Refusal → Type 0) (right : A → Telling → Type 0) (r : Result A Refusal) (t : Telling) → OfOne stand → stand r → Tells stand right t → ComesTo right r t

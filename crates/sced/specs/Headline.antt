@@ -256,8 +256,8 @@ LawOfRoundTrip = (words again : List (List ℕ)) (files later : Files) (text ans
 -- ---- rights
 -- The market is cleared, best and priced as above, and behind the report stand whether limits could carry the rights together and what each is
 -- paid by the bus prices that are printed. Where they could, the rights are paid no more than the surplus; where not, the first limit that is broken is told.
--- Or the report stands alone: that nothing qualifies, or two numbers that are a working pair of the market and pass 127 bits, so that this
--- does not come where none does. Or in place of the lines on rights stand two numbers of a sum of these.
+-- Or the report stands alone: that nothing qualifies, or two numbers that are a working pair of the market and pass 127 bits; where no
+-- working pair passes, this never comes. Or in place of the lines on rights stand two numbers of a sum of these.
 pub data IsEntitled (m : Parts) (rights : List TransmissionRight) (text : List ℕ) : Status → Type 0 where
   rights_fit : (a : Answer Fraction) → HasGreatestWelfare m (dispatch_in a) → IsPriced m a → AreFeasibleTogether m rights
       → text ≡ report_text m (Cleared a) ++ rights_lines Fits (payments_of (total_at (λ x. x) a.prices) rights)
@@ -279,7 +279,7 @@ LawOfRights = (words : List (List ℕ)) (files : Files) (text : List ℕ) (s : S
 
 -- ---- migrate
 -- what was read of the certificate is written in the version of today, and it is read back as the same
-pub record IsMigrated (c : Cert Fraction) (text : List ℕ) (s : Status) (has : Option (List ℕ)) : Type 0 where
+pub record IsWrittenAnew (c : Cert Fraction) (text : List ℕ) (s : Status) (has : Option (List ℕ)) : Type 0 where
   pub done : s ≡ status.Done
   pub said : text ≡ codes "migrated\n"
   pub written : has ≡ Some (cert_text c)
@@ -287,7 +287,7 @@ pub record IsMigrated (c : Cert Fraction) (text : List ℕ) (s : Status) (has : 
 
 abbrev pub LawOfMigrate : Type 0
 LawOfMigrate = (words : List (List ℕ)) (files later : Files) (text : List ℕ) (s : Status) (c : Cert Fraction)
-    → (run : Prints words files text s) → run.after.files ≡ Some later → (asks : AsksToMigrate files words (Ok c)) → IsMigrated c text s (later asks.out)
+    → (run : Prints words files text s) → run.after.files ≡ Some later → (asks : AsksToMigrate files words (Ok c)) → IsWrittenAnew c text s (later asks.out)
 
 -- ---- check
 -- the residuals of the tables are told, and whether they are within what rounding explains

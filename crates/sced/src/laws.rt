@@ -65,7 +65,7 @@ pub fn rights()
     ensures { LawOfRights }
 {}
 
-/// A certificate of an earlier version is written in the version of today, and is read back as the same certificate.
+/// A certificate of any version that is read is written in the version of today, and is read back as the same certificate.
 pub fn migrate()
     ensures { LawOfMigrate }
 {}
