@@ -46,6 +46,8 @@ pub trait Exact: Copy {
     ghost use Rattle.fraction_theory.specs.Order.{◌<ℚ◌};
     ghost use Rattle.fraction_theory.specs.Signs.{sign_of};
     ghost use Rattle.std.specs.Ordering.{MatchOrdering};
+    ghost use Rattle.std.specs.Prelude.{IfSome};
+    ghost use Rattle.exact_fraction.specs.Floor.{IsFloor};
     ghost use Rattle.exact_fraction.specs.Passes.{IsExact, IsExactWith};
     ghost use Rattle.exact_fraction.specs.Written.{written, parts_text};
 
@@ -77,6 +79,10 @@ pub trait Exact: Copy {
     /// The true order of the values. Nothing is multiplied, so nothing passes the bound.
     fn order(self, other: Self) -> Ordering
         ensures { MatchOrdering result (value self <ℚ value other) (value self ≡ value other) (value other <ℚ value self) };
+
+    /// The greatest whole number that is not above this one, where 64 bits hold it.
+    fn floor(self) -> Option<i64>
+        ensures { IfSome result (IsFloor (value self)) };
 
     /// The exact sum, or, exactly where it passes the bound over the least common denominator, the two sides.
     fn plus(self, other: Self) -> Result<Self, Passed<Self>>
