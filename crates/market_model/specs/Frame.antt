@@ -1,4 +1,4 @@
--- The frame of a market: what no edit changes. It is the factors with how many places their tables had, the places and sides of blocks, the units with their fixed parts, the outages,
+-- The frame of a market: what no edit changes. It is the factors with how many places each may have, the places and sides of blocks, the units with their fixed parts, the outages,
 -- the offsets, which limits there are, and their penalties and excesses.
 -- Source: own.
 use Rattle.std.specs.Prelude.{◌≡◌, pos, map, option_map}

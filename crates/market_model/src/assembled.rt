@@ -109,7 +109,7 @@ impl Market {
         &self.parts.pickups
     }
 
-    /// How many decimal places the tables had in which the factors stood.
+    /// How many decimal places a factor in the tables may have.
     pub fn places(&self) -> FactorPlaces
         ensures { result ≡ self.now.places }
     {

@@ -116,7 +116,7 @@ pub struct Parts {
     pub unit_outages: List<usize>,
     /// What others pick up then.
     pub pickups: List<Pickup>,
-    /// How many decimal places the tables had in which the factors stood.
+    /// How many decimal places a factor in the tables may have.
     pub places: FactorPlaces,
 }
 
