@@ -8,6 +8,9 @@ use Rattle.market_model.specs.Valued.{dual_at}
 use Rattle.std.proofs.lemmas.Str.{IsUtf8-from_is_utf8, is_utf8-from_IsUtf8}
 use Rattle.fraction_theory.specs.Fraction.{Fraction}
 use Rattle.exact_fraction.specs.Written.{parts_text}
+use Rattle.market_data.specs.Scales.{place_count}
+use Rattle.market_data.specs.declared.scales.FactorPlaces.{FactorPlaces}
+use Rattle.market_data.specs.declared.scales.FactorPlaces.TheVariants.{Six, Nine}
 use Rattle.market_model.specs.declared.answered.Dual.{Dual}
 use Rattle.json.specs.Tree as tree
 use Rattle.json.proofs.Printed.Utf8.{IsUtf8-are_ascii, are_ascii}
@@ -22,8 +25,8 @@ use Rattle.cert_format.specs.declared.certificate.Cert.TheVariants as cert
 use Rattle.cert_format.specs.declared.certificate.Key.TheVariants as key
 use Rattle.cert_format.specs.Certificates.{CertFits, DualFits, Fits, NumbersFit, RowFits, RowsAreDistinct, cert_at, limits_of, most_part}
 use Rattle.cert_format.specs.FractionTexts.{fraction_of}
-use Rattle.cert_format.specs.Grammar.{cert_in, cert_read, each, farkas_in, fraction_in, limit_in, optimal_in}
-use Rattle.cert_format.specs.Written.{cert_data, cert_text, fraction_data, limit_data, with_unit}
+use Rattle.cert_format.specs.Grammar.{cert_in, cert_read, each, farkas_in, fraction_in, limit_in, optimal_in, places_named}
+use Rattle.cert_format.specs.Written.{cert_data, cert_text, ending, fraction_data, limit_data, with_unit}
 use Rattle.cert_format.proofs.FractionLemmas.{fraction_of-read}
 use Rattle.cert_format.proofs.RowLemmas.{names-distinct, not_0}
 use Rattle.cert_format.proofs.TextLemmas.{IsPlain, ItemsArePlain, MembersArePlain, read-compact_text, utf8-data, utf8-parts_text}
@@ -64,12 +67,19 @@ plain-limits (d ∷ ds) h =
       plain-limits ds (λ k x lt. h (suc k) x (omega (arith, lt))),
     ))
 
+count_small : (p : FactorPlaces) → place_count p < 2 ^ 64
+count_small Six = omega arith
+count_small Nine = omega arith
+
+plain-ending : (p : FactorPlaces) → MembersArePlain (ending p)
+plain-ending p = (key_utf8 (codes "places") refl, count_small p, (key_utf8 (codes "version") refl, omega arith, tt))
+
 -- the rows of a certificate have 32 bits
 abbrev pub RowsFit : Cert Fraction → Type 0
 RowsFit c = All (λ d. RowFits d.row) (limits_of c)
 
 pub plain-cert : (c : Cert Fraction) → RowsFit c → IsPlain (cert_data c)
-plain-cert (cert.Optimal blocks energy limits) h = (
+plain-cert (cert.Optimal blocks energy limits places) h = (
   key_utf8 (codes "blocks") refl,
   plain-blocks blocks,
   (
@@ -81,12 +91,12 @@ plain-cert (cert.Optimal blocks energy limits) h = (
       (
         key_utf8 (codes "limits") refl,
         plain-limits limits h,
-        (key_utf8 (codes "version") refl, omega arith, tt),
+        plain-ending places,
       ),
     ),
   ),
 )
-plain-cert (cert.Farkas energy limits) h = (
+plain-cert (cert.Farkas energy limits places) h = (
   key_utf8 (codes "energy") refl,
   utf8-parts_text energy,
   (
@@ -95,7 +105,7 @@ plain-cert (cert.Farkas energy limits) h = (
     (
       key_utf8 (codes "limits") refl,
       plain-limits limits h,
-      (key_utf8 (codes "version") refl, omega arith, tt),
+      plain-ending places,
     ),
   ),
 )
@@ -113,8 +123,8 @@ float-limits [] = refl
 float-limits (d ∷ ds) = or_from _ _ (float-unit d.row.unit (up_of d) refl) (float-limits ds)
 
 pub no-float : (c : Cert Fraction) → has_float (cert_data c) ≡ false
-no-float (cert.Optimal blocks energy limits) = rw (float-blocks blocks, float-limits limits) refl
-no-float (cert.Farkas energy limits) = rw (float-limits limits) refl
+no-float (cert.Optimal blocks energy limits places) = rw (float-blocks blocks, float-limits limits) refl
+no-float (cert.Farkas energy limits places) = rw (float-limits limits) refl
 
 -- ---- nests four deep at most
 flat-blocks : (xs : List Fraction) → tree.items_depth (items_outline (items_of (map fraction_data xs))) ≤ 0
@@ -130,8 +140,8 @@ flat-limits [] = omega arith
 flat-limits (d ∷ ds) = let h = flat-limits ds in let k = flat-unit d.row.unit (up_of d) (omega arith) in omega (arith, h, k)
 
 flat-cert : (c : Cert Fraction) → tree.depth (outline (cert_data c)) ≤ max_depth
-flat-cert (cert.Optimal blocks energy limits) = let h = flat-blocks blocks in let k = flat-limits limits in omega (arith, h, k)
-flat-cert (cert.Farkas energy limits) = let k = flat-limits limits in omega (arith, k)
+flat-cert (cert.Optimal blocks energy limits places) = let h = flat-blocks blocks in let k = flat-limits limits in omega (arith, h, k)
+flat-cert (cert.Farkas energy limits places) = let k = flat-limits limits in omega (arith, k)
 
 -- ---- and is read as the value that was written
 blocks-again : (xs : List Fraction) → of_items (items_outline (items_of (map fraction_data xs))) ≡ Some (items_of (map fraction_data xs))
@@ -140,7 +150,7 @@ blocks-again (x ∷ xs) = rw (blocks-again xs) refl
 
 -- the duals of a limit by the unit that is lost
 module _ (branch outage : ℕ) (up down : Fraction) where
-  abbrev after_unit : ℕ → Dual Fraction
+  abbrev pub after_unit : ℕ → Dual Fraction
   after_unit unit = record { row = record { branch = branch; outage = outage; unit = unit }; up = up; down = down }
 
   unit-again : branch < 2 ^ 32 → outage < 2 ^ 32 → (unit : ℕ) → unit < 2 ^ 32 → of_json (outline (limit_data (after_unit unit))) ≡ Some (limit_data (after_unit unit))
@@ -157,8 +167,8 @@ limits-again (d ∷ ds) h = rw (limit-again d (h 0 d (omega arith)), limits-agai
 
 cert-again : (c : Cert Fraction) → RowsFit c → of_json (outline (cert_data c)) ≡ Some (cert_data c)
 unfolding serde_json_on_literals
-cert-again (cert.Optimal blocks energy limits) h = rw (blocks-again blocks, limits-again limits h, number_of-decimal 1 (omega arith)) refl
-cert-again (cert.Farkas energy limits) h = rw (limits-again limits h, number_of-decimal 1 (omega arith)) refl
+cert-again (cert.Optimal blocks energy limits places) h = rw (blocks-again blocks, limits-again limits h, number_of-decimal (place_count places) (count_small places), number_of-decimal 2 (omega arith)) refl
+cert-again (cert.Farkas energy limits places) h = rw (limits-again limits h, number_of-decimal (place_count places) (count_small places), number_of-decimal 2 (omega arith)) refl
 
 pub read-cert_text : (c : Cert Fraction) → RowsFit c → read (cert_text c) ≡ Some (cert_data c)
 unfolding cert_text
@@ -191,16 +201,20 @@ unfolding each
 limits-back [] h = refl
 limits-back (d ∷ ds) h = rw (limit-back d (h 0 d (omega arith)), limits-back ds (λ k x lt. h (suc k) x (omega (arith, lt)))) refl
 
+pub places-back : (p : FactorPlaces) → places_named (place_count p) ≡ Some p
+places-back Six = refl
+places-back Nine = refl
+
 cert-back : (c : Cert Fraction) → CertFits c → cert_in most_part (cert_data c) ≡ Ok c
 unfolding serde_json_on_literals cert_in optimal_in farkas_in
-cert-back (cert.Optimal blocks energy limits) h =
-    rw (fraction-back most_part energy h.numbers.1, blocks-back blocks h.numbers.0, limits-back limits h.numbers.2, names-distinct limits h.distinct) refl
-cert-back (cert.Farkas energy limits) h =
-    rw (fraction-back most_part energy h.numbers.0, limits-back limits h.numbers.1, names-distinct limits h.distinct) refl
+cert-back (cert.Optimal blocks energy limits places) h =
+    rw (fraction-back most_part energy h.numbers.1, blocks-back blocks h.numbers.0, limits-back limits h.numbers.2, names-distinct limits h.distinct, places-back places) refl
+cert-back (cert.Farkas energy limits places) h =
+    rw (fraction-back most_part energy h.numbers.0, limits-back limits h.numbers.1, names-distinct limits h.distinct, places-back places) refl
 
 rows-fit : (c : Cert Fraction) → CertFits c → RowsFit c
-rows-fit (cert.Optimal blocks energy limits) h k d lt = (h.numbers.2 k d lt).row
-rows-fit (cert.Farkas energy limits) h k d lt = (h.numbers.1 k d lt).row
+rows-fit (cert.Optimal blocks energy limits places) h k d lt = (h.numbers.2 k d lt).row
+rows-fit (cert.Farkas energy limits places) h k d lt = (h.numbers.1 k d lt).row
 
 pub reads-back : (c : Cert Fraction) → CertFits c → cert_read (cert_text c) ≡ Ok c
 unfolding cert_read
@@ -229,8 +243,8 @@ module _ (less most : ℕ) (small : less ≤ most) where
   dual-more d h = record { row = h.row; up = part-more d.up h.up; down = part-more d.down h.down }
 
   pub numbers-more : (c : Cert Fraction) → NumbersFit less c → NumbersFit most c
-  numbers-more (cert.Optimal blocks energy limits) h = (λ k x lt. part-more (get_or blocks k x) (h.0 k x lt), part-more energy h.1, λ k d lt. dual-more (get_or limits k d) (h.2 k d lt))
-  numbers-more (cert.Farkas energy limits) h = (part-more energy h.0, λ k d lt. dual-more (get_or limits k d) (h.1 k d lt))
+  numbers-more (cert.Optimal blocks energy limits places) h = (λ k x lt. part-more (get_or blocks k x) (h.0 k x lt), part-more energy h.1, λ k d lt. dual-more (get_or limits k d) (h.2 k d lt))
+  numbers-more (cert.Farkas energy limits places) h = (part-more energy h.0, λ k d lt. dual-more (get_or limits k d) (h.1 k d lt))
 
 module _ {N : Type 0} (value : N → Fraction) (bound : ℕ) (fits : (x : N) → (unsigned_abs (value x).num ≤ bound) × ((value x).den ≤ bound)) where
   within : (x : N) → Fits bound (value x)
@@ -247,8 +261,8 @@ module _ {N : Type 0} (value : N → Fraction) (bound : ℕ) (fits : (x : N) →
       (limits-fit ds (λ k x lt. h (suc k) x (omega (arith, lt))))
 
   pub numbers-fit : (c : Cert N) → All (λ d. RowFits d.row) (limits_of c) → NumbersFit bound (cert_at value c)
-  numbers-fit (cert.Optimal blocks energy limits) h = (blocks-fit blocks, within energy, limits-fit limits h)
-  numbers-fit (cert.Farkas energy limits) h = (within energy, limits-fit limits h)
+  numbers-fit (cert.Optimal blocks energy limits places) h = (blocks-fit blocks, within energy, limits-fit limits h)
+  numbers-fit (cert.Farkas energy limits places) h = (within energy, limits-fit limits h)
 
   pub written-back : bound ≤ most_part → (c : Cert N) (bytes : List ℕ) → All (λ d. RowFits d.row) (limits_of c) → bytes ≡ cert_text (cert_at value c) → RowsAreDistinct (cert_at value c) → cert_read bytes ≡ Ok (cert_at value c)
   written-back small c bytes h text once =

@@ -12,21 +12,24 @@ use Rattle.cert_format.specs.declared.certificate.Cert.{Cert}
 use Rattle.cert_format.specs.declared.certificate.Cert.TheVariants as cert
 use Rattle.cert_format.specs.declared.certificate.Key.{Key}
 use Rattle.cert_format.specs.declared.certificate.Key.TheVariants as key
-use Rattle.cert_format.specs.declared.reading.Kind.{Kind}
-use Rattle.cert_format.specs.declared.reading.Kind.TheVariants as kind
+use Rattle.cert_format.specs.declared.forms.Kind.{Kind}
+use Rattle.cert_format.specs.declared.forms.Kind.TheVariants as kind
+use Rattle.cert_format.specs.declared.forms.Version.{Version}
 use Rattle.cert_format.specs.Certificates.{CertFits, DualFits, Fits, NamesNoRowTwice, RowsAreDistinct, most_part}
 use Rattle.cert_format.specs.FractionTexts.{fraction_of}
-use Rattle.cert_format.specs.Grammar.{above_0, blocks_in, cert_in, cert_read, check, distinct, each, farkas_in, fraction_at, fraction_in, has_size, has_version, if_distinct, in_32, json_of, kind_in, limit_in, limits_in, members_with, need, number_at, of_kind, optimal_in, unit_at}
+use Rattle.cert_format.specs.Grammar.{above_0, blocks_in, cert_in, cert_read, check, distinct, each, farkas_in, fraction_at, fraction_in, has_size, if_distinct, in_32, json_of, kind_in, limit_in, limits_in, member_count, members_with, need, number_at, of_kind, optimal_in, places_in, unit_at, version_in}
+use Rattle.cert_format.specs.Laws.{LawOfMigration}
+use Rattle.cert_format.proofs.CertLemmas.{reads-back}
 use Rattle.cert_format.proofs.FractionLemmas.{fraction_of-spells}
 use Rattle.cert_format.proofs.RowLemmas.{distinct-names, not_0}
 
 -- ---- parts that are there
-record Had {A B : Type 0} (o : Option A) (f : A → Result B Key) (y : B) : Type 0 where
-  value : A
-  is : o ≡ Some value
-  rest : f value ≡ Ok y
+pub record Had {A B : Type 0} (o : Option A) (f : A → Result B Key) (y : B) : Type 0 where
+  pub value : A
+  pub is : o ≡ Some value
+  pub rest : f value ≡ Ok y
 
-needed : {A B : Type 0} (k : Key) (o : Option A) (f : A → Result B Key) (y : B) → need k o f ≡ Ok y → Had o f y
+pub needed : {A B : Type 0} (k : Key) (o : Option A) (f : A → Result B Key) (y : B) → need k o f ≡ Ok y → Had o f y
 needed k None f y h = cc
 needed k (Some x) f y h = record { value = x; is = refl; rest = h }
 
@@ -34,7 +37,7 @@ checked : {B : Type 0} (k : Key) (b : Bool) (r : Result B Key) (y : B) → check
 checked k true r y h = h
 checked k false r y h = cc
 
-ok_is : (x y : Cert Fraction) → ◌≡◌ {A = Result (Cert Fraction) Key} (Ok x) (Ok y) → x ≡ y
+pub ok_is : (x y : Cert Fraction) → ◌≡◌ {A = Result (Cert Fraction) Key} (Ok x) (Ok y) → x ≡ y
 ok_is x y h = cc
 
 -- ---- numbers
@@ -100,33 +103,38 @@ limits_in-fit d xs h =
     (subst (All (DualFits most_part)) p.1 (each-all (DualFits most_part) (limit_in most_part) limit_in-fits ds ys h2), subst NamesNoRowTwice p.1 (distinct-names ys p.0))))
 
 -- ---- certificates
-optimal_in-fits : (energy : Fraction) (d : Data) (c : Cert Fraction) → Fits most_part energy → optimal_in most_part energy d ≡ Ok c → CertFits c
+optimal_in-fits : (version : Version) (energy : Fraction) (d : Data) (c : Cert Fraction) → Fits most_part energy → optimal_in most_part version energy d ≡ Ok c → CertFits c
 unfolding optimal_in
-optimal_in-fits energy d c fits h =
+optimal_in-fits version energy d c fits h =
     let blocks = needed key.Blocks (blocks_in most_part d) _ c h in
     let limits = needed key.Limits (limits_in most_part d) _ c blocks.rest in
-    let is : cert.Optimal blocks.value energy limits.value ≡ c = ok_is _ c (checked key.Extra (has_size 5 d) (Ok (cert.Optimal blocks.value energy limits.value)) c limits.rest) in
+    let places = needed key.Places (places_in version d) _ c limits.rest in
+    let it = cert.Optimal blocks.value energy limits.value places.value in
+    let is : it ≡ c = ok_is it c (checked key.Extra (has_size (member_count version kind.Optimal) d) (Ok it) c places.rest) in
     let fit = limits_in-fit d limits.value limits.is in
     subst CertFits is (record { numbers = (blocks_in-fit d blocks.value blocks.is, fits, fit.0); distinct = fit.1 })
 
-farkas_in-fits : (energy : Fraction) (d : Data) (c : Cert Fraction) → Fits most_part energy → farkas_in most_part energy d ≡ Ok c → CertFits c
+farkas_in-fits : (version : Version) (energy : Fraction) (d : Data) (c : Cert Fraction) → Fits most_part energy → farkas_in most_part version energy d ≡ Ok c → CertFits c
 unfolding farkas_in
-farkas_in-fits energy d c fits h =
+farkas_in-fits version energy d c fits h =
     let limits = needed key.Limits (limits_in most_part d) _ c (checked key.Blocks (is_none (get (codes "blocks") d)) _ c h) in
-    let is : cert.Farkas energy limits.value ≡ c = ok_is _ c (checked key.Extra (has_size 4 d) (Ok (cert.Farkas energy limits.value)) c limits.rest) in
+    let places = needed key.Places (places_in version d) _ c limits.rest in
+    let it = cert.Farkas energy limits.value places.value in
+    let is : it ≡ c = ok_is it c (checked key.Extra (has_size (member_count version kind.Farkas) d) (Ok it) c places.rest) in
     let fit = limits_in-fit d limits.value limits.is in
     subst CertFits is (record { numbers = (fits, fit.0); distinct = fit.1 })
 
-of_kind-fits : (energy : Fraction) (d : Data) (k : Kind) (c : Cert Fraction) → Fits most_part energy → of_kind most_part energy d k ≡ Ok c → CertFits c
-of_kind-fits energy d kind.Optimal c fits h = optimal_in-fits energy d c fits h
-of_kind-fits energy d kind.Farkas c fits h = farkas_in-fits energy d c fits h
+of_kind-fits : (version : Version) (energy : Fraction) (d : Data) (k : Kind) (c : Cert Fraction) → Fits most_part energy → of_kind most_part version energy d k ≡ Ok c → CertFits c
+of_kind-fits version energy d kind.Optimal c fits h = optimal_in-fits version energy d c fits h
+of_kind-fits version energy d kind.Farkas c fits h = farkas_in-fits version energy d c fits h
 
 cert_in-fits : (d : Data) (c : Cert Fraction) → cert_in most_part d ≡ Ok c → CertFits c
 unfolding cert_in
 cert_in-fits d c h =
-    let kind = needed key.Kind (kind_in d) _ c (checked key.Version (has_version d) _ c (checked key.Json (is_some (as_object d)) _ c h)) in
+    let version = needed key.Version (version_in d) _ c (checked key.Json (is_some (as_object d)) _ c h) in
+    let kind = needed key.Kind (kind_in d) _ c version.rest in
     let energy = needed key.Energy (fraction_at most_part (codes "energy") d) _ c kind.rest in
-    of_kind-fits energy.value d kind.value c (fraction_at-fits most_part (codes "energy") d energy.value energy.is) energy.rest
+    of_kind-fits version.value energy.value d kind.value c (fraction_at-fits most_part (codes "energy") d energy.value energy.is) energy.rest
 
 pub cert_read-fits : (bytes : List ℕ) (c : Cert Fraction) → cert_read bytes ≡ Ok c → CertFits c
 unfolding cert_read
@@ -135,3 +143,7 @@ cert_read-fits bytes c h = let value = needed key.Json (json_of bytes) (cert_in 
 -- so no row is named twice
 pub cert_read-distinct : (bytes : List ℕ) (c : Cert Fraction) → cert_read bytes ≡ Ok c → RowsAreDistinct c
 cert_read-distinct bytes c h = (cert_read-fits bytes c h).distinct
+
+-- ---- what is written of what was read
+pub law_of_migration : LawOfMigration
+law_of_migration bytes c h = reads-back c (cert_read-fits bytes c h)

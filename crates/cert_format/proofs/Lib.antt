@@ -7,4 +7,5 @@ pub mod ListLemmas
 pub mod NumberLemmas
 pub mod QuotientLemmas
 pub mod RowLemmas
+pub mod SameLemmas
 pub mod TextLemmas

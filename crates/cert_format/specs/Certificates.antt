@@ -1,6 +1,7 @@
 -- Certificates, and those of what a clear came to.
 use Rattle.std.specs.Prelude.{◌≢◌, ◌==◌, ◌&&◌, ℕ, ◌<◌, ◌≤◌, ◌-◌, ◌^◌, Bool, List, map, All, AllPairs, Option, Some, None, unsigned_abs}
 use Rattle.fraction_theory.specs.Fraction.{Fraction}
+use Rattle.market_data.specs.declared.scales.FactorPlaces.{FactorPlaces}
 use Rattle.market_model.specs.declared.answered.Answer.{Answer}
 use Rattle.market_model.specs.declared.answered.Dual.{Dual}
 use Rattle.market_model.specs.declared.answered.Farkas as infeasible
@@ -13,13 +14,18 @@ use Rattle.cert_format.specs.declared.certificate.Cert.TheVariants as cert
 
 -- a certificate with each number as the fraction that it stands for
 abbrev pub cert_at : {N : Type 0} → (N → Fraction) → Cert N → Cert Fraction
-cert_at value (cert.Optimal blocks energy limits) = cert.Optimal (map value blocks) (value energy) (map (dual_at value) limits)
-cert_at value (cert.Farkas energy limits) = cert.Farkas (value energy) (map (dual_at value) limits)
+cert_at value (cert.Optimal blocks energy limits places) = cert.Optimal (map value blocks) (value energy) (map (dual_at value) limits) places
+cert_at value (cert.Farkas energy limits places) = cert.Farkas (value energy) (map (dual_at value) limits) places
 
 -- the duals of limits, whatever the kind
 abbrev pub limits_of : {N : Type 0} → Cert N → List (Dual N)
-limits_of (cert.Optimal blocks energy limits) = limits
-limits_of (cert.Farkas energy limits) = limits
+limits_of (cert.Optimal blocks energy limits places) = limits
+limits_of (cert.Farkas energy limits places) = limits
+
+-- how many decimals the factors of the market had
+abbrev pub places_of : {N : Type 0} → Cert N → FactorPlaces
+places_of (cert.Optimal blocks energy limits places) = places
+places_of (cert.Farkas energy limits places) = places
 
 -- the name of a row as a triple: the branch row, that of its outage, and the row of the unit that is lost
 abbrev pub name_of : RowId → ℕ × ℕ × ℕ
@@ -57,25 +63,25 @@ pub record DualFits (most : ℕ) (d : Dual Fraction) : Type 0 where
 
 -- every number of a certificate is within its bound
 abbrev pub NumbersFit : ℕ → Cert Fraction → Type 0
-NumbersFit most (cert.Optimal blocks energy limits) = All (Fits most) blocks × Fits most energy × All (DualFits most) limits
-NumbersFit most (cert.Farkas energy limits) = Fits most energy × All (DualFits most) limits
+NumbersFit most (cert.Optimal blocks energy limits places) = All (Fits most) blocks × Fits most energy × All (DualFits most) limits
+NumbersFit most (cert.Farkas energy limits places) = Fits most energy × All (DualFits most) limits
 
 -- a certificate that has a text: its numbers are within their bounds, and no row is named twice
 pub record CertFits (c : Cert Fraction) : Type 0 where
   pub numbers : NumbersFit most_part c
   pub distinct : RowsAreDistinct c
 
--- ---- the certificates of what a clear came to
+-- ---- the certificates of what a clear came to, where factors had so many places
 -- the dispatch of an answer with its duals
-abbrev pub cert_of : Answer Fraction → Cert Fraction
-cert_of a = cert.Optimal a.dispatch a.duals.energy a.duals.limits
+abbrev pub cert_of : FactorPlaces → Answer Fraction → Cert Fraction
+cert_of places a = cert.Optimal a.dispatch a.duals.energy a.duals.limits places
 
 -- the duals that show that no dispatch is feasible
-abbrev pub cert_against : infeasible.Farkas Fraction → Cert Fraction
-cert_against f = cert.Farkas f.duals.energy f.duals.limits
+abbrev pub cert_against : FactorPlaces → infeasible.Farkas Fraction → Cert Fraction
+cert_against places f = cert.Farkas f.duals.energy f.duals.limits places
 
 -- one of these; there is none where numbers became too large
-abbrev pub cert_of_outcome : Outcome Fraction → Option (Cert Fraction)
-cert_of_outcome (outcome.Cleared a) = Some (cert_of a)
-cert_of_outcome (outcome.Infeasible f) = Some (cert_against f)
-cert_of_outcome (outcome.Range p) = None
+abbrev pub cert_of_outcome : FactorPlaces → Outcome Fraction → Option (Cert Fraction)
+cert_of_outcome places (outcome.Cleared a) = Some (cert_of places a)
+cert_of_outcome places (outcome.Infeasible f) = Some (cert_against places f)
+cert_of_outcome places (outcome.Range p) = None

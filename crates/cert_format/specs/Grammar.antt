@@ -3,6 +3,8 @@ use Rattle.std.specs.Prelude.{◌≡◌, ℕ, ◌^◌, ◌==◌, ◌&&◌, Bool,
 use Rattle.std.specs.List.{list_any}
 use Rattle.std.specs.Str.{bytes_eq, is_utf8}
 use Rattle.fraction_theory.specs.Fraction.{Fraction}
+use Rattle.market_data.specs.declared.scales.FactorPlaces.{FactorPlaces}
+use Rattle.market_data.specs.declared.scales.FactorPlaces.TheVariants as places
 use Rattle.market_model.specs.declared.answered.Dual.{Dual}
 use Rattle.market_model.specs.declared.answered.RowId.{RowId}
 use Rattle.market_model.specs.Optimality.{same_id}
@@ -16,8 +18,10 @@ use Rattle.cert_format.specs.declared.certificate.Key.{Key}
 use Rattle.cert_format.specs.declared.certificate.Key.TheVariants as key
 use Rattle.cert_format.specs.declared.certificate.CertFault.{CertFault}
 use Rattle.cert_format.specs.declared.certificate.CertFault.TheVariants as fault
-use Rattle.cert_format.specs.declared.reading.Kind.{Kind}
-use Rattle.cert_format.specs.declared.reading.Kind.TheVariants as kind
+use Rattle.cert_format.specs.declared.forms.Kind.{Kind}
+use Rattle.cert_format.specs.declared.forms.Kind.TheVariants as kind
+use Rattle.cert_format.specs.declared.forms.Version.{Version}
+use Rattle.cert_format.specs.declared.forms.Version.TheVariants as version
 use Rattle.cert_format.specs.Certificates.{most_part}
 use Rattle.cert_format.specs.FractionTexts.{fraction_of}
 
@@ -112,10 +116,29 @@ kind_named text = if bytes_eq text (codes "optimal") then Some kind.Optimal else
 abbrev pub kind_in : Data → Option Kind
 kind_in d = option_and_then kind_named (text_at (codes "kind") d)
 
--- the version of the grammar
-abbrev pub has_version : Data → Bool
-has_version d = is_number 1 (number_at (codes "version") d)
+-- ---- versions, and what each has
+abbrev pub version_of : ℕ → Option Version
+version_of n = if n == 1 then Some version.First else if n == 2 then Some version.Second else None
 
+abbrev pub version_in : Data → Option Version
+version_in d = option_and_then version_of (number_at (codes "version") d)
+
+abbrev pub places_named : ℕ → Option FactorPlaces
+places_named n = if n == 6 then Some places.Six else if n == 9 then Some places.Nine else None
+
+-- how many places the factors of the market had: six in the first version, which has no member for them
+abbrev pub places_in : Version → Data → Option FactorPlaces
+places_in version.First d = Some places.Six
+places_in version.Second d = option_and_then places_named (number_at (codes "places") d)
+
+-- how many members a certificate has: the second version has one more
+abbrev pub member_count : Version → Kind → ℕ
+member_count version.First kind.Optimal = 5
+member_count version.First kind.Farkas = 4
+member_count version.Second kind.Optimal = 6
+member_count version.Second kind.Farkas = 5
+
+-- ---- certificates
 -- a part that must be in the grammar, or its key
 abbrev pub need : {A B : Type 0} → Key → Option A → (A → Result B Key) → Result B Key
 need k None f = Err k
@@ -125,30 +148,32 @@ abbrev pub check : {B : Type 0} → Key → Bool → Result B Key → Result B K
 check k test r = if test then r else Err k
 
 -- the rest of an optimal certificate, and of one that shows that no dispatch is feasible, which has no blocks
-unfoldable pub optimal_in : ℕ → Fraction → Data → Result (Cert Fraction) Key
-optimal_in most energy d =
+unfoldable pub optimal_in : ℕ → Version → Fraction → Data → Result (Cert Fraction) Key
+optimal_in most version energy d =
     need key.Blocks (blocks_in most d) (λ blocks.
     need key.Limits (limits_in most d) (λ limits.
-    check key.Extra (has_size 5 d) (Ok (cert.Optimal blocks energy limits))))
+    need key.Places (places_in version d) (λ places.
+    check key.Extra (has_size (member_count version kind.Optimal) d) (Ok (cert.Optimal blocks energy limits places)))))
 
-unfoldable pub farkas_in : ℕ → Fraction → Data → Result (Cert Fraction) Key
-farkas_in most energy d =
+unfoldable pub farkas_in : ℕ → Version → Fraction → Data → Result (Cert Fraction) Key
+farkas_in most version energy d =
     check key.Blocks (is_none (get (codes "blocks") d)) (
     need key.Limits (limits_in most d) (λ limits.
-    check key.Extra (has_size 4 d) (Ok (cert.Farkas energy limits))))
+    need key.Places (places_in version d) (λ places.
+    check key.Extra (has_size (member_count version kind.Farkas) d) (Ok (cert.Farkas energy limits places)))))
 
-abbrev pub of_kind : ℕ → Fraction → Data → Kind → Result (Cert Fraction) Key
-of_kind most energy d kind.Optimal = optimal_in most energy d
-of_kind most energy d kind.Farkas = farkas_in most energy d
+abbrev pub of_kind : ℕ → Version → Fraction → Data → Kind → Result (Cert Fraction) Key
+of_kind most version energy d kind.Optimal = optimal_in most version energy d
+of_kind most version energy d kind.Farkas = farkas_in most version energy d
 
 -- the certificate that a value stands for, or the first part that is not in the grammar
 unfoldable pub cert_in : ℕ → Data → Result (Cert Fraction) Key
 cert_in most d =
     check key.Json (is_some (as_object d)) (
-    check key.Version (has_version d) (
+    need key.Version (version_in d) (λ version.
     need key.Kind (kind_in d) (λ kind.
     need key.Energy (fraction_at most (codes "energy") d) (λ energy.
-    of_kind most energy d kind))))
+    of_kind most version energy d kind))))
 
 -- the value of a text that is JSON in UTF-8
 abbrev pub json_of : List ℕ → Option Data

@@ -1,8 +1,8 @@
 -- Laws of the texts of certificates.
-use Rattle.std.specs.Prelude.{◌≡◌, ◌↔◌, ℕ, List, Some, Ok}
+use Rattle.std.specs.Prelude.{◌≡◌, ◌↔◌, ℕ, List, All, Some, Ok}
 use Rattle.fraction_theory.specs.Fraction.{Fraction}
 use Rattle.cert_format.specs.declared.certificate.Cert.{Cert}
-use Rattle.cert_format.specs.Certificates.{CertFits}
+use Rattle.cert_format.specs.Certificates.{CertFits, RowFits, limits_of}
 use Rattle.cert_format.specs.FractionTexts.{Spells, fraction_of}
 use Rattle.cert_format.specs.Grammar.{cert_read}
 use Rattle.cert_format.specs.Written.{cert_text}
@@ -18,3 +18,11 @@ ReadsBack = (c : Cert Fraction) → CertFits c → cert_read (cert_text c) ≡ O
 -- what is read has its numbers within their bounds, and names no row twice
 abbrev pub ReadsWhatFits : Type 0
 ReadsWhatFits = (bytes : List ℕ) (c : Cert Fraction) → cert_read bytes ≡ Ok c → CertFits c
+
+-- what is written of a certificate that was read is read as the same one: so a text of any version is brought to the one that is written
+abbrev pub LawOfMigration : Type 0
+LawOfMigration = (bytes : List ℕ) (c : Cert Fraction) → cert_read bytes ≡ Ok c → cert_read (cert_text c) ≡ Ok c
+
+-- and a text that was written is left as it is by that, where it is read at all: numbers of rows have 32 bits, others may be too large
+abbrev pub LawOfMigratedTexts : Type 0
+LawOfMigratedTexts = (c d : Cert Fraction) → All (λ e. RowFits e.row) (limits_of c) → cert_read (cert_text c) ≡ Ok d → cert_text d ≡ cert_text c

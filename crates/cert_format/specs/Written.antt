@@ -1,7 +1,9 @@
--- The text of a certificate: compact JSON, the members in the order of their names.
+-- The text of a certificate: compact JSON of the second version, the members in the order of their names.
 use Rattle.std.specs.Prelude.{ℕ, ◌==◌, if◌then◌else◌, List, map, codes, Option, option_map}
 use Rattle.fraction_theory.specs.Fraction.{Fraction}
 use Rattle.exact_fraction.specs.Written.{parts_text}
+use Rattle.market_data.specs.Scales.{place_count}
+use Rattle.market_data.specs.declared.scales.FactorPlaces.{FactorPlaces}
 use Rattle.market_model.specs.declared.answered.Dual.{Dual}
 use Rattle.market_model.specs.declared.answered.Outcome.{Outcome}
 use Rattle.serde_json.specs.Data.{Data, Members, number, string, array, object, no_members, member, unsigned}
@@ -33,22 +35,24 @@ blocks_data blocks = array (items_of (map fraction_data blocks))
 abbrev pub limits_data : List (Dual Fraction) → Data
 limits_data limits = array (items_of (map limit_data limits))
 
+-- the members behind the limits: how many places factors had, and the version
+abbrev pub ending : FactorPlaces → Members
+ending places = member (codes "places") (number (unsigned (place_count places))) (member (codes "version") (number (unsigned 2)) no_members)
+
 abbrev pub cert_data : Cert Fraction → Data
-cert_data (cert.Optimal blocks energy limits) = object
+cert_data (cert.Optimal blocks energy limits places) = object
     (member (codes "blocks") (blocks_data blocks)
     (member (codes "energy") (fraction_data energy)
     (member (codes "kind") (string (codes "optimal"))
-    (member (codes "limits") (limits_data limits)
-    (member (codes "version") (number (unsigned 1)) no_members)))))
-cert_data (cert.Farkas energy limits) = object
+    (member (codes "limits") (limits_data limits) (ending places)))))
+cert_data (cert.Farkas energy limits places) = object
     (member (codes "energy") (fraction_data energy)
     (member (codes "kind") (string (codes "farkas"))
-    (member (codes "limits") (limits_data limits)
-    (member (codes "version") (number (unsigned 1)) no_members))))
+    (member (codes "limits") (limits_data limits) (ending places))))
 
 unfoldable pub cert_text : Cert Fraction → List ℕ
 cert_text c = compact_text (cert_data c)
 
 -- the text of the certificate of what a clear came to, where there is one
-abbrev pub certificate_of : Outcome Fraction → Option (List ℕ)
-certificate_of o = option_map cert_text (cert_of_outcome o)
+abbrev pub certificate_of : FactorPlaces → Outcome Fraction → Option (List ℕ)
+certificate_of places o = option_map cert_text (cert_of_outcome places o)

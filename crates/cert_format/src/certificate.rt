@@ -1,12 +1,14 @@
 //! Certificates, and why a text is none.
 
 ghost use Rattle.std.specs.Prelude.{◌≡◌};
+ghost use Rattle.cert_format.specs.Certificates.{places_of};
 
+use market_data::FactorPlaces;
 use market_model::{Dual, List, Memory};
 use thiserror::Error;
 
 /// What shows that a clear came to what it did. Quantities are in 10^-9 MW. The prices of an optimal dispatch are in 10^-6 per MWh;
-/// duals that show that no dispatch is feasible are plain numbers.
+/// duals that show that no dispatch is feasible are plain numbers. Both tell how many places the factors of the market had.
 #[derive(Drop, Debug)]
 pub enum Cert<N> {
     /// A best dispatch, the accepted MW of each block, with the prices that support it.
@@ -14,12 +16,26 @@ pub enum Cert<N> {
         blocks: List<N>,
         energy: N,
         limits: List<Dual<N>>,
+        places: FactorPlaces,
     },
     /// Duals that show that no dispatch is feasible.
     Farkas {
         energy: N,
         limits: List<Dual<N>>,
+        places: FactorPlaces,
     },
+}
+
+impl<N> Cert<N> {
+    /// How many places the factors of the market had.
+    pub fn places(&self) -> FactorPlaces
+        ensures { result ≡ places_of self.now }
+    {
+        match self {
+            Cert::Optimal { places, .. } => *places,
+            Cert::Farkas { places, .. } => *places,
+        }
+    }
 }
 
 /// The parts of a certificate's text, in the order in which they are looked at.
@@ -32,6 +48,7 @@ pub enum Key {
     Energy,
     Blocks,
     Limits,
+    Places,
     /// A member of another name.
     Extra,
 }

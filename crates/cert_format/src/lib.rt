@@ -2,8 +2,10 @@
 #![tactic(auto)]
 
 mod certificate;
+mod forms;
 mod fractions;
 pub mod laws;
+mod members;
 mod reading;
 mod writing;
 

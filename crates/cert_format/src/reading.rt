@@ -9,53 +9,17 @@ ghost use Rattle.cert_format.specs.declared.certificate.CertFault.TheVariants as
 ghost use Rattle.cert_format.specs.declared.certificate.Key.{Key};
 ghost use Rattle.cert_format.specs.declared.certificate.Key.TheVariants as key;
 ghost use Rattle.cert_format.specs.Certificates.{RowsAreDistinct, cert_at, name_of, same_triple};
-ghost use Rattle.cert_format.specs.Grammar.{Gives, blocks_in, cert_in, cert_read, each, farkas_in, fraction_at, fraction_in, has_size, has_version, if_distinct, in_32, kind_in, limit_in, limits_in, members_with, need, number_at, optimal_in, size_of, text_at, unit_at};
+ghost use Rattle.cert_format.specs.Grammar.{Gives, blocks_in, cert_in, cert_read, each, farkas_in, fraction_at, fraction_in, if_distinct, in_32, limit_in, limits_in, members_with, need, number_at, optimal_in, unit_at};
 
+use crate::forms::{Kind, Version, kind_in, member_count, places_in, version_in};
 use crate::fractions::fraction;
+use crate::members::{has_size, number_at};
 use crate::{Cert, CertFault, Key};
 use exact_fraction::{Exact, Frac};
 use indexmap::IndexSet;
 use market_model::{Dual, List, Memory, RowId};
 use serde_json::Value;
 use std::alloc::Global;
-
-/// What a certificate shows.
-#[derive(Clone, Copy, PartialEq, Eq, Debug)]
-enum Kind {
-    Optimal,
-    Farkas,
-}
-
-/// How many members an object has.
-fn size_of(value: &Value) -> Option<usize>
-    ensures { result ≡ size_of (view value.now) }
-{
-    match value.as_object() {
-        Some(members) => Some(members.len()),
-        None => None,
-    }
-}
-
-fn has_size(value: &Value, size: usize) -> bool
-    ensures { result ≡ has_size size (view value.now) }
-{
-    match size_of(value) {
-        Some(count) => count == size,
-        None => false,
-    }
-}
-
-fn number_at(value: &Value, name: &str) -> Option<u64>
-    ensures { result ≡ number_at name.now (view value.now) }
-{
-    value.get(name).and_then(Value::as_u64)
-}
-
-fn text_at<'v>(value: &'v Value, name: &str) -> Option<&'v str>
-    ensures { option_map (λ s. s.now) result ≡ text_at name.now (view value.now) }
-{
-    value.get(name).and_then(Value::as_str)
-}
 
 fn fraction_in<N: Exact>(value: &Value) -> Option<N>
     ensures { option_map N.value result ≡ fraction_in N.bound (view value.now) }
@@ -184,54 +148,55 @@ fn limits_in<N: Exact>(alloc: Global, value: &Value) -> Result<List<Dual<N>>, Ce
     }
 }
 
-fn kind_in(value: &Value) -> Option<Kind>
-    ensures { result ≡ kind_in (view value.now) }
-{
-    match text_at(value, "kind") {
-        Some("optimal") => Some(Kind::Optimal),
-        Some("farkas") => Some(Kind::Farkas),
-        _ => None,
-    }
-}
-
-/// Whether the version is that of this grammar.
-fn has_version(value: &Value) -> bool
-    ensures { result ≡ has_version (view value.now) }
-{
-    match number_at(value, "version") {
-        Some(version) => version == 1,
-        None => false,
-    }
-}
-
 /// The rest of an optimal certificate.
-fn optimal_in<N: Exact>(alloc: Global, energy: N, value: &Value) -> Result<Cert<N>, CertFault>
-    ensures { Gives (cert_at N.value) result (optimal_in N.bound (N.value energy) (view value.now)) }
+fn optimal_in<N: Exact>(
+    alloc: Global,
+    version: Version,
+    energy: N,
+    value: &Value,
+) -> Result<Cert<N>, CertFault>
+    ensures { Gives (cert_at N.value) result (optimal_in N.bound version (N.value energy) (view value.now)) }
 {
     let blocks = blocks_in(alloc, value)?;
     let limits = limits_in(alloc, value)?;
-    if !has_size(value, 5) {
+    let Some(places) = places_in(version, value) else {
+        return Err(CertFault::Key { key: Key::Places });
+    };
+    if !has_size(value, member_count(version, Kind::Optimal)) {
         return Err(CertFault::Key { key: Key::Extra });
     }
     Ok(Cert::Optimal {
         blocks,
         energy,
         limits,
+        places,
     })
 }
 
 /// The rest of a certificate that no dispatch is feasible.
-fn farkas_in<N: Exact>(alloc: Global, energy: N, value: &Value) -> Result<Cert<N>, CertFault>
-    ensures { Gives (cert_at N.value) result (farkas_in N.bound (N.value energy) (view value.now)) }
+fn farkas_in<N: Exact>(
+    alloc: Global,
+    version: Version,
+    energy: N,
+    value: &Value,
+) -> Result<Cert<N>, CertFault>
+    ensures { Gives (cert_at N.value) result (farkas_in N.bound version (N.value energy) (view value.now)) }
 {
     if value.get("blocks").is_some() {
         return Err(CertFault::Key { key: Key::Blocks });
     }
     let limits = limits_in(alloc, value)?;
-    if !has_size(value, 4) {
+    let Some(places) = places_in(version, value) else {
+        return Err(CertFault::Key { key: Key::Places });
+    };
+    if !has_size(value, member_count(version, Kind::Farkas)) {
         return Err(CertFault::Key { key: Key::Extra });
     }
-    Ok(Cert::Farkas { energy, limits })
+    Ok(Cert::Farkas {
+        energy,
+        limits,
+        places,
+    })
 }
 
 /// The certificate that a value stands for.
@@ -241,9 +206,9 @@ fn cert_in<N: Exact>(alloc: Global, value: &Value) -> Result<Cert<N>, CertFault>
     if !value.is_object() {
         return Err(CertFault::Key { key: Key::Json });
     }
-    if !has_version(value) {
+    let Some(version) = version_in(value) else {
         return Err(CertFault::Key { key: Key::Version });
-    }
+    };
     let Some(kind) = kind_in(value) else {
         return Err(CertFault::Key { key: Key::Kind });
     };
@@ -251,12 +216,12 @@ fn cert_in<N: Exact>(alloc: Global, value: &Value) -> Result<Cert<N>, CertFault>
         return Err(CertFault::Key { key: Key::Energy });
     };
     match kind {
-        Kind::Optimal => optimal_in(alloc, energy, value),
-        Kind::Farkas => farkas_in(alloc, energy, value),
+        Kind::Optimal => optimal_in(alloc, version, energy, value),
+        Kind::Farkas => farkas_in(alloc, version, energy, value),
     }
 }
 
-/// Reads a certificate, or tells the first part of the text that is not in the grammar.
+/// Reads a certificate of either version, or tells the first part of the text that is not in the grammar.
 pub fn from_json(alloc: Global, bytes: &[u8]) -> Result<Cert<Frac>, CertFault>
     ensures read { IfOk result (λ cert. cert_read bytes.now ≡ Ok (cert_at ⟦<Frac as Exact>⟧.value cert)) }
     ensures fault { (k : Key) → result ≡ Err (fault.Key k) → cert_read bytes.now ≡ Err k }

@@ -12,6 +12,7 @@ ghost use Rattle.cert_format.specs.Written.{blocks_data, cert_data, cert_text, c
 
 use crate::Cert;
 use exact_fraction::Exact;
+use market_data::FactorPlaces;
 use market_model::{Dual, List, Memory, Outcome};
 use serde_json::{Value, json};
 use std::alloc::{AllocError, Global};
@@ -71,14 +72,16 @@ fn optimal_value<N: Exact>(
     blocks: &List<N>,
     energy: N,
     limits: &List<Dual<N>>,
+    places: FactorPlaces,
 ) -> Result<Value, AllocError>
-    ensures value { IfOk result (λ v. view v ≡ cert_data (cert_at N.value (cert.Optimal blocks.now energy limits.now))) }
+    ensures value { IfOk result (λ v. view v ≡ cert_data (cert_at N.value (cert.Optimal blocks.now energy limits.now places))) }
     ensures rows { OnOk result (All (λ d. RowFits d.row) limits.now) }
 {
     let blocks = blocks_value(alloc, blocks)?;
     let energy = fraction_value(alloc, energy)?;
     let limits = limits_value(alloc, limits)?;
-    json!(in alloc; {"blocks": blocks, "energy": energy, "kind": "optimal", "limits": limits, "version": 1u64})
+    let count = u64::from(places.count());
+    json!(in alloc; {"blocks": blocks, "energy": energy, "kind": "optimal", "limits": limits, "places": count, "version": 2u64})
 }
 
 /// Duals that show that no dispatch is feasible.
@@ -86,13 +89,15 @@ fn farkas_value<N: Exact>(
     alloc: Global,
     energy: N,
     limits: &List<Dual<N>>,
+    places: FactorPlaces,
 ) -> Result<Value, AllocError>
-    ensures value { IfOk result (λ v. view v ≡ cert_data (cert_at N.value (cert.Farkas energy limits.now))) }
+    ensures value { IfOk result (λ v. view v ≡ cert_data (cert_at N.value (cert.Farkas energy limits.now places))) }
     ensures rows { OnOk result (All (λ d. RowFits d.row) limits.now) }
 {
     let energy = fraction_value(alloc, energy)?;
     let limits = limits_value(alloc, limits)?;
-    json!(in alloc; {"energy": energy, "kind": "farkas", "limits": limits, "version": 1u64})
+    let count = u64::from(places.count());
+    json!(in alloc; {"energy": energy, "kind": "farkas", "limits": limits, "places": count, "version": 2u64})
 }
 
 fn optimal_text<N: Exact>(
@@ -100,22 +105,24 @@ fn optimal_text<N: Exact>(
     blocks: &List<N>,
     energy: N,
     limits: &List<Dual<N>>,
+    places: FactorPlaces,
 ) -> Result<Vec<u8>, AllocError>
-    ensures text { IfOk result (λ bytes. bytes.items ≡ cert_text (cert_at N.value (cert.Optimal blocks.now energy limits.now))) }
+    ensures text { IfOk result (λ bytes. bytes.items ≡ cert_text (cert_at N.value (cert.Optimal blocks.now energy limits.now places))) }
     ensures rows { OnOk result (All (λ d. RowFits d.row) limits.now) }
 {
-    optimal_value(alloc, blocks, energy, limits)?.to_vec(alloc)
+    optimal_value(alloc, blocks, energy, limits, places)?.to_vec(alloc)
 }
 
 fn farkas_text<N: Exact>(
     alloc: Global,
     energy: N,
     limits: &List<Dual<N>>,
+    places: FactorPlaces,
 ) -> Result<Vec<u8>, AllocError>
-    ensures text { IfOk result (λ bytes. bytes.items ≡ cert_text (cert_at N.value (cert.Farkas energy limits.now))) }
+    ensures text { IfOk result (λ bytes. bytes.items ≡ cert_text (cert_at N.value (cert.Farkas energy limits.now places))) }
     ensures rows { OnOk result (All (λ d. RowFits d.row) limits.now) }
 {
-    farkas_value(alloc, energy, limits)?.to_vec(alloc)
+    farkas_value(alloc, energy, limits, places)?.to_vec(alloc)
 }
 
 fn cert_bytes<N: Exact>(alloc: Global, cert: &Cert<N>) -> Result<Vec<u8>, AllocError>
@@ -127,13 +134,18 @@ fn cert_bytes<N: Exact>(alloc: Global, cert: &Cert<N>) -> Result<Vec<u8>, AllocE
             blocks,
             energy,
             limits,
-        } => optimal_text(alloc, blocks, *energy, limits),
-        Cert::Farkas { energy, limits } => farkas_text(alloc, *energy, limits),
+            places,
+        } => optimal_text(alloc, blocks, *energy, limits, *places),
+        Cert::Farkas {
+            energy,
+            limits,
+            places,
+        } => farkas_text(alloc, *energy, limits, *places),
     }
 }
 
-/// The text of a certificate, without a line end. Where no row is named twice and its numbers have 127 bits at most, it is read back as
-/// the certificate.
+/// The text of a certificate, of the second version and without a line end. Where no row is named twice and its numbers have 127 bits at
+/// most, it is read back as the certificate.
 pub fn to_json<N: Exact>(alloc: Global, cert: &Cert<N>) -> Result<Vec<u8>, Memory>
     ensures text { IfOk result (λ bytes. bytes.items ≡ cert_text (cert_at N.value cert.now)) }
     ensures reads_back { IfOk result (λ bytes. N.bound ≤ most_part → RowsAreDistinct (cert_at N.value cert.now)
@@ -156,25 +168,26 @@ fn made(text: Result<Vec<u8>, AllocError>) -> Result<Option<Vec<u8>>, Memory>
     }
 }
 
-/// The text of the certificate of what a clear came to, where there is one. Where that names no row twice and its numbers have 127 bits
-/// at most, the text is read back as it.
+/// The text of the certificate of what a clear came to, where there is one. Factors of the market had so many places. Where the certificate
+/// names no row twice and its numbers have 127 bits at most, the text is read back as it.
 pub fn outcome_json<N: Exact>(
     alloc: Global,
+    places: FactorPlaces,
     outcome: &Outcome<N>,
 ) -> Result<Option<Vec<u8>>, Memory>
-    ensures text { IfOk result (λ made. option_map (λ bytes. bytes.items) made ≡ certificate_of (outcome_at N.value outcome.now)) }
-    ensures fits { OnOk result (IfSome (cert_of_outcome (outcome_at N.value outcome.now)) (NumbersFit N.bound)) }
-    ensures reads_back { (c : Cert Fraction) → cert_of_outcome (outcome_at N.value outcome.now) ≡ Some c → N.bound ≤ most_part → RowsAreDistinct c
+    ensures text { IfOk result (λ made. option_map (λ bytes. bytes.items) made ≡ certificate_of places (outcome_at N.value outcome.now)) }
+    ensures fits { OnOk result (IfSome (cert_of_outcome places (outcome_at N.value outcome.now)) (NumbersFit N.bound)) }
+    ensures reads_back { (c : Cert Fraction) → cert_of_outcome places (outcome_at N.value outcome.now) ≡ Some c → N.bound ≤ most_part → RowsAreDistinct c
         → IfOk result (λ made. option_map (λ bytes. cert_read bytes.items) made ≡ Some (Ok c)) }
 {
     match outcome {
         Outcome::Cleared(answer) => {
             let duals = &answer.duals;
-            made(optimal_text(alloc, &answer.dispatch, duals.energy, &duals.limits))
+            made(optimal_text(alloc, &answer.dispatch, duals.energy, &duals.limits, places))
         }
         Outcome::Infeasible(farkas) => {
             let duals = &farkas.duals;
-            made(farkas_text(alloc, duals.energy, &duals.limits))
+            made(farkas_text(alloc, duals.energy, &duals.limits, places))
         }
         Outcome::Range(_) => Ok(None),
     }

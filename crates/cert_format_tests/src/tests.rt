@@ -1,26 +1,27 @@
 use cert_format::{CertFault, Key, from_json, outcome_json, to_json};
 use exact_fraction::{Exact, Frac63, Op, Passed};
-use market_model::{Dual, Duals, Farkas, List, Outcome, RowId};
+use market_model::{Dual, Duals, FactorPlaces, Farkas, List, Outcome, RowId};
 use std::test::Fail;
 
 /// A dispatch with a limit that binds after an outage.
 const OPTIMAL: &str =
-    r#"{"blocks":["45000000000/1","15000000000/1"],"energy":"10000000/1","kind":"optimal","limits":[{"branch":2,"down":"0/1","outage":1,"up":"20000000/1"}],"version":1}"#;
+    r#"{"blocks":["45000000000/1","15000000000/1"],"energy":"10000000/1","kind":"optimal","limits":[{"branch":2,"down":"0/1","outage":1,"up":"20000000/1"}],"places":6,"version":2}"#;
 
-/// Duals that show that no dispatch is feasible.
+/// Duals that show that no dispatch is feasible, where factors had nine places.
 const FARKAS: &str =
-    r#"{"energy":"-1/1","kind":"farkas","limits":[{"branch":2,"down":"0/1","outage":0,"up":"2/1"}],"version":1}"#;
+    r#"{"energy":"-1/1","kind":"farkas","limits":[{"branch":2,"down":"0/1","outage":0,"up":"2/1"}],"places":9,"version":2}"#;
 
 /// Limits of one branch in the base and after the losses of two units, of which the last has the greatest row.
 const LOST: &str =
-    r#"{"energy":"-1/1","kind":"farkas","limits":[{"branch":2,"down":"0/1","outage":0,"up":"2/1"},{"branch":2,"down":"0/1","outage":0,"unit":1,"up":"2/1"},{"branch":2,"down":"0/1","outage":0,"unit":4294967295,"up":"2/1"}],"version":1}"#;
+    r#"{"energy":"-1/1","kind":"farkas","limits":[{"branch":2,"down":"0/1","outage":0,"up":"2/1"},{"branch":2,"down":"0/1","outage":0,"unit":1,"up":"2/1"},{"branch":2,"down":"0/1","outage":0,"unit":4294967295,"up":"2/1"}],"places":6,"version":2}"#;
 
 /// Texts that are no certificates, each with the first part that is not in the grammar.
-static FAULTS: [(&str, Key); 25] = [
+static FAULTS: [(&str, Key); 32] = [
     ("{", Key::Json),
     ("[]", Key::Json),
     (r#"{"version":1.0}"#, Key::Version),
-    (r#"{"version":2,"kind":"best"}"#, Key::Version),
+    (r#"{"version":3,"kind":"best"}"#, Key::Version),
+    (r#"{"version":2,"kind":"best"}"#, Key::Kind),
     (r#"{"version":1,"kind":"best"}"#, Key::Kind),
     (r#"{"version":1,"kind":"farkas"}"#, Key::Energy),
     (
@@ -96,6 +97,30 @@ static FAULTS: [(&str, Key); 25] = [
         r#"{"version":1,"kind":"optimal","energy":"1/2","blocks":[],"limits":[],"x":0}"#,
         Key::Extra,
     ),
+    (
+        r#"{"version":1,"kind":"farkas","energy":"1/2","limits":[],"places":6}"#,
+        Key::Extra,
+    ),
+    (
+        r#"{"version":2,"kind":"farkas","energy":"1/2","places":6}"#,
+        Key::Limits,
+    ),
+    (
+        r#"{"version":2,"kind":"farkas","energy":"1/2","limits":[],"x":0}"#,
+        Key::Places,
+    ),
+    (
+        r#"{"version":2,"kind":"farkas","energy":"1/2","limits":[],"places":7}"#,
+        Key::Places,
+    ),
+    (
+        r#"{"version":2,"kind":"optimal","energy":"1/2","blocks":[],"limits":[],"places":"6"}"#,
+        Key::Places,
+    ),
+    (
+        r#"{"version":2,"kind":"optimal","energy":"1/2","blocks":[],"limits":[],"places":9,"x":0}"#,
+        Key::Extra,
+    ),
 ];
 
 #[test]
@@ -119,6 +144,7 @@ fn tells_the_first_fault(rt: HostRuntime) -> Result<(), Fail> {
     Ok(())
 }
 
+/// A text of the first version, which is of six places, is written as one of the second.
 #[test]
 fn reads_the_greatest_and_any_order(rt: HostRuntime) -> Result<(), Fail> {
     let text = r#" {"version" : 1, "limits":[], "kind":"farkas",
@@ -127,7 +153,7 @@ fn reads_the_greatest_and_any_order(rt: HostRuntime) -> Result<(), Fail> {
     let written = to_json(rt.alloc(), &cert)?;
     assert_eq!(rt;
         written.as_slice(),
-        br#"{"energy":"-170141183460469231731687303715884105727/170141183460469231731687303715884105726","kind":"farkas","limits":[],"version":1}"#.as_slice()
+        br#"{"energy":"-170141183460469231731687303715884105727/170141183460469231731687303715884105726","kind":"farkas","limits":[],"places":6,"version":2}"#.as_slice()
     );
     Ok(())
 }
@@ -151,7 +177,7 @@ fn writes_outcomes(rt: HostRuntime) -> Result<(), Fail> {
         },
         bound: Frac63::of_parts(-10, 1),
     });
-    match outcome_json(rt.alloc(), &farkas)? {
+    match outcome_json(rt.alloc(), FactorPlaces::Nine, &farkas)? {
         Some(written) => assert_eq!(rt; written.as_slice(), FARKAS.as_bytes()),
         None => assert!(rt; false),
     }
@@ -160,6 +186,6 @@ fn writes_outcomes(rt: HostRuntime) -> Result<(), Fail> {
         left: Frac63::of_parts(1, 1),
         right: Frac63::of_parts(2, 1),
     });
-    assert!(rt; outcome_json(rt.alloc(), &range)?.is_none());
+    assert!(rt; outcome_json(rt.alloc(), FactorPlaces::Six, &range)?.is_none());
     Ok(())
 }

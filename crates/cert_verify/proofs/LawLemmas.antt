@@ -1,5 +1,5 @@
 -- What the verdict means, with what follows by the laws of the market.
-use Rattle.std.specs.Prelude.{◌≡◌, ◌≢◌, ◌<◌, ℕ, length}
+use Rattle.std.specs.Prelude.{◌≡◌, ◌≢◌, ◌<◌, ◌∷◌, ℕ, None, length, refl}
 use Rattle.std.proofs.Common.{ap, sym, ◌∙◌, arith, get_or}
 use Rattle.std.proofs.lemmas.List.Kept.{AllPairs-filter}
 use Rattle.fraction_theory.specs.Fraction.{Fraction}
@@ -17,31 +17,47 @@ use Rattle.market_model.proofs.Optimum.{law_of_the_optimum}
 use Rattle.market_model.specs.Dispatch.{dispatch_by}
 use Rattle.limit_rows.proofs.ApartLemmas.{names_apart}
 use Rattle.limit_rows.proofs.DualLemmas.{row_of_dual, named_count}
+use Rattle.cert_format.specs.Certificates.{RowsAreDistinct, cert_against, cert_of, places_of}
+use Rattle.cert_format.specs.declared.certificate.Cert.{Cert}
 use Rattle.cert_format.specs.declared.certificate.Cert.TheVariants.{Optimal, Farkas}
-use Rattle.cert_verify.specs.Certificates.{NamesRows, named_duals, first_reason}
+use Rattle.cert_verify.specs.Certificates.{IsShown, IsTrueOf, NamesRows, named_duals, first_reason, kind_reasons}
 use Rattle.cert_verify.specs.Laws.{LawOfTheVerdict, LawOfTheBest, LawOfNothingFeasible, LawOfRightAnswers, LawOfFarkasDuals}
-use Rattle.cert_verify.proofs.TestLemmas.{yes_none, none_yes}
+use Rattle.cert_verify.specs.Reasons.{first_of, places_reason, verdict_of}
+use Rattle.cert_verify.specs.declared.verdicts.Verdict.TheVariants.{Yes}
+use Rattle.cert_verify.proofs.PlacesLemmas.{first_behind, places_from, places_to}
+use Rattle.cert_verify.proofs.TestLemmas.{all_none, none_first, yes_none, none_yes}
 use Rattle.cert_verify.proofs.VerdictLemmas.{Apart, optimal_to, optimal_from, farkas_to, farkas_from}
 
+-- ---- what a certificate shows, whatever its places
+shown_to : (m : Parts) (c : Cert Fraction) → first_of (kind_reasons m c) ≡ None → IsShown m c
+shown_to m (Optimal blocks energy limits places) e = optimal_to m (dispatch_by blocks) (named_duals energy limits) e
+shown_to m (Farkas energy limits places) e = farkas_to m (named_duals energy limits) e
+
+shown_from : (m : Parts) (c : Cert Fraction) → RowsAreDistinct c → IsShown m c → first_of (kind_reasons m c) ≡ None
+shown_from m (Optimal blocks energy limits places) apart h = optimal_from m (dispatch_by blocks) (named_duals energy limits) apart h
+shown_from m (Farkas energy limits places) apart h = farkas_from m (named_duals energy limits) apart h
+
+-- ---- the verdict
+yes_shows : (m : Parts) (c : Cert Fraction) → verdict_of (first_reason m c) ≡ Yes → IsTrueOf m c
+yes_shows m c told =
+    let all = all_none (places_reason m (places_of c) ∷ kind_reasons m c) (yes_none (first_reason m c) told) in
+    record { places = places_to m (places_of c) all.0; shown = shown_to m c (none_first (kind_reasons m c) all.1) }
+
+shows_yes : (m : Parts) (c : Cert Fraction) → RowsAreDistinct c → IsTrueOf m c → verdict_of (first_reason m c) ≡ Yes
+shows_yes m c apart h =
+    none_yes (first_reason m c) (first_behind (places_reason m (places_of c)) (kind_reasons m c) (places_from m (places_of c) h.places) ∙ shown_from m c apart h.shown)
+
 pub law_of_the_verdict : LawOfTheVerdict
-law_of_the_verdict m (Optimal blocks energy limits) apart = (
-  λ e. optimal_to m (dispatch_by blocks) (named_duals energy limits) (yes_none (first_reason m (Optimal blocks energy limits)) e),
-  λ h. none_yes (first_reason m (Optimal blocks energy limits)) (optimal_from m (dispatch_by blocks) (named_duals energy limits) apart h),
-)
-law_of_the_verdict m (Farkas energy limits) apart = (
-  λ e. farkas_to m (named_duals energy limits) (yes_none (first_reason m (Farkas energy limits)) e),
-  λ h. none_yes (first_reason m (Farkas energy limits)) (farkas_from m (named_duals energy limits) apart h),
-)
+law_of_the_verdict m c apart = (yes_shows m c, shows_yes m c apart)
 
 pub law_of_the_best : LawOfTheBest
-law_of_the_best m blocks energy limits market apart told =
-    let h = optimal_to m (dispatch_by blocks) (named_duals energy limits) (yes_none (first_reason m (Optimal blocks energy limits)) told) in
+law_of_the_best m blocks energy limits places market apart told =
+    let h = (yes_shows m (Optimal blocks energy limits places) told).shown in
     (h.feasible, λ y f. law_of_the_optimum m (named_duals energy limits) (dispatch_by blocks) y market h.feasible h.supported f)
 
 pub law_of_nothing_feasible : LawOfNothingFeasible
-law_of_nothing_feasible m energy limits market apart told y =
-    let h = farkas_to m (named_duals energy limits) (yes_none (first_reason m (Farkas energy limits)) told) in
-    law_of_infeasibility m (named_duals energy limits) y market h.shows
+law_of_nothing_feasible m energy limits places market apart told y =
+    let h = (yes_shows m (Farkas energy limits places) told).shown in law_of_infeasibility m (named_duals energy limits) y market h.shows
 
 -- ---- the duals of answers
 module _ (m : Parts) (market : IsMarket m) (d : Duals Fraction) (proper : ProperDuals m d) where
@@ -69,11 +85,10 @@ pub law_of_right_answers : LawOfRightAnswers
 law_of_right_answers m a market right =
     let apart = apart_by m market a.duals right.proper in (
       apart,
-      (law_of_the_verdict m (Optimal a.dispatch a.duals.energy a.duals.limits) apart).1
-          (record { rows = names_by m market a.duals right.proper; feasible = right.feasible; supported = right.supported }),
+      shows_yes m (cert_of m.places a) apart (record { places = refl; shown = record { rows = names_by m market a.duals right.proper; feasible = right.feasible; supported = right.supported } }),
     )
 
 pub law_of_farkas_duals : LawOfFarkasDuals
 law_of_farkas_duals m f market shown =
     let apart = apart_by m market f.duals shown.proper in
-    (apart, none_yes (first_reason m (Farkas f.duals.energy f.duals.limits)) (farkas_from m f.duals apart (record { rows = names_by m market f.duals shown.proper; shows = shown.shows })))
+    (apart, shows_yes m (cert_against m.places f) apart (record { places = refl; shown = record { rows = names_by m market f.duals shown.proper; shows = shown.shows } }))

@@ -1,6 +1,7 @@
 pub mod FindLemmas
 pub mod LawLemmas
 pub mod NamingLemmas
+pub mod PlacesLemmas
 pub mod RowLemmas
 pub mod TestLemmas
 pub mod VerdictLemmas

@@ -2,6 +2,7 @@
 use Rattle.std.specs.Prelude.{◌≡◌, ◌↔◌, List}
 use Rattle.fraction_theory.specs.Fraction.{Fraction}
 use Rattle.fraction_theory.specs.Order.{◌≤ℚ◌}
+use Rattle.market_data.specs.declared.scales.FactorPlaces.{FactorPlaces}
 use Rattle.market_model.specs.declared.answered.Answer.{Answer}
 use Rattle.market_model.specs.declared.answered.Dual.{Dual}
 use Rattle.market_model.specs.declared.answered.Farkas as infeasible
@@ -25,20 +26,20 @@ LawOfTheVerdict = (m : Parts) (c : Cert Fraction) → RowsAreDistinct c → (ver
 -- its dispatch is then feasible, and no feasible one is worth more
 abbrev pub LawOfTheBest : Type 0
 LawOfTheBest =
-    (m : Parts) (blocks : List Fraction) (energy : Fraction) (limits : List (Dual Fraction)) → IsMarket m → RowsAreDistinct (Optimal blocks energy limits)
-    → verdict_of (first_reason m (Optimal blocks energy limits)) ≡ Yes → Feasible m (dispatch_by blocks) × ((y : Dispatch) → Feasible m y → welfare m y ≤ℚ welfare m (dispatch_by blocks))
+    (m : Parts) (blocks : List Fraction) (energy : Fraction) (limits : List (Dual Fraction)) (places : FactorPlaces) → IsMarket m → RowsAreDistinct (Optimal blocks energy limits places)
+    → verdict_of (first_reason m (Optimal blocks energy limits places)) ≡ Yes → Feasible m (dispatch_by blocks) × ((y : Dispatch) → Feasible m y → welfare m y ≤ℚ welfare m (dispatch_by blocks))
 
 -- or, of the other kind, nothing is feasible
 abbrev pub LawOfNothingFeasible : Type 0
 LawOfNothingFeasible =
-    (m : Parts) (energy : Fraction) (limits : List (Dual Fraction)) → IsMarket m → RowsAreDistinct (Farkas energy limits) → verdict_of (first_reason m (Farkas energy limits)) ≡ Yes
+    (m : Parts) (energy : Fraction) (limits : List (Dual Fraction)) (places : FactorPlaces) → IsMarket m → RowsAreDistinct (Farkas energy limits places) → verdict_of (first_reason m (Farkas energy limits places)) ≡ Yes
     → (y : Dispatch) → ¬ (Feasible m y)
 
 -- the certificate of a right answer is answered by yes
 abbrev pub LawOfRightAnswers : Type 0
-LawOfRightAnswers = (m : Parts) (a : Answer Fraction) → IsMarket m → IsRight m a → RowsAreDistinct (cert_of a) × (verdict_of (first_reason m (cert_of a)) ≡ Yes)
+LawOfRightAnswers = (m : Parts) (a : Answer Fraction) → IsMarket m → IsRight m a → RowsAreDistinct (cert_of m.places a) × (verdict_of (first_reason m (cert_of m.places a)) ≡ Yes)
 
 -- and that of duals that show a market infeasible
 abbrev pub LawOfFarkasDuals : Type 0
 LawOfFarkasDuals =
-    (m : Parts) (f : infeasible.Farkas Fraction) → IsMarket m → IsFarkas m f → RowsAreDistinct (cert_against f) × (verdict_of (first_reason m (cert_against f)) ≡ Yes)
+    (m : Parts) (f : infeasible.Farkas Fraction) → IsMarket m → IsFarkas m f → RowsAreDistinct (cert_against m.places f) × (verdict_of (first_reason m (cert_against m.places f)) ≡ Yes)

@@ -4,6 +4,8 @@ use Rattle.std.specs.Prelude.{◌≡◌, ℕ, ◌+◌, ◌==◌, ◌&&◌, ◌||
 use Rattle.std.specs.List.{find, list_any}
 use Rattle.std.specs.Option.{option_or}
 use Rattle.fraction_theory.specs.Fraction.{Fraction, neg_ℚ}
+use Rattle.market_data.specs.Scales.{place_count}
+use Rattle.market_data.specs.declared.scales.FactorPlaces.{FactorPlaces}
 use Rattle.market_model.specs.declared.answered.Dual.{Dual}
 use Rattle.market_model.specs.declared.answered.Duals.{Duals}
 use Rattle.market_model.specs.declared.participants.Parts.{Parts}
@@ -93,6 +95,10 @@ of_first because test xs = option_map because (find test xs)
 -- that, where this is so
 abbrev pub where_so : Bool → Reason → Option Reason
 where_so so because = if so then Some because else None
+
+-- factors had other places than the market's
+abbrev pub places_reason : Parts → FactorPlaces → Option Reason
+places_reason m had = where_so (not (place_count had == place_count m.places)) reason.Places
 
 abbrev pub count_reason : Parts → Dispatch → Option Reason
 count_reason m x = where_so (not (length x.blocks == length m.blocks)) reason.Count

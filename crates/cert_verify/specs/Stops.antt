@@ -1,6 +1,6 @@
 -- Why there may be no verdict, and which reasons were looked at by then.
 -- Source: own; reasons are looked at in the order in which they are told.
-use Rattle.std.specs.Prelude.{ℕ, [], ◌∷◌, ◌++◌, Contains}
+use Rattle.std.specs.Prelude.{◌≡◌, ℕ, [], ◌∷◌, ◌++◌, Contains}
 use Rattle.fraction_theory.specs.Fraction.{Fraction}
 use Rattle.exact_fraction.specs.declared.Op.TheVariants.{Plus}
 use Rattle.exact_fraction.specs.declared.Passed.{Passed}
@@ -16,6 +16,7 @@ use Rattle.market_model.specs.SumTables.{IsRefusedAmong, BalanceSum, LimitFlowSu
 use Rattle.market_model.specs.Valued.{passed_at}
 use Rattle.cert_format.specs.declared.certificate.Cert.{Cert}
 use Rattle.cert_format.specs.declared.certificate.Cert.TheVariants.{Optimal, Farkas}
+use Rattle.cert_format.specs.Certificates.{places_of}
 use Rattle.cert_sums.specs.Pairs.{IsFarkasPair}
 use Rattle.cert_sums.specs.Refusals.{IsUnitPriceRefusal}
 use Rattle.cert_verify.specs.declared.verdicts.VerifyStop.{VerifyStop}
@@ -43,9 +44,14 @@ pub record IsFarkasStop (m : Parts) (d : Duals Fraction) (bound : ℕ) (p : Pass
   pub before : NoneOf (dual_reasons m d.limits)
 
 -- of the dispatch and the duals of a certificate
-abbrev pub IsCertificateStop : Parts → ℕ → Cert Fraction → Passed Fraction → Type 0
-IsCertificateStop m bound (Optimal blocks energy limits) = IsOptimalStop m (dispatch_by blocks) (named_duals energy limits) bound
-IsCertificateStop m bound (Farkas energy limits) = IsFarkasStop m (named_duals energy limits) bound
+abbrev pub IsKindStop : Parts → ℕ → Cert Fraction → Passed Fraction → Type 0
+IsKindStop m bound (Optimal blocks energy limits places) = IsOptimalStop m (dispatch_by blocks) (named_duals energy limits) bound
+IsKindStop m bound (Farkas energy limits places) = IsFarkasStop m (named_duals energy limits) bound
+
+-- and its factors had the market's places, which is looked at before
+pub record IsCertificateStop (m : Parts) (bound : ℕ) (c : Cert Fraction) (p : Passed Fraction) : Type 0 where
+  pub places : places_of c ≡ m.places
+  pub refused : IsKindStop m bound c p
 
 -- what a stop of the work on a market is told as
 abbrev pub told_stop : {N : Type 0} → Stop N → VerifyStop N

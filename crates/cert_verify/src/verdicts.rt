@@ -8,6 +8,8 @@ use market_model::{RowId, Stop};
 /// Why a certificate does not hold.
 #[derive(Clone, Copy, PartialEq, Eq, Debug)]
 pub enum Reason {
+    /// The factors of the certificate's market had other places than those of the market.
+    Places,
     /// There is not one quantity for each block.
     Count,
     /// The market has no row of that name.

@@ -3,13 +3,14 @@
 ghost use Rattle.std.specs.Prelude.{◌≡◌, IfOk, IfErr};
 ghost use Rattle.cert_format.specs.Certificates.{RowsAreDistinct, cert_at};
 ghost use Rattle.cert_verify.specs.Certificates.{first_reason};
-ghost use Rattle.cert_verify.specs.Reasons.{verdict_of};
+ghost use Rattle.cert_verify.specs.Reasons.{places_reason, verdict_of};
 ghost use Rattle.cert_verify.specs.Stops.{IsVerifyStop};
 
 use crate::against::{against_farkas, against_optimal};
 use crate::{Reason, Verdict, VerifyStop};
 use cert_format::Cert;
 use exact_fraction::Exact;
+use market_data::FactorPlaces;
 use market_model::Market;
 use std::alloc::Global;
 
@@ -23,7 +24,18 @@ fn told(reason: Option<Reason>) -> Verdict
     }
 }
 
-/// Whether a certificate holds of a market: that its dispatch is feasible and its duals support it, or that its duals show that no
+/// Whether factors had other places than those of the market.
+fn other_places(market: &Market, places: FactorPlaces) -> Option<Reason>
+    ensures { result ≡ places_reason market.now places }
+{
+    if places.count() == market.places().count() {
+        None
+    } else {
+        Some(Reason::Places)
+    }
+}
+
+/// Whether a certificate holds of a market: that its factors had as many places as the market's, and that its dispatch is feasible and its duals support it, or that its duals show that no
 /// dispatch is feasible. Numbers are as in certificates: MW in 10^-9, and prices in 10^-6 per MWh, or plain numbers in duals of the second
 /// kind. No row is named twice.
 ///
@@ -39,16 +51,24 @@ pub fn verify<N: Exact>(
     ensures verdict { IfOk result (λ verdict. verdict ≡ verdict_of (first_reason market.now (cert_at N.value cert.now))) }
     ensures cause { IfErr result (IsVerifyStop N.value market.now N.bound (cert_at N.value cert.now)) }
 {
+    if let Some(reason) = other_places(market, cert.places()) {
+        return Ok(Verdict::No(reason));
+    }
     match cert {
         Cert::Optimal {
             blocks,
             energy,
             limits,
+            places: _,
         } => {
             let reason = against_optimal(alloc, market, blocks.slice(), *energy, limits.slice())?;
             Ok(told(reason))
         }
-        Cert::Farkas { energy, limits } => {
+        Cert::Farkas {
+            energy,
+            limits,
+            places: _,
+        } => {
             let reason = against_farkas(alloc, market, *energy, limits.slice())?;
             Ok(told(reason))
         }

@@ -25,8 +25,10 @@ use Rattle.edit_table.specs.declared.Step.{Step}
 use Rattle.edit_table.specs.declared.Step.TheVariants as edit
 use Rattle.edit_replay.specs.Replays.{IsReplay, edited_by, stepped}
 use Rattle.edit_replay.specs.declared.step_outcome.StepOutcome.{StepOutcome}
+use Rattle.edit_replay.proofs.FrameLemmas.{steps_frame}
 use Rattle.edit_replay.specs.declared.step_outcome.StepOutcome.TheVariants as step
 use Rattle.offer_book.specs.Edits.{step_of}
+use Rattle.market_data.specs.declared.scales.FactorPlaces.{FactorPlaces}
 use Rattle.net_case.specs.declared.live_parts.PostRating.{PostRating}
 use Rattle.refusal_text.specs.declared.refusals.Input.TheVariants as input
 use Rattle.refusal_text.specs.declared.refusals.Refusal.{Refusal}
@@ -34,10 +36,11 @@ use Rattle.refusal_text.specs.declared.refusals.Refusal.TheVariants as refusal
 use Rattle.market_tables.specs.Tables.{MarketTexts}
 use Rattle.market_inputs.specs.Files.{most_file, sized, sized_tables}
 use Rattle.market_inputs.specs.Replaying.{certificate_in, steps_in}
+use Rattle.market_inputs.specs.RightsInputs.{rights_in}
 use Rattle.market_inputs.proofs.OnceLemmas.{OfOne, clear-once, is-once, then-once}
 use Rattle.command_answers.specs.Clearing.{TellsClear, most_size}
 use Rattle.command_answers.specs.Laws.{Certifies, CertifiesLast, IsEdit, IsYesOrRange, LawOfTheReplay, LawOfTheRoundTrip, LawOfTheSameFiles, LawOfYes}
-use Rattle.command_answers.specs.Inputs.{IsCertified, IsLimited, IsReplayed, MarketCertificate, MarketSteps}
+use Rattle.command_answers.specs.Inputs.{AreEntitled, IsCertified, IsLimited, IsReplayed, MarketCertificate, MarketSteps}
 use Rattle.command_answers.specs.Replaying.{ReplaysTo, last_clear}
 use Rattle.command_answers.specs.Tellings.{ComesTo, Telling, Tells, uncertified}
 use Rattle.command_answers.specs.Verdicts.{verdict_line}
@@ -56,10 +59,10 @@ certified m c text right fits is =
     }
 
 -- that of a right outcome
-of_outcome : (m : Parts) (taken : List Row) (o : Outcome Fraction) (text : List ℕ) → IsMarket m → IsRightOutcome most_size m taken o → IfSome (cert_of_outcome o) (NumbersFit most_size) → certificate_of o ≡ Some text
-    → (c : Cert Fraction) × (cert_of_outcome o ≡ Some c) × Certifies m text c
-of_outcome m taken (outcome.Cleared a) text market right fits is = (cert_of a, refl, certified m (cert_of a) text (law_of_right_answers m a market right) fits is)
-of_outcome m taken (outcome.Infeasible f) text market right fits is = (cert_against f, refl, certified m (cert_against f) text (law_of_farkas_duals m f market right) fits is)
+of_outcome : (m : Parts) (taken : List Row) (o : Outcome Fraction) (text : List ℕ) → IsMarket m → IsRightOutcome most_size m taken o → IfSome (cert_of_outcome m.places o) (NumbersFit most_size) → certificate_of m.places o ≡ Some text
+    → (c : Cert Fraction) × (cert_of_outcome m.places o ≡ Some c) × Certifies m text c
+of_outcome m taken (outcome.Cleared a) text market right fits is = (cert_of m.places a, refl, certified m (cert_of m.places a) text (law_of_right_answers m a market right) fits is)
+of_outcome m taken (outcome.Infeasible f) text market right fits is = (cert_against m.places f, refl, certified m (cert_against m.places f) text (law_of_farkas_duals m f market right) fits is)
 of_outcome m taken (outcome.Range p) text market right fits is = cc is
 
 pub law_of_the_round_trip : LawOfTheRoundTrip
@@ -110,20 +113,25 @@ last_of bound m before after (edit.Clear ∷ steps) (step.Clear q ∷ outcomes) 
     clear_first bound m before steps prior q o replay.1.right (last_of bound m replay.0 after steps outcomes (Some q) o replay.2 (sym (last_first prior (step.Clear q) outcomes) ∙ is))
 
 module _ (r : MarketSteps) (t : Telling) (text : List ℕ) (replays : ReplaysTo most_size r.market r.steps t) where
-  last_certifies : (o : Outcome Fraction) → IsOfLast most_size r.market r.steps o → IfSome (cert_of_outcome o) (NumbersFit most_size) → certificate_of o ≡ Some text
-      → (c : Cert Fraction) × (cert_of_outcome o ≡ Some c) × CertifiesLast r text c
+  -- edits change no places of factors
+  same_places : (steps : List Step) → r.market.places ≡ (edited_by r.market steps).places
+  same_places steps = ap (λ (p : Parts). p.places) (steps_frame r.market steps)
+
+  last_certifies : (o : Outcome Fraction) → IsOfLast most_size r.market r.steps o → IfSome (cert_of_outcome r.market.places o) (NumbersFit most_size) → certificate_of r.market.places o ≡ Some text
+      → (c : Cert Fraction) × (cert_of_outcome r.market.places o ≡ Some c) × CertifiesLast r text c
   last_certifies o h fits is =
       let front_is : take (length h.front) r.steps ≡ h.front = ap (take (length h.front)) h.steps_are ∙ take-append_seam h.front (edit.Clear ∷ h.rest) in
       let market = subst (λ (ss : List Step). IsMarket (edited_by r.market ss)) front_is (replays.markets (length h.front)) in
-      let k = of_outcome (edited_by r.market h.front) h.taken o text market h.right fits is in
-      (k.0, k.1, record { front = h.front; rest = h.rest; steps_are = h.steps_are; last = h.last; certifies = k.2 })
+      let same = same_places h.front in
+      let k = of_outcome (edited_by r.market h.front) h.taken o text market h.right (subst (λ n. IfSome (cert_of_outcome n o) (NumbersFit most_size)) same fits) (subst (λ n. certificate_of n o ≡ Some text) same is) in
+      (k.0, subst (λ n. cert_of_outcome n o ≡ Some k.0) (sym same) k.1, record { front = h.front; rest = h.rest; steps_are = h.steps_are; last = h.last; certifies = k.2 })
 
-  by_last : (last : Option (Outcome Fraction)) → last_clear None replays.outcomes ≡ last → IfSome (option_and_then cert_of_outcome last) (NumbersFit most_size) → option_and_then certificate_of last ≡ Some text
-      → (c : Cert Fraction) × (option_and_then cert_of_outcome last ≡ Some c) × CertifiesLast r text c
+  by_last : (last : Option (Outcome Fraction)) → last_clear None replays.outcomes ≡ last → IfSome (option_and_then (cert_of_outcome r.market.places) last) (NumbersFit most_size) → option_and_then (certificate_of r.market.places) last ≡ Some text
+      → (c : Cert Fraction) × (option_and_then (cert_of_outcome r.market.places) last ≡ Some c) × CertifiesLast r text c
   by_last None e fits is = cc is
   by_last (Some o) e fits is = from (last_of most_size r.market [] replays.taken r.steps replays.outcomes None o replays.right e)
     where
-      from : LastOr most_size r.market r.steps None o → (c : Cert Fraction) × (cert_of_outcome o ≡ Some c) × CertifiesLast r text c
+      from : LastOr most_size r.market r.steps None o → (c : Cert Fraction) × (cert_of_outcome r.market.places o ≡ Some c) × CertifiesLast r text c
       from (inl (none, all)) = cc none
       from (inr h) = last_certifies o h fits is
 
@@ -143,37 +151,41 @@ unfolding sized
 read_whole text c short read = rw (le-ltb most_file (length text) short, read) refl
 
 -- files stand for one market, with steps or with a certificate
-pub limited-once : (rating : PostRating) (files : MarketTexts) → OfOne (IsLimited rating files)
-limited-once rating files = clear-once rating (sized_tables files)
+pub limited-once : (rating : PostRating) (places : FactorPlaces) (files : MarketTexts) → OfOne (IsLimited rating places files)
+limited-once rating places files = clear-once rating places (sized_tables files)
 
-pub replayed-once : (rating : PostRating) (files : MarketTexts) (edits : List ℕ) → OfOne (IsReplayed rating files edits)
-replayed-once rating files edits =
-    then-once _ _ (limited-once rating files) (λ market _. then-once _ _ (is-once (steps_in (sized (refusal.TooLong input.Edits) edits))) (λ steps _. is-once (Ok (record { market = market; steps = steps }))))
+pub replayed-once : (rating : PostRating) (places : FactorPlaces) (files : MarketTexts) (edits : List ℕ) → OfOne (IsReplayed rating places files edits)
+replayed-once rating places files edits =
+    then-once _ _ (limited-once rating places files) (λ market _. then-once _ _ (is-once (steps_in (sized (refusal.TooLong input.Edits) edits))) (λ steps _. is-once (Ok (record { market = market; steps = steps }))))
 
-pub certified-once : (rating : PostRating) (files : MarketTexts) (edits certificate : List ℕ) → OfOne (IsCertified rating files edits certificate)
-certified-once rating files edits certificate =
-    then-once _ _ (replayed-once rating files edits)
+pub certified-once : (rating : PostRating) (places : FactorPlaces) (files : MarketTexts) (edits certificate : List ℕ) → OfOne (IsCertified rating places files edits certificate)
+certified-once rating places files edits certificate =
+    then-once _ _ (replayed-once rating places files edits)
     (λ r _. then-once _ _ (is-once (certificate_in (sized (refusal.TooLong input.Certificate) certificate))) (λ c _. is-once _))
 
-module _ (rating : PostRating) (files : MarketTexts) (edits text : List ℕ) (none : steps_in (sized (refusal.TooLong input.Edits) edits) ≡ Ok []) where
+pub entitled-once : (rating : PostRating) (places : FactorPlaces) (files : MarketTexts) (rights : List ℕ) → OfOne (AreEntitled rating places files rights)
+entitled-once rating places files rights =
+    then-once _ _ (limited-once rating places files) (λ market _. then-once _ _ (is-once (rights_in market (sized (refusal.TooLong input.Rights) rights))) (λ held _. is-once _))
+
+module _ (rating : PostRating) (places : FactorPlaces) (files : MarketTexts) (edits text : List ℕ) (none : steps_in (sized (refusal.TooLong input.Edits) edits) ≡ Ok []) where
   -- what they stand for with a certificate
-  stands_with : (m : Parts) (c : Cert Fraction) → IsLimited rating files (Ok m) → certificate_in (sized (refusal.TooLong input.Certificate) text) ≡ Ok c
-      → IsCertified rating files edits text (Ok (record { market = m; certificate = c }))
+  stands_with : (m : Parts) (c : Cert Fraction) → IsLimited rating places files (Ok m) → certificate_in (sized (refusal.TooLong input.Certificate) text) ≡ Ok c
+      → IsCertified rating places files edits text (Ok (record { market = m; certificate = c }))
   stands_with m c limited read = record {
     made = Ok (record { market = m; steps = [] });
     is = record { made = Ok m; is = limited; rest = record { made = Ok []; is = none; rest = refl } };
     rest = record { made = Ok c; is = read; rest = refl };
   }
 
-  told_yes : (clear verify : Telling) → length text ≤ most_file → clear.outputs.certificate ≡ Some text → (told : Result Parts Refusal) → IsLimited rating files told → ComesTo TellsClear told clear
-      → Tells (IsCertified rating files edits text) TellsVerdict verify → IsYesOrRange verify
+  told_yes : (clear verify : Telling) → length text ≤ most_file → clear.outputs.certificate ≡ Some text → (told : Result Parts Refusal) → IsLimited rating places files told → ComesTo TellsClear told clear
+      → Tells (IsCertified rating places files edits text) TellsVerdict verify → IsYesOrRange verify
   told_yes clear verify short is (Err r) limited comes verified = let no = ap (λ (t : Telling). t.outputs.certificate) comes in cc (is, no)
   told_yes clear verify short is (Ok m) limited comes verified =
       let trip = law_of_the_round_trip m clear text comes is in
       let c = trip.0 in
-      let here : IsCertified rating files edits text (Ok (record { market = m; certificate = c })) = stands_with m c limited (read_whole text c short trip.2.read) in
-      let same = certified-once rating files edits text verified.told (Ok (record { market = m; certificate = c })) verified.stands here in
+      let here : IsCertified rating places files edits text (Ok (record { market = m; certificate = c })) = stands_with m c limited (read_whole text c short trip.2.read) in
+      let same = certified-once rating places files edits text verified.told (Ok (record { market = m; certificate = c })) verified.stands here in
       law_of_yes m text c verify trip.2 (subst (λ (r : Result MarketCertificate Refusal). ComesTo TellsVerdict r verify) same verified.comes)
 
 pub law_of_the_same_files : LawOfTheSameFiles
-law_of_the_same_files rating files edits text clear verify cleared is short none verified = told_yes rating files edits text none clear verify short is cleared.told cleared.stands cleared.comes verified
+law_of_the_same_files rating places files edits text clear verify cleared is short none verified = told_yes rating places files edits text none clear verify short is cleared.told cleared.stands cleared.comes verified

@@ -43,8 +43,8 @@ pub record ClearsTo (bound : ℕ) (m : Parts) (t : Telling) : Type 0 where
   pub sides : AreSidesWithin bound outcome
   pub status_is : t.status ≡ status_of outcome
   pub text_is : t.text ≡ report_text m outcome
-  pub certificate_is : t.outputs ≡ certified (certificate_of outcome)
-  pub certificate_fits : IfSome (cert_of_outcome outcome) (NumbersFit bound)
+  pub certificate_is : t.outputs ≡ certified (certificate_of m.places outcome)
+  pub certificate_fits : IfSome (cert_of_outcome m.places outcome) (NumbersFit bound)
 
 -- the greatest size of a numerator or denominator, in what is told and in certificates
 abbrev pub most_size : ℕ

@@ -2,6 +2,8 @@
 use Rattle.std.specs.Prelude.{ℕ, List, Result, Ok, Err}
 use Rattle.fraction_theory.specs.Fraction.{Fraction}
 use Rattle.market_model.specs.declared.participants.Parts.{Parts}
+use Rattle.market_model.specs.declared.participants.TransmissionRight.{TransmissionRight}
+use Rattle.market_data.specs.declared.scales.FactorPlaces.{FactorPlaces}
 use Rattle.net_case.specs.declared.live_parts.PostRating.{PostRating}
 use Rattle.cert_format.specs.Certificates.{cert_at}
 use Rattle.cert_format.specs.declared.certificate.Cert.{Cert}
@@ -16,10 +18,12 @@ use Rattle.market_inputs.specs.Clearing.{IsClearMarket}
 use Rattle.market_inputs.specs.Files.{sized, sized_grid, sized_tables}
 use Rattle.market_inputs.specs.Pooling.{IsPoolMarket}
 use Rattle.market_inputs.specs.Replaying.{certificate_in, steps_in}
+use Rattle.market_inputs.specs.RightsInputs.{rights_in}
 use Rattle.market_inputs.specs.Steps.{Is, Then}
 use Rattle.market_inputs.specs.declared.checking.Inputs.{Inputs}
 use Rattle.market_inputs.specs.declared.stops.InputStop.{InputStop}
 use Rattle.command_answers.specs.declared.replaying.Replayed.{Replayed}
+use Rattle.command_answers.specs.declared.rights.Entitled.{Entitled}
 use Rattle.command_answers.specs.declared.verifying.Certified.{Certified}
 
 -- ---- markets
@@ -27,9 +31,9 @@ use Rattle.command_answers.specs.declared.verifying.Certified.{Certified}
 abbrev pub IsPool : List ℕ → List ℕ → Result Parts Refusal → Type 0
 IsPool case offers told = IsPoolMarket (sized (refusal.TooLong input.Case) case) (sized (refusal.TooLong input.Offers) offers) told
 
--- what the tables of a market stand for, by the rating after an outage
-abbrev pub IsLimited : PostRating → MarketTexts → Result Parts Refusal → Type 0
-IsLimited rating texts told = IsClearMarket rating (sized_tables texts) told
+-- what the tables of a market stand for, by the rating after an outage and the places that factors may have
+abbrev pub IsLimited : PostRating → FactorPlaces → MarketTexts → Result Parts Refusal → Type 0
+IsLimited rating places texts told = IsClearMarket rating places (sized_tables texts) told
 
 -- ---- a market with steps
 pub record MarketSteps : Type 0 where
@@ -45,9 +49,9 @@ steps_with (Ok made) = Ok (market_steps made)
 steps_with (Err stop) = Err stop
 
 -- what these texts and a table of edits stand for; the edits come last
-abbrev pub IsReplayed : PostRating → MarketTexts → List ℕ → Result MarketSteps Refusal → Type 0
-IsReplayed rating texts edits told =
-    Then (IsLimited rating texts) (λ market.
+abbrev pub IsReplayed : PostRating → FactorPlaces → MarketTexts → List ℕ → Result MarketSteps Refusal → Type 0
+IsReplayed rating places texts edits told =
+    Then (IsLimited rating places texts) (λ market.
     Then (Is (steps_in (sized (refusal.TooLong input.Edits) edits))) (λ steps.
     Is (Ok (record { market = market; steps = steps })))) told
 
@@ -62,13 +66,38 @@ certificate_with value (Ok made) = Ok (record { market = made.market; certificat
 certificate_with value (Err stop) = Err stop
 
 -- what these and the text of a certificate stand for: the market after the edits; the certificate comes last
-abbrev pub IsCertified : PostRating → MarketTexts → List ℕ → List ℕ → Result MarketCertificate Refusal → Type 0
-IsCertified rating texts edits certificate told =
-    Then (IsReplayed rating texts edits) (λ replayed.
+abbrev pub IsCertified : PostRating → FactorPlaces → MarketTexts → List ℕ → List ℕ → Result MarketCertificate Refusal → Type 0
+IsCertified rating places texts edits certificate told =
+    Then (IsReplayed rating places texts edits) (λ replayed.
     Then (Is (certificate_in (sized (refusal.TooLong input.Certificate) certificate))) (λ read.
     Is (Ok (record { market = edited_by replayed.market replayed.steps; certificate = read })))) told
 
+-- ---- a certificate alone
+-- what its text stands for
+abbrev pub IsMigrated : List ℕ → Result (Cert Fraction) Refusal → Type 0
+IsMigrated certificate told = Is (certificate_in (sized (refusal.TooLong input.Certificate) certificate)) told
+
+-- ---- a market with transmission rights
+pub record MarketRights : Type 0 where
+  pub market : Parts
+  pub rights : List TransmissionRight
+
+-- those that were read
+abbrev pub market_rights : Entitled → MarketRights
+market_rights made = record { market = made.market; rights = made.rights }
+
+abbrev pub rights_with : Result Entitled InputStop → Result MarketRights InputStop
+rights_with (Ok made) = Ok (market_rights made)
+rights_with (Err stop) = Err stop
+
+-- what these texts and a table of rights stand for; the rights come last
+abbrev pub AreEntitled : PostRating → FactorPlaces → MarketTexts → List ℕ → Result MarketRights Refusal → Type 0
+AreEntitled rating places texts rights told =
+    Then (IsLimited rating places texts) (λ market.
+    Then (Is (rights_in market (sized (refusal.TooLong input.Rights) rights))) (λ held.
+    Is (Ok (record { market = market; rights = held })))) told
+
 -- ---- a check
--- what a case and its tables stand for
-abbrev pub IsCheck : GridTexts → Result Inputs Refusal → Type 0
-IsCheck texts told = AreInputs (sized_grid texts) told
+-- what a case and its tables stand for, whose factors may have so many places
+abbrev pub IsCheck : FactorPlaces → GridTexts → Result Inputs Refusal → Type 0
+IsCheck places texts told = AreInputs places (sized_grid texts) told

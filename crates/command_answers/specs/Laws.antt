@@ -14,6 +14,7 @@ use Rattle.edit_replay.specs.Replays.{edited_by}
 use Rattle.market_tables.specs.Tables.{MarketTexts}
 use Rattle.market_inputs.specs.Files.{most_file, sized}
 use Rattle.market_inputs.specs.Replaying.{steps_in}
+use Rattle.market_data.specs.declared.scales.FactorPlaces.{FactorPlaces}
 use Rattle.net_case.specs.declared.live_parts.PostRating.{PostRating}
 use Rattle.refusal_text.specs.declared.refusals.Input.TheVariants as input
 use Rattle.refusal_text.specs.declared.refusals.Refusal.TheVariants as refusal
@@ -33,7 +34,7 @@ pub record Certifies (m : Parts) (text : List ℕ) (c : Cert Fraction) : Type 0 
 -- what a clear of a market writes is read as the certificate of what it came to, which is true of the market
 abbrev pub LawOfTheRoundTrip : Type 0
 LawOfTheRoundTrip =
-    (m : Parts) (t : Telling) (text : List ℕ) (tells : TellsClear m t) → t.outputs.certificate ≡ Some text → (c : Cert Fraction) × (cert_of_outcome tells.1.outcome ≡ Some c) × Certifies m text c
+    (m : Parts) (t : Telling) (text : List ℕ) (tells : TellsClear m t) → t.outputs.certificate ≡ Some text → (c : Cert Fraction) × (cert_of_outcome m.places tells.1.outcome ≡ Some c) × Certifies m text c
 
 abbrev pub IsEdit : Step → Type 0
 IsEdit (step.Edit e) = Unit {0}
@@ -51,7 +52,7 @@ pub record CertifiesLast (r : MarketSteps) (text : List ℕ) (c : Cert Fraction)
 abbrev pub LawOfTheReplay : Type 0
 LawOfTheReplay =
     (r : MarketSteps) (t : Telling) (text : List ℕ) (tells : TellsReplay r t) → t.outputs.certificate ≡ Some text
-    → (c : Cert Fraction) × (option_and_then cert_of_outcome (last_clear None tells.1.outcomes) ≡ Some c) × CertifiesLast r text c
+    → (c : Cert Fraction) × (option_and_then (cert_of_outcome r.market.places) (last_clear None tells.1.outcomes) ≡ Some c) × CertifiesLast r text c
 
 -- ---- when it is verified
 -- yes is told, or that numbers are too large
@@ -66,5 +67,5 @@ LawOfYes = (m : Parts) (text : List ℕ) (c : Cert Fraction) (t : Telling) → C
 -- longer than a file may be
 abbrev pub LawOfTheSameFiles : Type 0
 LawOfTheSameFiles =
-    (rating : PostRating) (files : MarketTexts) (edits text : List ℕ) (clear verify : Telling) → Tells (IsLimited rating files) TellsClear clear → clear.outputs.certificate ≡ Some text → length text ≤ most_file
-    → steps_in (sized (refusal.TooLong input.Edits) edits) ≡ Ok [] → Tells (IsCertified rating files edits text) TellsVerdict verify → IsYesOrRange verify
+    (rating : PostRating) (places : FactorPlaces) (files : MarketTexts) (edits text : List ℕ) (clear verify : Telling) → Tells (IsLimited rating places files) TellsClear clear → clear.outputs.certificate ≡ Some text → length text ≤ most_file
+    → steps_in (sized (refusal.TooLong input.Edits) edits) ≡ Ok [] → Tells (IsCertified rating places files edits text) TellsVerdict verify → IsYesOrRange verify

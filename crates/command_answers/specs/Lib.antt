@@ -3,7 +3,10 @@ pub mod Clearing
 pub mod Inputs
 pub mod Laws
 pub mod Making
+pub mod Migrating
 pub mod Replaying
+pub mod Rights
+pub mod RightsLines
 pub mod Status
 pub mod Tellings
 pub mod Verdicts

@@ -84,8 +84,8 @@ pub record ReplaysTo (bound : ℕ) (m : Parts) (steps : List Step) (t : Telling)
   pub decided : NoPairPassesIn m [] steps bound → AreDecided m steps outcomes
   pub status_is : t.status ≡ replay_status outcomes
   pub text_is : t.text ≡ replayed m steps outcomes
-  pub certificate_is : t.outputs ≡ certified (option_and_then certificate_of (last_clear None outcomes))
-  pub certificate_fits : IfSome (option_and_then cert_of_outcome (last_clear None outcomes)) (NumbersFit bound)
+  pub certificate_is : t.outputs ≡ certified (option_and_then (certificate_of m.places) (last_clear None outcomes))
+  pub certificate_fits : IfSome (option_and_then (cert_of_outcome m.places) (last_clear None outcomes)) (NumbersFit bound)
 
 -- the same of a market, which keeps what every market keeps, by numbers of 127 bits
 abbrev pub TellsReplay : MarketSteps → Telling → Type 0

@@ -14,6 +14,7 @@ row_words id = codes " branch " ++ decimal id.branch ++ codes " outage " ++ deci
 
 -- a reason by its name, and where it is
 unfoldable pub reason_words : Reason → List ℕ
+reason_words reason.Places = codes "Places"
 reason_words reason.Count = codes "Count"
 reason_words (reason.NoRow id) = codes "NoRow" ++ row_words id
 reason_words (reason.Sign id) = codes "Sign" ++ row_words id

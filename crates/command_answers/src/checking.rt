@@ -13,6 +13,7 @@ use crate::told::{Told, refused, uncertified};
 use factor_residuals::{
     Residual, bus_residual, loop_residual, outage_bus_residual, outage_loop_residual,
 };
+use market_data::FactorPlaces;
 use market_inputs::{InputStop, Inputs, check_inputs};
 use market_tables::GridTables;
 use plain_list::Memory;
@@ -87,12 +88,16 @@ fn residuals_told(alloc: Global, inputs: &Inputs) -> Result<Told, Memory>
     Ok(uncertified(check_status(&residuals), text))
 }
 
-/// What the whole bytes of a case and of its tables come to.
-pub fn check_told(alloc: Global, bytes: &GridTables<&[u8]>) -> Result<Told, Memory>
+/// What the whole bytes of a case and of its tables come to, whose factors may have so many places.
+pub fn check_told(
+    alloc: Global,
+    bytes: &GridTables<&[u8]>,
+    places: FactorPlaces,
+) -> Result<Told, Memory>
     ensures status { IfOk result (λ told. IsOfWork told.status) }
-    ensures tells { IfOk result (λ told. Tells (IsCheck (grid_lent bytes.now)) TellsCheck (telling_of told)) }
+    ensures tells { IfOk result (λ told. Tells (IsCheck places (grid_lent bytes.now)) TellsCheck (telling_of told)) }
 {
-    match check_inputs(alloc, bytes) {
+    match check_inputs(alloc, bytes, places) {
         Ok(inputs) => residuals_told(alloc, &inputs),
         Err(InputStop::Refused(refusal)) => refused(alloc, &refusal),
         Err(InputStop::Memory) => Err(Memory),

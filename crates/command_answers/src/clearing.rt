@@ -16,6 +16,7 @@ use crate::told::{Outputs, Told, refused};
 use cert_format::outcome_json;
 use clear_loop::{Clearer, outcome};
 use exact_fraction::{Exact, Frac};
+use market_data::FactorPlaces;
 use market_inputs::{InputStop, clear_market, pool_market};
 use market_model::{Market, Memory, Outcome};
 use market_tables::MarketTables;
@@ -54,7 +55,7 @@ fn clear_outcome<N: Exact>(alloc: Global, market: &Market) -> Result<Told, Memor
     Ok(Told {
         status: clear_status(&outcome),
         text: report(alloc, market, &outcome)?,
-        outputs: Outputs::certified(outcome_json(alloc, &outcome)?),
+        outputs: Outputs::certified(outcome_json(alloc, market.places(), &outcome)?),
     })
 }
 
@@ -84,9 +85,10 @@ pub fn clear_told(
     alloc: Global,
     bytes: &MarketTables<&[u8]>,
     rating: PostRating,
+    places: FactorPlaces,
 ) -> Result<Told, Memory>
     ensures status { IfOk result (λ told. IsOfWork told.status) }
-    ensures tells { IfOk result (λ told. Tells (IsLimited rating (tables_lent bytes.now)) TellsClear (telling_of told)) }
+    ensures tells { IfOk result (λ told. Tells (IsLimited rating places (tables_lent bytes.now)) TellsClear (telling_of told)) }
 {
-    market_told(alloc, clear_market(alloc, bytes, rating))
+    market_told(alloc, clear_market(alloc, bytes, rating, places))
 }

@@ -21,6 +21,7 @@ use crate::told::{Outputs, Told, refused};
 use cert_format::outcome_json;
 use edit_replay::{Outcomes, Session, StepOutcome, Steps};
 use exact_fraction::{Exact, Frac};
+use market_data::FactorPlaces;
 use market_inputs::{InputStop, clear_market, edit_steps};
 use market_model::{Market, Memory, Outcome};
 use market_tables::MarketTables;
@@ -40,12 +41,13 @@ pub(crate) fn replay_inputs(
     alloc: Global,
     bytes: &MarketTables<&[u8]>,
     rating: PostRating,
+    places: FactorPlaces,
     edits: &[u8],
 ) -> Result<Replayed, InputStop>
-    ensures told { IsToldAs (IsReplayed rating (tables_lent bytes.now) edits.now) (steps_with result) }
+    ensures told { IsToldAs (IsReplayed rating places (tables_lent bytes.now) edits.now) (steps_with result) }
     ensures kept { IfOk result (λ made. IsMarket made.market × AreSteps made.steps) }
 {
-    let market = clear_market(alloc, bytes, rating)?;
+    let market = clear_market(alloc, bytes, rating, places)?;
     let steps = edit_steps(alloc, edits)?;
     Ok(Replayed { market, steps })
 }
@@ -95,20 +97,21 @@ fn clear_or<'a, N>(
     }
 }
 
-/// The certificate of the last clear.
+/// The certificate of the last clear, of a market whose factors have so many places.
 fn last_certificate<N: Exact>(
     alloc: Global,
     outcomes: &Outcomes<N>,
+    places: FactorPlaces,
 ) -> Result<Option<Vec<u8>>, Memory>
-    ensures text { IfOk result (λ made. option_map (λ bytes. bytes.items) made ≡ option_and_then certificate_of (last_clear None (map (step_outcome_at N.value) outcomes.now))) }
-    ensures fits { OnOk result (IfSome (option_and_then cert_of_outcome (last_clear None (map (step_outcome_at N.value) outcomes.now))) (NumbersFit N.bound)) }
+    ensures text { IfOk result (λ made. option_map (λ bytes. bytes.items) made ≡ option_and_then (certificate_of places) (last_clear None (map (step_outcome_at N.value) outcomes.now))) }
+    ensures fits { OnOk result (IfSome (option_and_then (cert_of_outcome places) (last_clear None (map (step_outcome_at N.value) outcomes.now))) (NumbersFit N.bound)) }
 {
     let mut last = None;
     for outcome in outcomes.slice() {
         last = clear_or(last, outcome);
     }
     match last {
-        Some(outcome) => outcome_json(alloc, outcome),
+        Some(outcome) => outcome_json(alloc, places, outcome),
         None => Ok(None),
     }
 }
@@ -120,13 +123,14 @@ fn replay_outcome<N: Exact>(alloc: Global, market: Market, steps: &Steps) -> Res
     ensures status { IfOk result (λ told. IsOfWork told.status) }
     ensures replays { IfOk result (λ told. ReplaysTo N.bound market steps.now (telling_of told)) }
 {
+    let places = market.places();
     let mut session = Session::<N>::new(market);
     let outcomes = session.replay(alloc, steps)?;
     let text = replay_text(alloc, session.market(), steps, &outcomes)?;
     Ok(Told {
         status: replay_status(&outcomes),
         text,
-        outputs: Outputs::certified(last_certificate(alloc, &outcomes)?),
+        outputs: Outputs::certified(last_certificate(alloc, &outcomes, places)?),
     })
 }
 
@@ -135,12 +139,13 @@ pub fn replay_told(
     alloc: Global,
     bytes: &MarketTables<&[u8]>,
     rating: PostRating,
+    places: FactorPlaces,
     edits: &[u8],
 ) -> Result<Told, Memory>
     ensures status { IfOk result (λ told. IsOfWork told.status) }
-    ensures tells { IfOk result (λ told. Tells (IsReplayed rating (tables_lent bytes.now) edits.now) TellsReplay (telling_of told)) }
+    ensures tells { IfOk result (λ told. Tells (IsReplayed rating places (tables_lent bytes.now) edits.now) TellsReplay (telling_of told)) }
 {
-    match replay_inputs(alloc, bytes, rating, edits) {
+    match replay_inputs(alloc, bytes, rating, places, edits) {
         Ok(replayed) => replay_outcome::<Frac>(alloc, replayed.market, &replayed.steps),
         Err(InputStop::Refused(refusal)) => refused(alloc, &refusal),
         Err(InputStop::Memory) => Err(Memory),

@@ -47,6 +47,7 @@ fn write_reason(text: &mut Text, reason: Reason) -> Result<(), Memory>
     ensures { IfOk result (λ _. text.new ≡ text.old ++ reason_words reason) }
 {
     match reason {
+        Reason::Places => text.word(b"Places"),
         Reason::Count => text.word(b"Count"),
         Reason::NoRow { row } => at_row(text, b"NoRow", row),
         Reason::Sign { row } => at_row(text, b"Sign", row),

@@ -24,6 +24,7 @@ use cert_format::Cert;
 use cert_verify::{Verdict, VerifyStop, verify};
 use edit_table::{Step, Steps};
 use exact_fraction::{Exact, Frac};
+use market_data::FactorPlaces;
 use market_inputs::{InputStop, read_certificate};
 use market_model::{Market, Memory, Outcome};
 use market_tables::MarketTables;
@@ -58,14 +59,15 @@ fn verify_inputs(
     alloc: Global,
     bytes: &MarketTables<&[u8]>,
     rating: PostRating,
+    places: FactorPlaces,
     edits: &[u8],
     certificate: &[u8],
 ) -> Result<Certified<Frac>, InputStop>
-    ensures told { IsToldAs (IsCertified rating (tables_lent bytes.now) edits.now certificate.now) (certificate_with ⟦<Frac as Exact>⟧.value result) }
+    ensures told { IsToldAs (IsCertified rating places (tables_lent bytes.now) edits.now certificate.now) (certificate_with ⟦<Frac as Exact>⟧.value result) }
     ensures kept { IfOk result (λ made. IsMarket made.market) }
     ensures distinct { IfOk result (λ made. RowsAreDistinct (cert_at ⟦<Frac as Exact>⟧.value made.certificate)) }
 {
-    let replayed = replay_inputs(alloc, bytes, rating, edits)?;
+    let replayed = replay_inputs(alloc, bytes, rating, places, edits)?;
     let certificate = read_certificate(alloc, certificate)?;
     Ok(Certified {
         market: edited(replayed.market, &replayed.steps),
@@ -112,13 +114,14 @@ pub fn verify_told(
     alloc: Global,
     bytes: &MarketTables<&[u8]>,
     rating: PostRating,
+    places: FactorPlaces,
     edits: &[u8],
     certificate: &[u8],
 ) -> Result<Told, Memory>
     ensures status { IfOk result (λ told. IsOfWork told.status) }
-    ensures tells { IfOk result (λ told. Tells (IsCertified rating (tables_lent bytes.now) edits.now certificate.now) TellsVerdict (telling_of told)) }
+    ensures tells { IfOk result (λ told. Tells (IsCertified rating places (tables_lent bytes.now) edits.now certificate.now) TellsVerdict (telling_of told)) }
 {
-    match verify_inputs(alloc, bytes, rating, edits, certificate) {
+    match verify_inputs(alloc, bytes, rating, places, edits, certificate) {
         Ok(made) => verdict_told(alloc, &made.market, &made.certificate),
         Err(InputStop::Refused(refusal)) => refused(alloc, &refusal),
         Err(InputStop::Memory) => Err(Memory),

@@ -2,6 +2,7 @@
 //! with a negative price, and one in which nothing is feasible. These are the texts of `examples/pjm_five_bus`.
 
 use command_answers::{Status, clear_told, replay_told};
+use market_data::FactorPlaces;
 use market_tables::{GridTables, MarketTables};
 use net_case::PostRating;
 use std::test::Fail;
@@ -165,13 +166,13 @@ fn clears_five_buses(rt: HostRuntime) -> Result<(), Fail> {
         offsets: b"branch,mw\n".as_slice(),
         penalties: b"branch,limit,price,excess\n".as_slice(),
     };
-    let cleared = clear_told(alloc, &bytes, PostRating::C)?;
+    let cleared = clear_told(alloc, &bytes, PostRating::C, FactorPlaces::Six)?;
     assert_eq!(rt; cleared.status, Status::Done);
     assert_eq!(rt; cleared.text.as_slice(), REPORT);
-    let replayed = replay_told(alloc, &bytes, PostRating::C, EDITS)?;
+    let replayed = replay_told(alloc, &bytes, PostRating::C, FactorPlaces::Six, EDITS)?;
     assert_eq!(rt; replayed.status, Status::Done);
     assert_eq!(rt; replayed.text.as_slice(), REPLAY);
-    let narrowed = replay_told(alloc, &bytes, PostRating::C, NARROW)?;
+    let narrowed = replay_told(alloc, &bytes, PostRating::C, FactorPlaces::Six, NARROW)?;
     assert_eq!(rt; narrowed.status, Status::Infeasible);
     assert_eq!(rt; narrowed.text.as_slice(), INFEASIBLE);
     Ok(())

@@ -5,6 +5,7 @@
 //! and 20 after the loss: a limit gives way at once where its penalty is below that, and does not where it is above.
 
 use command_answers::{Status, Told, clear_told, verify_told};
+use market_data::FactorPlaces;
 use market_tables::{GridTables, MarketTables};
 use net_case::PostRating;
 use std::alloc::Global;
@@ -70,11 +71,11 @@ const BOTH: &str =
 const INFEASIBLE: &str = "infeasible\nbound -2\nenergy -1\nlimit 2 base up 2 down 0\n";
 
 const FARKAS: &[u8] =
-    b"{\"energy\":\"-1/1\",\"kind\":\"farkas\",\"limits\":[{\"branch\":2,\"down\":\"0/1\",\"outage\":0,\"up\":\"2/1\"}],\"version\":1}";
+    b"{\"energy\":\"-1/1\",\"kind\":\"farkas\",\"limits\":[{\"branch\":2,\"down\":\"0/1\",\"outage\":0,\"up\":\"2/1\"}],\"places\":6,\"version\":2}";
 
 /// A dispatch of 60 and 0 that names no limit.
 const UNNAMED: &[u8] =
-    b"{\"blocks\":[\"60000000000/1\",\"0/1\"],\"energy\":\"10000000/1\",\"kind\":\"optimal\",\"limits\":[],\"version\":1}";
+    b"{\"blocks\":[\"60000000000/1\",\"0/1\"],\"energy\":\"10000000/1\",\"kind\":\"optimal\",\"limits\":[],\"places\":6,\"version\":2}";
 
 /// Whether a command ended with a status and a text.
 fn tells(told: &Told, status: Status, text: &str) -> bool {
@@ -113,7 +114,7 @@ fn cleared(alloc: Global, ratings: &str, records: &str) -> Result<Told, Fail> {
     let case = case(alloc, ratings)?;
     let penalties = penalties(alloc, records)?;
     let bytes = tables(case.as_bytes(), penalties.as_bytes());
-    Ok(clear_told(alloc, &bytes, PostRating::C)?)
+    Ok(clear_told(alloc, &bytes, PostRating::C, FactorPlaces::Six)?)
 }
 
 /// What a verification of a certificate with these ratings and penalties tells.
@@ -122,7 +123,7 @@ fn verified(alloc: Global, ratings: &str, records: &str, certificate: &[u8]) -> 
     let penalties = penalties(alloc, records)?;
     let bytes = tables(case.as_bytes(), penalties.as_bytes());
     let edits = b"op,target,side,block,value\n".as_slice();
-    Ok(verify_told(alloc, &bytes, PostRating::C, edits, certificate)?)
+    Ok(verify_told(alloc, &bytes, PostRating::C, FactorPlaces::Six, edits, certificate)?)
 }
 
 /// Clears, and verifies the certificate where there is one.

@@ -3,6 +3,7 @@
 use command_answers::{
     Status, Told, check_told, clear_told, make_told, pool_told, replay_told, verify_told,
 };
+use market_data::FactorPlaces;
 use market_tables::{GridTables, MarketTables};
 use net_case::PostRating;
 use std::process::Abort;
@@ -34,7 +35,7 @@ const OFFERS: &[u8] = b"unit,side,mw,price\n1,sell,100,10\n2,sell,100,30\n";
 
 /// Prices of 40 at the limit.
 const CERTIFICATE: &[u8] =
-    b"{\"blocks\":[\"50000000000/1\",\"10000000000/1\"],\"energy\":\"10000000/1\",\"kind\":\"optimal\",\"limits\":[{\"branch\":2,\"down\":\"0/1\",\"outage\":0,\"up\":\"40000000/1\"}],\"version\":1}";
+    b"{\"blocks\":[\"50000000000/1\",\"10000000000/1\"],\"energy\":\"10000000/1\",\"kind\":\"optimal\",\"limits\":[{\"branch\":2,\"down\":\"0/1\",\"outage\":0,\"up\":\"40000000/1\"}],\"places\":6,\"version\":2}";
 
 /// Compares a status, and how the text begins.
 fn expect<R: Abort>(rt: &R, told: &Told, status: Status, start: &[u8]) {
@@ -62,14 +63,14 @@ fn tells_of_each_command(rt: HostRuntime) -> Result<(), Fail> {
     let done = Status::Done;
     let pooled = pool_told(alloc, CASE, OFFERS)?;
     expect(&rt, &pooled, done, b"cleared\nwelfare -600\n");
-    let cleared = clear_told(alloc, &bytes, PostRating::C)?;
+    let cleared = clear_told(alloc, &bytes, PostRating::C, FactorPlaces::Six)?;
     expect(&rt, &cleared, done, b"cleared\nwelfare -800\n");
     assert!(rt; cleared.outputs.certificate.is_some());
-    let replayed = replay_told(alloc, &bytes, PostRating::C, edits)?;
+    let replayed = replay_told(alloc, &bytes, PostRating::C, FactorPlaces::Six, edits)?;
     expect(&rt, &replayed, done, b"step 1 clear\ncleared\n");
-    let verified = verify_told(alloc, &bytes, PostRating::C, edits, CERTIFICATE)?;
+    let verified = verify_told(alloc, &bytes, PostRating::C, FactorPlaces::Six, edits, CERTIFICATE)?;
     expect(&rt, &verified, done, b"yes\n");
-    expect(&rt, &check_told(alloc, &grid)?, done, b"bus most 0 ");
+    expect(&rt, &check_told(alloc, &grid, FactorPlaces::Six)?, done, b"bus most 0 ");
     let made = make_told(alloc, 4, 7)?;
     expect(
         &rt,

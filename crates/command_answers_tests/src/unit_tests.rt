@@ -4,6 +4,7 @@
 //! Where units 2 and 3 pick up half of unit 1's output each, each MW of it adds 0.125 MW to the flow of branch 3 after its loss.
 
 use command_answers::{Status, Told, clear_told, replay_told, verify_told};
+use market_data::FactorPlaces;
 use market_tables::{GridTables, MarketTables};
 use net_case::PostRating;
 use std::alloc::Global;
@@ -76,11 +77,11 @@ const FEWER: &str =
 
 /// The dispatch of the worked market at prices that would support it if unit 1 were paid the price at its bus.
 const AT_ITS_BUS: &[u8] =
-    b"{\"blocks\":[\"56000000000/1\",\"0/1\",\"4000000000/1\"],\"energy\":\"10000000/1\",\"kind\":\"optimal\",\"limits\":[{\"branch\":3,\"down\":\"0/1\",\"outage\":0,\"unit\":1,\"up\":\"120000000/1\"}],\"version\":1}";
+    b"{\"blocks\":[\"56000000000/1\",\"0/1\",\"4000000000/1\"],\"energy\":\"10000000/1\",\"kind\":\"optimal\",\"limits\":[{\"branch\":3,\"down\":\"0/1\",\"outage\":0,\"unit\":1,\"up\":\"120000000/1\"}],\"places\":6,\"version\":2}";
 
 /// A dispatch that unit 1's loss does not stand.
 const ALL_OF_ONE: &[u8] =
-    b"{\"blocks\":[\"60000000000/1\",\"0/1\",\"0/1\"],\"energy\":\"10000000/1\",\"kind\":\"optimal\",\"limits\":[],\"version\":1}";
+    b"{\"blocks\":[\"60000000000/1\",\"0/1\",\"0/1\"],\"energy\":\"10000000/1\",\"kind\":\"optimal\",\"limits\":[],\"places\":6,\"version\":2}";
 
 const OFFERS: &str = "1,sell,100,10\n2,sell,100,30\n3,sell,100,40\n";
 
@@ -207,7 +208,7 @@ fn clears_with_outages_of_units(rt: HostRuntime) -> Result<(), Fail> {
         (both, BOTH),
     ] {
         let texts = Texts::new(rt.alloc(), &example)?;
-        let told = clear_told(rt.alloc(), &texts.tables(), PostRating::C)?;
+        let told = clear_told(rt.alloc(), &texts.tables(), PostRating::C, FactorPlaces::Six)?;
         assert!(rt; tells(&told, Status::Done, text));
         assert!(rt; told.outputs.certificate.is_some());
         if let Some(certificate) = &told.outputs.certificate {
@@ -230,6 +231,7 @@ fn verifies<R: Abort + AllocGlobal>(
         rt.alloc(),
         &texts.tables(),
         PostRating::C,
+        FactorPlaces::Six,
         edits,
         certificate,
     )?;
@@ -249,7 +251,7 @@ fn refuses_with_outages_of_units(rt: HostRuntime) -> Result<(), Fail> {
         "no Limit branch 3 outage 0 unit 1\n",
     )?;
     let edits = b"op,target,side,block,value\nprice,2,sell,1,31\nquantity,1,sell,1,30\nclear,,,,\n";
-    let replayed = replay_told(rt.alloc(), &texts.tables(), PostRating::C, edits)?;
+    let replayed = replay_told(rt.alloc(), &texts.tables(), PostRating::C, FactorPlaces::Six, edits)?;
     assert!(rt; tells(&replayed, Status::Done, FEWER));
     let short = Texts::new(
         rt.alloc(),
@@ -258,7 +260,7 @@ fn refuses_with_outages_of_units(rt: HostRuntime) -> Result<(), Fail> {
             ..WORKED
         },
     )?;
-    let told = clear_told(rt.alloc(), &short.tables(), PostRating::C)?;
+    let told = clear_told(rt.alloc(), &short.tables(), PostRating::C, FactorPlaces::Six)?;
     assert!(rt;
         tells(
             &told,

@@ -1,7 +1,8 @@
 -- What is told of the bytes that were read is told of the files: one that is cut behind the first byte too many is too long all the same.
-use Rattle.std.proofs.Common.{◌≡◌, subst, ℕ, List, Option, Some, None, Result, refl, ap, ◌∙◌}
+use Rattle.std.proofs.Common.{◌≡◌, subst, ℕ, List, Option, Some, None, Result, refl, sym, ap, ◌∙◌}
 use Rattle.outside_store.specs.Files.{Files, Reads}
 use Rattle.market_model.specs.declared.participants.Parts.{Parts}
+use Rattle.market_data.specs.declared.scales.FactorPlaces.{FactorPlaces}
 use Rattle.net_case.specs.declared.live_parts.PostRating.{PostRating}
 use Rattle.refusal_text.specs.declared.refusals.Input.TheVariants as input
 use Rattle.refusal_text.specs.declared.refusals.Refusal.{Refusal}
@@ -10,6 +11,7 @@ use Rattle.market_inputs.specs.Checking.{AreInputs}
 use Rattle.market_inputs.specs.Clearing.{IsClearMarket}
 use Rattle.market_inputs.specs.Files.{sized}
 use Rattle.market_inputs.specs.Pooling.{IsPoolMarket}
+use Rattle.market_inputs.specs.Replaying.{certificate_in}
 use Rattle.market_inputs.proofs.FileLemmas.{AreAlike, alike-grid, alike-tables, sized-cut}
 use Rattle.market_tables.specs.Tables.{EachOf, GridTexts, MarketTexts}
 use Rattle.market_tables.proofs.EachLemmas.{Found, found-grid, found-tables}
@@ -17,12 +19,14 @@ use Rattle.edit_table.specs.EditTable.{header as edit_header}
 use Rattle.command_words.specs.Words.{CheckNames, MarketNames}
 use Rattle.command_answers.specs.Checking.{TellsCheck}
 use Rattle.command_answers.specs.Clearing.{TellsClear}
-use Rattle.command_answers.specs.Inputs.{IsCertified, IsCheck, IsLimited, IsPool, IsReplayed, MarketCertificate, MarketSteps}
+use Rattle.command_answers.specs.Inputs.{AreEntitled, IsCertified, IsCheck, IsLimited, IsMigrated, IsPool, IsReplayed, MarketCertificate, MarketRights, MarketSteps}
+use Rattle.command_answers.specs.Migrating.{TellsMigration}
 use Rattle.command_answers.specs.Replaying.{TellsReplay}
+use Rattle.command_answers.specs.Rights.{TellsRights}
 use Rattle.command_answers.specs.Tellings.{Telling, Tells}
 use Rattle.command_answers.specs.Verifying.{TellsVerdict}
 use Rattle.command_files.specs.Reading.{IsTable, ReadsGrid, ReadsMarket, ReadsTable, Source, grid_sources, header_alone, in_file, source_of, table_sources}
-use Rattle.command_files.specs.Standing.{AreCheckFiles, AreClearFiles, ArePoolFiles, AreReplayFiles, AreVerifyFiles, OfFiles}
+use Rattle.command_files.specs.Standing.{AreCheckFiles, AreClearFiles, ArePoolFiles, AreReplayFiles, AreRightsFiles, AreVerifyFiles, IsMigratedFile, OfFiles}
 
 -- ---- a table
 -- the whole text of a table that was read
@@ -34,24 +38,24 @@ whole-table f (header_alone header) bytes read = (bytes, read, λ file. refl)
 pub pool-same : (a b a' b' : Result (List ℕ) Refusal) (told : Result Parts Refusal) → a ≡ a' → b ≡ b' → IsPoolMarket a b told → IsPoolMarket a' b' told
 pool-same a b a' b' told ea eb h = subst (λ x. IsPoolMarket a' x told) eb (subst (λ x. IsPoolMarket x b told) ea h)
 
-pub limited-same : (rating : PostRating) (a b : MarketTexts) (told : Result Parts Refusal) → EachOf AreAlike a b → IsLimited rating a told → IsLimited rating b told
-limited-same rating a b told same h = subst (λ files. IsClearMarket rating files told) (alike-tables a b same) h
+pub limited-same : (rating : PostRating) (places : FactorPlaces) (a b : MarketTexts) (told : Result Parts Refusal) → EachOf AreAlike a b → IsLimited rating places a told → IsLimited rating places b told
+limited-same rating places a b told same h = subst (λ files. IsClearMarket rating places files told) (alike-tables a b same) h
 
-pub replayed-same : (rating : PostRating) (a b : MarketTexts) (edits edits' : List ℕ) (told : Result MarketSteps Refusal) → EachOf AreAlike a b
-    → sized (refusal.TooLong input.Edits) edits ≡ sized (refusal.TooLong input.Edits) edits' → IsReplayed rating a edits told → IsReplayed rating b edits' told
-replayed-same rating a b edits edits' told same same_edits h = record {
+pub replayed-same : (rating : PostRating) (places : FactorPlaces) (a b : MarketTexts) (edits edits' : List ℕ) (told : Result MarketSteps Refusal) → EachOf AreAlike a b
+    → sized (refusal.TooLong input.Edits) edits ≡ sized (refusal.TooLong input.Edits) edits' → IsReplayed rating places a edits told → IsReplayed rating places b edits' told
+replayed-same rating places a b edits edits' told same same_edits h = record {
   made = h.made;
-  is = limited-same rating a b h.made same h.is;
+  is = limited-same rating places a b h.made same h.is;
   rest = rw same_edits at h.rest;
 }
 
-pub certified-same : (rating : PostRating) (a b : MarketTexts) (edits edits' certificate certificate' : List ℕ) (told : Result MarketCertificate Refusal) → EachOf AreAlike a b
+pub certified-same : (rating : PostRating) (places : FactorPlaces) (a b : MarketTexts) (edits edits' certificate certificate' : List ℕ) (told : Result MarketCertificate Refusal) → EachOf AreAlike a b
     → sized (refusal.TooLong input.Edits) edits ≡ sized (refusal.TooLong input.Edits) edits'
     → sized (refusal.TooLong input.Certificate) certificate ≡ sized (refusal.TooLong input.Certificate) certificate'
-    → IsCertified rating a edits certificate told → IsCertified rating b edits' certificate' told
-certified-same rating a b edits edits' certificate certificate' told same same_edits same_certificate h = record {
+    → IsCertified rating places a edits certificate told → IsCertified rating places b edits' certificate' told
+certified-same rating places a b edits edits' certificate certificate' told same same_edits same_certificate h = record {
   made = h.made;
-  is = replayed-same rating a b edits edits' h.made same same_edits h.is;
+  is = replayed-same rating places a b edits edits' h.made same same_edits h.is;
   rest = rw same_certificate at h.rest;
 }
 
@@ -78,19 +82,19 @@ files-pool (Some f) case offers case_read offers_read t first second right =
       comes = right.comes;
     }
 
-pub files-clear : (files : Option Files) (names : MarketNames) (bytes : MarketTexts) (t : Telling) → ReadsMarket files names bytes → Tells (IsLimited names.rating bytes) TellsClear t
+pub files-clear : (files : Option Files) (names : MarketNames) (bytes : MarketTexts) (t : Telling) → ReadsMarket files names bytes → Tells (IsLimited names.rating names.places bytes) TellsClear t
     → OfFiles files (λ f. AreClearFiles f names) TellsClear t
 files-clear None names bytes t read right = tt
 files-clear (Some f) names bytes t read right =
     let w = whole-market f names bytes read in
     record {
       told = right.told;
-      stands = record { texts = w.found; have = w.first; market = limited-same names.rating bytes w.found right.told w.second right.stands };
+      stands = record { texts = w.found; have = w.first; market = limited-same names.rating names.places bytes w.found right.told w.second right.stands };
       comes = right.comes;
     }
 
 pub files-replay : (files : Option Files) (names : MarketNames) (edits : List ℕ) (bytes : MarketTexts) (edits_read : List ℕ) (t : Telling) → ReadsMarket files names bytes
-    → Reads files edits 33554432 edits_read → Tells (IsReplayed names.rating bytes edits_read) TellsReplay t → OfFiles files (λ f. AreReplayFiles f names edits) TellsReplay t
+    → Reads files edits 33554432 edits_read → Tells (IsReplayed names.rating names.places bytes edits_read) TellsReplay t → OfFiles files (λ f. AreReplayFiles f names edits) TellsReplay t
 files-replay None names edits bytes edits_read t read read_edits right = tt
 files-replay (Some f) names edits bytes edits_read t read read_edits right =
     let w = whole-market f names bytes read in
@@ -102,14 +106,14 @@ files-replay (Some f) names edits bytes edits_read t read read_edits right =
         edits = e.0;
         have = w.first;
         edits_are = e.1;
-        steps = replayed-same names.rating bytes w.found edits_read e.0 right.told w.second (e.2 (refusal.TooLong input.Edits)) right.stands;
+        steps = replayed-same names.rating names.places bytes w.found edits_read e.0 right.told w.second (e.2 (refusal.TooLong input.Edits)) right.stands;
       };
       comes = right.comes;
     }
 
 pub files-verify : (files : Option Files) (names : MarketNames) (edits : Option (List ℕ)) (certificate : List ℕ) (bytes : MarketTexts) (edits_read certificate_read : List ℕ) (t : Telling)
     → ReadsMarket files names bytes → ReadsTable files (source_of edit_header edits) edits_read → Reads files certificate 33554432 certificate_read
-    → Tells (IsCertified names.rating bytes edits_read certificate_read) TellsVerdict t → OfFiles files (λ f. AreVerifyFiles f names edits certificate) TellsVerdict t
+    → Tells (IsCertified names.rating names.places bytes edits_read certificate_read) TellsVerdict t → OfFiles files (λ f. AreVerifyFiles f names edits certificate) TellsVerdict t
 files-verify None names edits certificate bytes edits_read certificate_read t read read_edits read_certificate right = tt
 files-verify (Some f) names edits certificate bytes edits_read certificate_read t read read_edits read_certificate right =
     let w = whole-market f names bytes read in
@@ -124,19 +128,56 @@ files-verify (Some f) names edits certificate bytes edits_read certificate_read 
         have = w.first;
         edits_are = e.1;
         certificate_is = c.1;
-        certified = certified-same names.rating bytes w.found edits_read e.0 certificate_read c.0 right.told w.second (e.2 (refusal.TooLong input.Edits))
+        certified = certified-same names.rating names.places bytes w.found edits_read e.0 certificate_read c.0 right.told w.second (e.2 (refusal.TooLong input.Edits))
             (c.2 (refusal.TooLong input.Certificate)) right.stands;
       };
       comes = right.comes;
     }
 
-pub files-check : (files : Option Files) (names : CheckNames) (bytes : GridTexts) (t : Telling) → ReadsGrid files names bytes → Tells (IsCheck bytes) TellsCheck t
+pub entitled-same : (rating : PostRating) (places : FactorPlaces) (a b : MarketTexts) (rights rights' : List ℕ) (told : Result MarketRights Refusal) → EachOf AreAlike a b
+    → sized (refusal.TooLong input.Rights) rights ≡ sized (refusal.TooLong input.Rights) rights' → AreEntitled rating places a rights told → AreEntitled rating places b rights' told
+entitled-same rating places a b rights rights' told same same_rights h = record {
+  made = h.made;
+  is = limited-same rating places a b h.made same h.is;
+  rest = rw same_rights at h.rest;
+}
+
+pub files-rights : (files : Option Files) (names : MarketNames) (rights : List ℕ) (bytes : MarketTexts) (rights_read : List ℕ) (t : Telling) → ReadsMarket files names bytes
+    → Reads files rights 33554432 rights_read → Tells (AreEntitled names.rating names.places bytes rights_read) TellsRights t → OfFiles files (λ f. AreRightsFiles f names rights) TellsRights t
+files-rights None names rights bytes rights_read t read read_rights right = tt
+files-rights (Some f) names rights bytes rights_read t read read_rights right =
+    let w = whole-market f names bytes read in
+    let e = whole-table f (in_file rights) rights_read read_rights in
+    record {
+      told = right.told;
+      stands = record {
+        texts = w.found;
+        rights = e.0;
+        have = w.first;
+        rights_are = e.1;
+        entitled = entitled-same names.rating names.places bytes w.found rights_read e.0 right.told w.second (e.2 (refusal.TooLong input.Rights)) right.stands;
+      };
+      comes = right.comes;
+    }
+
+pub file-migrate : (files : Option Files) (certificate certificate_read : List ℕ) (t : Telling) → Reads files certificate 33554432 certificate_read → Tells (IsMigrated certificate_read) TellsMigration t
+    → OfFiles files (λ f. IsMigratedFile f certificate) TellsMigration t
+file-migrate None certificate certificate_read t read right = tt
+file-migrate (Some f) certificate certificate_read t read right =
+    let c = whole-table f (in_file certificate) certificate_read read in
+    record {
+      told = right.told;
+      stands = record { certificate = c.0; certificate_is = c.1; read = ap certificate_in (sym (c.2 (refusal.TooLong input.Certificate))) ∙ right.stands };
+      comes = right.comes;
+    }
+
+pub files-check : (files : Option Files) (names : CheckNames) (bytes : GridTexts) (t : Telling) → ReadsGrid files names.tables bytes → Tells (IsCheck names.places bytes) TellsCheck t
     → OfFiles files (λ f. AreCheckFiles f names) TellsCheck t
 files-check None names bytes t read right = tt
 files-check (Some f) names bytes t read right =
-    let w = found-grid (ReadsTable (Some f)) (IsTable f) AreAlike (whole-table f) (grid_sources names) bytes read in
+    let w = found-grid (ReadsTable (Some f)) (IsTable f) AreAlike (whole-table f) (grid_sources names.tables) bytes read in
     record {
       told = right.told;
-      stands = record { texts = w.found; have = w.first; inputs = subst (λ grid. AreInputs grid right.told) (alike-grid bytes w.found w.second) right.stands };
+      stands = record { texts = w.found; have = w.first; inputs = subst (λ grid. AreInputs names.places grid right.told) (alike-grid bytes w.found w.second) right.stands };
       comes = right.comes;
     }

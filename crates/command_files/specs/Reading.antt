@@ -2,7 +2,7 @@
 use Rattle.std.specs.Prelude.{◌≡◌, ℕ, List, Option, Some, None}
 use Rattle.outside_store.specs.Files.{Files, Reads}
 use Rattle.market_inputs.specs.Files.{most_file}
-use Rattle.command_words.specs.Words.{CheckNames, MarketNames}
+use Rattle.command_words.specs.Words.{GridNames, MarketNames}
 use Rattle.csv_table.specs.Table.{header_line}
 use Rattle.factor_tables.specs.Offsets.{offset_header}
 use Rattle.factor_tables.specs.OutageNumbers.{outage_header}
@@ -25,8 +25,8 @@ abbrev pub source_of : Record → Option (List ℕ) → Source
 source_of header (Some name) = in_file name
 source_of header None = header_alone header
 
--- those of the files of a check
-abbrev pub grid_sources : CheckNames → GridTables Source Source
+-- those of a case and of its tables
+abbrev pub grid_sources : GridNames → GridTables Source Source
 grid_sources names = record {
   case = in_file names.case;
   ptdf = in_file names.ptdf;
@@ -55,15 +55,15 @@ abbrev pub IsTable : Files → Source → List ℕ → Type 0
 IsTable files (in_file name) text = files name ≡ Some text
 IsTable files (header_alone header) text = text ≡ header_line header
 
--- what is read of the files of a check, and of those of a market
-abbrev pub ReadsGrid : Option Files → CheckNames → GridTexts → Type 0
+-- what is read of a case and of its tables, and of the files of a market
+abbrev pub ReadsGrid : Option Files → GridNames → GridTexts → Type 0
 ReadsGrid files names bytes = EachOfGrid (ReadsTable files) (grid_sources names) bytes
 
 abbrev pub ReadsMarket : Option Files → MarketNames → MarketTexts → Type 0
 ReadsMarket files names bytes = EachOf (ReadsTable files) (table_sources names) bytes
 
 -- their whole texts
-abbrev pub HaveGridTexts : Files → CheckNames → GridTexts → Type 0
+abbrev pub HaveGridTexts : Files → GridNames → GridTexts → Type 0
 HaveGridTexts files names texts = EachOfGrid (IsTable files) (grid_sources names) texts
 
 abbrev pub HaveTexts : Files → MarketNames → MarketTexts → Type 0

@@ -1,13 +1,15 @@
 -- What the files that words name stand for, and what is right to tell of them.
 use Rattle.std.specs.Prelude.{◌≡◌, ℕ, List, Option, Some, None, Result}
+use Rattle.fraction_theory.specs.Fraction.{Fraction}
 use Rattle.outside_store.specs.Files.{Files}
+use Rattle.cert_format.specs.declared.certificate.Cert.{Cert}
 use Rattle.market_inputs.specs.declared.checking.Inputs.{Inputs}
 use Rattle.market_model.specs.declared.participants.Parts.{Parts}
 use Rattle.market_tables.specs.Tables.{GridTexts, MarketTexts}
 use Rattle.refusal_text.specs.declared.refusals.Refusal.{Refusal}
 use Rattle.edit_table.specs.EditTable.{header as edit_header}
 use Rattle.command_words.specs.Words.{CheckNames, MarketNames}
-use Rattle.command_answers.specs.Inputs.{IsCertified, IsCheck, IsLimited, IsPool, IsReplayed, MarketCertificate, MarketSteps}
+use Rattle.command_answers.specs.Inputs.{AreEntitled, IsCertified, IsCheck, IsLimited, IsMigrated, IsPool, IsReplayed, MarketCertificate, MarketRights, MarketSteps}
 use Rattle.command_answers.specs.Tellings.{Telling, Tells}
 use Rattle.command_files.specs.Reading.{HaveGridTexts, HaveTexts, IsTable, source_of}
 
@@ -23,7 +25,7 @@ pub record ArePoolFiles (files : Files) (case_name offers_name : List ℕ) (told
 pub record AreClearFiles (files : Files) (names : MarketNames) (told : Result Parts Refusal) : Type 0 where
   pub texts : MarketTexts
   pub have : HaveTexts files names texts
-  pub market : IsLimited names.rating texts told
+  pub market : IsLimited names.rating names.places texts told
 
 -- those of a replay stand for this market and these steps
 pub record AreReplayFiles (files : Files) (names : MarketNames) (edits_name : List ℕ) (told : Result MarketSteps Refusal) : Type 0 where
@@ -31,7 +33,7 @@ pub record AreReplayFiles (files : Files) (names : MarketNames) (edits_name : Li
   pub edits : List ℕ
   pub have : HaveTexts files names texts
   pub edits_are : files edits_name ≡ Some edits
-  pub steps : IsReplayed names.rating texts edits told
+  pub steps : IsReplayed names.rating names.places texts edits told
 
 -- those of a verification stand for this market, edited, and this certificate
 pub record AreVerifyFiles (files : Files) (names : MarketNames) (edits_name : Option (List ℕ)) (certificate_name : List ℕ) (told : Result MarketCertificate Refusal) : Type 0 where
@@ -41,13 +43,27 @@ pub record AreVerifyFiles (files : Files) (names : MarketNames) (edits_name : Op
   pub have : HaveTexts files names texts
   pub edits_are : IsTable files (source_of edit_header edits_name) edits
   pub certificate_is : files certificate_name ≡ Some certificate
-  pub certified : IsCertified names.rating texts edits certificate told
+  pub certified : IsCertified names.rating names.places texts edits certificate told
+
+-- those of a clear with rights stand for this market and these rights
+pub record AreRightsFiles (files : Files) (names : MarketNames) (rights_name : List ℕ) (told : Result MarketRights Refusal) : Type 0 where
+  pub texts : MarketTexts
+  pub rights : List ℕ
+  pub have : HaveTexts files names texts
+  pub rights_are : files rights_name ≡ Some rights
+  pub entitled : AreEntitled names.rating names.places texts rights told
+
+-- that of a certificate which is written anew stands for it
+pub record IsMigratedFile (files : Files) (certificate_name : List ℕ) (told : Result (Cert Fraction) Refusal) : Type 0 where
+  pub certificate : List ℕ
+  pub certificate_is : files certificate_name ≡ Some certificate
+  pub read : IsMigrated certificate told
 
 -- those of a check stand for these inputs
 pub record AreCheckFiles (files : Files) (names : CheckNames) (told : Result Inputs Refusal) : Type 0 where
   pub texts : GridTexts
-  pub have : HaveGridTexts files names texts
-  pub inputs : IsCheck texts told
+  pub have : HaveGridTexts files names.tables texts
+  pub inputs : IsCheck names.places texts told
 
 -- ---- where the files are told
 -- what is told is right for what the files stand for

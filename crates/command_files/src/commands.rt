@@ -3,18 +3,23 @@
 ghost use Rattle.std.specs.Prelude.{◌≡◌, option_map, Ok, Err, IfOk, MatchResult};
 ghost use Rattle.command_answers.specs.Checking.{TellsCheck};
 ghost use Rattle.command_answers.specs.Clearing.{TellsClear};
+ghost use Rattle.command_answers.specs.Migrating.{TellsMigration};
 ghost use Rattle.command_answers.specs.Replaying.{TellsReplay};
+ghost use Rattle.command_answers.specs.Rights.{TellsRights};
 ghost use Rattle.command_answers.specs.Status.{IsOfWork};
 ghost use Rattle.command_answers.specs.Tellings.{telling_of};
 ghost use Rattle.command_answers.specs.Verifying.{TellsVerdict};
 ghost use Rattle.command_words.specs.Requests.{names_of_market, names_to_check};
-ghost use Rattle.command_words.specs.Words.{IsCheckFile, IsMarketFile, IsPoolFile, IsReplayFile, IsVerifyFile};
+ghost use Rattle.command_words.specs.Words.{IsCheckFile, IsMarketFile, IsPoolFile, IsReplayFile, IsRightsFile, IsVerifyFile};
 ghost use Rattle.command_files.specs.OnlyReads.{IsSilent, OnlyReads};
-ghost use Rattle.command_files.specs.Standing.{AreCheckFiles, AreClearFiles, ArePoolFiles, AreReplayFiles, AreVerifyFiles, OfFiles};
+ghost use Rattle.command_files.specs.Standing.{AreCheckFiles, AreClearFiles, ArePoolFiles, AreReplayFiles, AreRightsFiles, AreVerifyFiles, IsMigratedFile, OfFiles};
 
 use crate::reading::{read_file, read_grid, read_market, read_table};
-use command_answers::{Status, Told, check_told, clear_told, pool_told, replay_told, verify_told};
-use command_words::{CheckNames, MarketNames, PoolFiles, ReplayFiles, VerifyFiles};
+use command_answers::{
+    Status, Told, check_told, clear_told, migrate_told, pool_told, replay_told, rights_told,
+    verify_told,
+};
+use command_words::{CheckNames, MarketNames, PoolFiles, ReplayFiles, RightsFiles, VerifyFiles};
 use edit_table::EDIT_HEADER;
 use outside_store::Store;
 use plain_list::Memory;
@@ -57,7 +62,7 @@ pub fn clear_files<S: Store>(
     ensures reads { OnlyReads S.Store store.old store.new (IsMarketFile (names_of_market files.now)) (result ≡ Err Status.ReadFailed) }
 {
     let bytes = read_market(alloc, files, store)?;
-    or_memory(clear_told(alloc, &bytes.as_slices(), files.rating))
+    or_memory(clear_told(alloc, &bytes.as_slices(), files.rating, files.places))
 }
 
 /// What these come to with a table of edits.
@@ -77,6 +82,7 @@ pub fn replay_files<S: Store>(
         alloc,
         &bytes.as_slices(),
         files.market.rating,
+        files.market.places,
         edits.as_slice(),
     );
     or_memory(told)
@@ -100,9 +106,43 @@ pub fn verify_files<S: Store>(
         alloc,
         &bytes.as_slices(),
         files.market.rating,
+        files.market.places,
         edits.as_slice(),
         certificate.as_slice(),
     ))
+}
+
+/// What these come to with a table of rights.
+#[tactic(auto, using(crate::proofs::ReadingLemmas::same_then))]
+pub fn rights_files<S: Store>(
+    alloc: Global,
+    files: &RightsFiles<'_>,
+    store: &mut S,
+) -> Result<Told, Status>
+    ensures told { MatchResult result (λ told. IsOfWork told.status) IsSilent }
+    ensures right { IfOk result (λ told. OfFiles (S.files store.old) (λ f. AreRightsFiles f (names_of_market files.now.market) files.now.rights.now) TellsRights (telling_of told)) }
+    ensures reads { OnlyReads S.Store store.old store.new (IsRightsFile (names_of_market files.now.market) files.now.rights.now) (result ≡ Err Status.ReadFailed) }
+{
+    let bytes = read_market(alloc, &files.market, store)?;
+    let rights = read_file(alloc, store, files.rights)?;
+    let told = rights_told(
+        alloc,
+        &bytes.as_slices(),
+        files.market.rating,
+        files.market.places,
+        rights.as_slice(),
+    );
+    or_memory(told)
+}
+
+/// What a certificate comes to that is to be written anew.
+pub fn migrate_file<S: Store>(alloc: Global, name: &str, store: &mut S) -> Result<Told, Status>
+    ensures told { MatchResult result (λ told. IsOfWork told.status) IsSilent }
+    ensures right { IfOk result (λ told. OfFiles (S.files store.old) (λ f. IsMigratedFile f name.now) TellsMigration (telling_of told)) }
+    ensures reads { OnlyReads S.Store store.old store.new (λ file. file ≡ name.now) (result ≡ Err Status.ReadFailed) }
+{
+    let certificate = read_file(alloc, store, name)?;
+    or_memory(migrate_told(alloc, certificate.as_slice()))
 }
 
 /// What the case and its tables come to.
@@ -115,6 +155,6 @@ pub fn check_files<S: Store>(
     ensures right { IfOk result (λ told. OfFiles (S.files store.old) (λ f. AreCheckFiles f (names_to_check files.now)) TellsCheck (telling_of told)) }
     ensures reads { OnlyReads S.Store store.old store.new (IsCheckFile (names_to_check files.now)) (result ≡ Err Status.ReadFailed) }
 {
-    let grid = read_grid(alloc, files, store)?;
-    or_memory(check_told(alloc, &grid.as_slices()))
+    let grid = read_grid(alloc, &files.tables, store)?;
+    or_memory(check_told(alloc, &grid.as_slices(), files.places))
 }

@@ -4,4 +4,7 @@
 mod commands;
 mod reading;
 
-pub use commands::{check_files, clear_files, or_memory, pool_files, replay_files, verify_files};
+pub use commands::{
+    check_files, clear_files, migrate_file, or_memory, pool_files, replay_files, rights_files,
+    verify_files,
+};

@@ -3,14 +3,14 @@
 ghost use Rattle.std.specs.Prelude.{◌≡◌, map, option_map, vec_items, Some, Err, IfOk, IfErr};
 ghost use Rattle.outside_store.specs.Files.{Reads};
 ghost use Rattle.market_tables.specs.Tables.{map_grid, map_tables};
-ghost use Rattle.command_words.specs.Requests.{names_of_market, names_to_check};
-ghost use Rattle.command_words.specs.Words.{IsCheckFile, IsMarketFile};
+ghost use Rattle.command_words.specs.Requests.{names_of_grid, names_of_market};
+ghost use Rattle.command_words.specs.Words.{IsGridFile, IsMarketFile};
 ghost use Rattle.market_inputs.specs.Files.{most_file};
 ghost use Rattle.command_files.specs.Reading.{ReadsGrid, ReadsMarket, ReadsTable, source_of};
 ghost use Rattle.command_files.specs.OnlyReads.{IsSilent, OnlyReads};
 
 use command_answers::Status;
-use command_words::{CheckNames, MarketNames};
+use command_words::{GridNames, MarketNames};
 use csv_table::header_line;
 use factor_tables::{LOSS_HEADER, OFFSET_HEADER, OUTAGE_HEADER, PENALTY_HEADER};
 use market_inputs::MOST_BYTES;
@@ -56,12 +56,12 @@ pub fn read_table<S: Store>(
 #[tactic(auto, using(crate::proofs::ReadingLemmas::same_then))]
 pub fn read_grid<S: Store>(
     alloc: Global,
-    files: &CheckNames<'_>,
+    files: &GridNames<'_>,
     store: &mut S,
 ) -> Result<GridTables<Vec<u8>>, Status>
-    ensures bytes { IfOk result (λ grid. ReadsGrid (S.files store.old) (names_to_check files.now) (map_grid vec_items vec_items grid)) }
+    ensures bytes { IfOk result (λ grid. ReadsGrid (S.files store.old) (names_of_grid files.now) (map_grid vec_items vec_items grid)) }
     ensures stop { IfErr result IsSilent }
-    ensures reads { OnlyReads S.Store store.old store.new (IsCheckFile (names_to_check files.now)) (result ≡ Err Status.ReadFailed) }
+    ensures reads { OnlyReads S.Store store.old store.new (IsGridFile (names_of_grid files.now)) (result ≡ Err Status.ReadFailed) }
 {
     let case = read_file(alloc, store, files.case)?;
     let ptdf = read_file(alloc, store, files.ptdf)?;

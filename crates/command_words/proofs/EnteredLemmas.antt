@@ -11,9 +11,9 @@ use Rattle.clap.specs.Walk.{Row, Rule, Text, answers_to, nothing_held, rows_afte
 use Rattle.clap.specs.Words.{fault_of, first_of}
 use Rattle.clap.specs.declared.builder.value_parser.ValueParser.TheVariants.{Names, Signed}
 use Rattle.clap.proofs.OnLiterals.{clap_on_literals}
-use Rattle.command_words.specs.Words.{AreGiven, Enters, choice_rule, file_rule, is_fault, rating_words, refuses, sced_app, sced_app_over, size_words, spelled, table_rule, value_rule}
+use Rattle.command_words.specs.Words.{AreGiven, Enters, choice_rule, file_rule, is_fault, place_words, rating_words, refuses, sced_app, sced_app_over, size_words, spelled, table_rule, value_rule}
 use Rattle.command_words.proofs.GivenLemmas.{Among, Each, IsGiven, TakesOne, both-none, each-in, found-in, required-given}
-use Rattle.command_words.proofs.WordsLemmas.{six_built, subs-are}
+use Rattle.command_words.proofs.WordsLemmas.{eight_built, subs-are}
 
 -- ---- the subcommand that words enter
 
@@ -54,16 +54,16 @@ not-a-fault : (kinds : Kinds) → is_fault kinds ≡ false → kinds ≡ []
 not-a-fault [] none = refl
 not-a-fault (k ∷ ks) none = cc none
 
-enters-leaf : (words : List Text) (name : Text) (rows : List Row) → Enters words name rows → EntersLeaf six_built name rows
+enters-leaf : (words : List Text) (name : Text) (rows : List Row) → Enters words name rows → EntersLeaf eight_built name rows
 unfolding refuses
 enters-leaf words name rows enters =
     let none : fault_of sced_app words ≡ [] = not-a-fault (fault_of sced_app words) enters.taken in
     subst (λ (subs : List Shape). EntersLeaf subs name rows) subs-are (entered-leaf (built sced_app) _ name rows enters.entered (fault-below (built sced_app) _ none))
 
 -- no subcommand has another name
-no-aliases : Each (λ s. s.aliases ≡ []) six_built
+no-aliases : Each (λ s. s.aliases ≡ []) eight_built
 unfolding clap_on_literals sced_app sced_app_over
-no-aliases = (refl, (refl, (refl, (refl, (refl, (refl, tt))))))
+no-aliases = (refl, (refl, (refl, (refl, (refl, (refl, (refl, (refl, tt))))))))
 
 -- so a word that finds one is its name
 own-name : (s : Shape) (word : Text) → s.aliases ≡ [] → answers_to word (label_of s) ≡ true → word ≡ s.name
@@ -75,17 +75,17 @@ own-name s word none answers =
     go true is h = sym ((bytes_eq-Decides s.name word).0 is)
     go false is h = cc h
 
-found-by-name : (name : Text) (rows : List Row) (leaf : EntersLeaf six_built name rows) → find (λ s. answers_to name (label_of s)) six_built ≡ Some leaf.shape
+found-by-name : (name : Text) (rows : List Row) (leaf : EntersLeaf eight_built name rows) → find (λ s. answers_to name (label_of s)) eight_built ≡ Some leaf.shape
 found-by-name name rows leaf =
-    let here = found-in (λ s. answers_to leaf.word (label_of s)) six_built leaf.shape leaf.found in
-    let word : leaf.word ≡ name = own-name leaf.shape leaf.word (each-in (λ s. s.aliases ≡ []) six_built leaf.shape no-aliases here.0) here.1 ∙ leaf.named in
-    subst (λ (w : Text). find (λ s. answers_to w (label_of s)) six_built ≡ Some leaf.shape) word leaf.found
+    let here = found-in (λ s. answers_to leaf.word (label_of s)) eight_built leaf.shape leaf.found in
+    let word : leaf.word ≡ name = own-name leaf.shape leaf.word (each-in (λ s. s.aliases ≡ []) eight_built leaf.shape no-aliases here.0) here.1 ∙ leaf.named in
+    subst (λ (w : Text). find (λ s. answers_to w (label_of s)) eight_built ≡ Some leaf.shape) word leaf.found
 
 -- ---- what a subcommand needs is given
 
 -- the subcommand of this name has these arguments
 abbrev HasRules : Text → List Rule → Type 0
-HasRules name rules = option_map (λ s. s.rules) (find (λ s. answers_to name (label_of s)) six_built) ≡ Some rules
+HasRules name rules = option_map (λ s. s.rules) (find (λ s. answers_to name (label_of s)) eight_built) ≡ Some rules
 
 leaf-given : (words : List Text) (name : Text) (rows : List Row) (rules : List Rule) (a : Rule) → HasRules name rules → Each TakesOne rules → Enters words name rows
     → Among (λ b. b ≡ a) rules → a.required ≡ true → IsGiven rules a.id rows
@@ -111,10 +111,13 @@ one-help = (inl refl, refl)
 abbrev pool_rules : List Rule
 pool_rules = file (codes "case") ∷ file (codes "offers") ∷ filled help_rule ∷ []
 
+abbrev places_rule : Rule
+places_rule = filled (choice_rule (codes "factor-places") (spelled place_words))
+
 abbrev market_rules : List Rule → List Rule
 market_rules more = file (codes "case") ∷ file (codes "ptdf") ∷ file (codes "offers") ∷ table (codes "lodf") ∷ table (codes "contingencies")
     ∷ table (codes "unit-outages") ∷ table (codes "offsets") ∷ table (codes "penalties")
-    ∷ filled (choice_rule (codes "post-rating") (spelled rating_words)) ∷ more
+    ∷ filled (choice_rule (codes "post-rating") (spelled rating_words)) ∷ places_rule ∷ more
 
 abbrev clear_rules : List Rule
 clear_rules = market_rules (table (codes "certificate") ∷ filled help_rule ∷ [])
@@ -125,8 +128,14 @@ replay_rules = market_rules (file (codes "edits") ∷ table (codes "certificate"
 abbrev verify_rules : List Rule
 verify_rules = market_rules (table (codes "edits") ∷ file (codes "certificate") ∷ filled help_rule ∷ [])
 
+abbrev rights_rules : List Rule
+rights_rules = market_rules (file (codes "rights") ∷ filled help_rule ∷ [])
+
 abbrev check_rules : List Rule
-check_rules = file (codes "case") ∷ file (codes "ptdf") ∷ table (codes "lodf") ∷ table (codes "contingencies") ∷ filled help_rule ∷ []
+check_rules = file (codes "case") ∷ file (codes "ptdf") ∷ table (codes "lodf") ∷ table (codes "contingencies") ∷ places_rule ∷ filled help_rule ∷ []
+
+abbrev migrate_rules : List Rule
+migrate_rules = file (codes "certificate") ∷ file (codes "out") ∷ filled help_rule ∷ []
 
 abbrev pub size_rule : Rule
 size_rule = with_index 1 (filled (value_rule (codes "N") (Names (spelled size_words))))
@@ -157,16 +166,24 @@ check-has : HasRules (codes "check") check_rules
 unfolding clap_on_literals sced_app sced_app_over
 check-has = refl
 
+rights-has : HasRules (codes "rights") rights_rules
+unfolding clap_on_literals sced_app sced_app_over
+rights-has = refl
+
+migrate-has : HasRules (codes "migrate") migrate_rules
+unfolding clap_on_literals sced_app sced_app_over
+migrate-has = refl
+
 make-has : HasRules (codes "make") make_rules
 unfolding clap_on_literals sced_app sced_app_over
 make-has = refl
 
 market-ones : (more : List Rule) → Each TakesOne more → Each TakesOne (market_rules more)
 market-ones more ones =
-    (one-value, (one-value, (one-value, (one-value, (one-value, (one-value, (one-value, (one-value, (one-value, ones)))))))))
+    (one-value, (one-value, (one-value, (one-value, (one-value, (one-value, (one-value, (one-value, (one-value, (one-value, ones))))))))))
 
 check-ones : Each TakesOne check_rules
-check-ones = (one-value, (one-value, (one-value, (one-value, (one-help, tt)))))
+check-ones = (one-value, (one-value, (one-value, (one-value, (one-value, (one-help, tt))))))
 
 make-ones : Each TakesOne make_rules
 make-ones = (one-value, (one-value, (one-help, tt)))
@@ -181,6 +198,10 @@ pool-given words rows enters =
     λ a among required. is-some pool_rules a.id rows (leaf-given words (codes "pool") rows pool_rules a pool-has ones enters among required) in
     (given (file (codes "case")) (inl refl) refl, (given (file (codes "offers")) (inr (inl refl)) refl, tt))
 
+-- an option that comes behind those of a market
+behind-market : (name : Text) (more : List Rule) → Among (λ b. b ≡ file name) more → Among (λ b. b ≡ file name) (market_rules more)
+behind-market name more among = inr (inr (inr (inr (inr (inr (inr (inr (inr (inr among)))))))))
+
 pub clear-given : (words : List Text) (rows : List Row) → Enters words (codes "clear") rows → AreGiven (codes "case" ∷ codes "ptdf" ∷ codes "offers" ∷ []) rows
 clear-given words rows enters =
     let ones = market-ones (table (codes "certificate") ∷ filled help_rule ∷ []) (one-value, (one-help, tt)) in
@@ -193,7 +214,7 @@ replay-given words rows enters =
     let ones = market-ones (file (codes "edits") ∷ table (codes "certificate") ∷ filled help_rule ∷ []) (one-value, (one-value, (one-help, tt))) in
     let given : (a : Rule) → Among (λ b. b ≡ a) replay_rules → a.required ≡ true → is_some (first_of a.id rows) ≡ true =
     λ a among required. is-some replay_rules a.id rows (leaf-given words (codes "replay") rows replay_rules a replay-has ones enters among required) in
-    let edits = given (file (codes "edits")) (inr (inr (inr (inr (inr (inr (inr (inr (inr (inl refl)))))))))) refl in
+    let edits = given (file (codes "edits")) (behind-market (codes "edits") (file (codes "edits") ∷ table (codes "certificate") ∷ filled help_rule ∷ []) (inl refl)) refl in
     (given (file (codes "case")) (inl refl) refl, (given (file (codes "ptdf")) (inr (inl refl)) refl, (given (file (codes "offers")) (inr (inr (inl refl))) refl, (edits, tt))))
 
 pub verify-given : (words : List Text) (rows : List Row) → Enters words (codes "verify") rows → AreGiven (codes "case" ∷ codes "ptdf" ∷ codes "offers" ∷ codes "certificate" ∷ []) rows
@@ -201,8 +222,23 @@ verify-given words rows enters =
     let ones = market-ones (table (codes "edits") ∷ file (codes "certificate") ∷ filled help_rule ∷ []) (one-value, (one-value, (one-help, tt))) in
     let given : (a : Rule) → Among (λ b. b ≡ a) verify_rules → a.required ≡ true → is_some (first_of a.id rows) ≡ true =
     λ a among required. is-some verify_rules a.id rows (leaf-given words (codes "verify") rows verify_rules a verify-has ones enters among required) in
-    let certificate = given (file (codes "certificate")) (inr (inr (inr (inr (inr (inr (inr (inr (inr (inr (inl refl))))))))))) refl in
+    let certificate = given (file (codes "certificate")) (behind-market (codes "certificate") (table (codes "edits") ∷ file (codes "certificate") ∷ filled help_rule ∷ []) (inr (inl refl))) refl in
     (given (file (codes "case")) (inl refl) refl, (given (file (codes "ptdf")) (inr (inl refl)) refl, (given (file (codes "offers")) (inr (inr (inl refl))) refl, (certificate, tt))))
+
+pub rights-given : (words : List Text) (rows : List Row) → Enters words (codes "rights") rows → AreGiven (codes "case" ∷ codes "ptdf" ∷ codes "offers" ∷ codes "rights" ∷ []) rows
+rights-given words rows enters =
+    let ones = market-ones (file (codes "rights") ∷ filled help_rule ∷ []) (one-value, (one-help, tt)) in
+    let given : (a : Rule) → Among (λ b. b ≡ a) rights_rules → a.required ≡ true → is_some (first_of a.id rows) ≡ true =
+    λ a among required. is-some rights_rules a.id rows (leaf-given words (codes "rights") rows rights_rules a rights-has ones enters among required) in
+    let rights = given (file (codes "rights")) (behind-market (codes "rights") (file (codes "rights") ∷ filled help_rule ∷ []) (inl refl)) refl in
+    (given (file (codes "case")) (inl refl) refl, (given (file (codes "ptdf")) (inr (inl refl)) refl, (given (file (codes "offers")) (inr (inr (inl refl))) refl, (rights, tt))))
+
+pub migrate-given : (words : List Text) (rows : List Row) → Enters words (codes "migrate") rows → AreGiven (codes "certificate" ∷ codes "out" ∷ []) rows
+migrate-given words rows enters =
+    let ones : Each TakesOne migrate_rules = (one-value, (one-value, (one-help, tt))) in
+    let given : (a : Rule) → Among (λ b. b ≡ a) migrate_rules → a.required ≡ true → is_some (first_of a.id rows) ≡ true =
+    λ a among required. is-some migrate_rules a.id rows (leaf-given words (codes "migrate") rows migrate_rules a migrate-has ones enters among required) in
+    (given (file (codes "certificate")) (inl refl) refl, (given (file (codes "out")) (inr (inl refl)) refl, tt))
 
 pub check-given : (words : List Text) (rows : List Row) → Enters words (codes "check") rows → AreGiven (codes "case" ∷ codes "ptdf" ∷ []) rows
 check-given words rows enters =

@@ -20,7 +20,7 @@ use Rattle.clap.specs.declared.builder.value_parser.ValueParser.TheVariants as v
 use Rattle.clap.specs.declared.error.kind.ErrorKind.TheVariants as kind
 use Rattle.clap.proofs.WalkLemmas.{find-map, list_any-map}
 use Rattle.clap.proofs.OnLiterals.{clap_on_literals}
-use Rattle.command_words.specs.Words.{NameList, Spells, rating_words, sced_app, sced_app_over, size_words, spelled}
+use Rattle.command_words.specs.Words.{NameList, Spells, place_words, rating_words, sced_app, sced_app_over, size_words, spelled}
 
 abbrev pub plain_text : Bor Text → Bor Text
 plain_text s = record { ref_ptr = (0, 0); now = s.now }
@@ -462,37 +462,38 @@ texts-plain (x ∷ xs) = ap (λ ys. plain_text x ∷ ys) (texts-plain xs)
 lists-plain : (n : NameList) (ts : List Text) → Spells n ts → plain_list n ≡ spelled ts
 lists-plain n ts h = ap (λ (xs : List (Bor Text)). record { ref_ptr = (0, 0); now = xs }) (texts-plain n.now) ∙ ap spelled h
 
-moved : (sizes ratings : NameList) → plain_app (built (sced_app_over sizes ratings)) ≡ built (sced_app_over (plain_list sizes) (plain_list ratings))
+moved : (sizes ratings places : NameList) → plain_app (built (sced_app_over sizes ratings places)) ≡ built (sced_app_over (plain_list sizes) (plain_list ratings) (plain_list places))
 unfolding clap_on_literals sced_app_over
-moved sizes ratings = refl
+moved sizes ratings places = refl
 
-plain-sced : (sizes ratings : NameList) → Spells sizes size_words → Spells ratings rating_words → plain_app (built (sced_app_over sizes ratings)) ≡ built sced_app
+plain-sced : (sizes ratings places : NameList) → Spells sizes size_words → Spells ratings rating_words → Spells places place_words → plain_app (built (sced_app_over sizes ratings places)) ≡ built sced_app
 unfolding sced_app
-plain-sced sizes ratings s r = moved sizes ratings ∙ ap₂ (λ (x y : NameList). built (sced_app_over x y)) (lists-plain sizes size_words s) (lists-plain ratings rating_words r)
+plain-sced sizes ratings places s r p = moved sizes ratings places ∙ ap₂ (λ (x y : NameList). built (sced_app_over x y (plain_list places))) (lists-plain sizes size_words s) (lists-plain ratings rating_words r)
+    ∙ ap (λ (x : NameList). built (sced_app_over (spelled size_words) (spelled rating_words) x)) (lists-plain places place_words p)
 
-args-at : (sizes ratings : NameList) (words : List Text) → argument_words (sced_app_over sizes ratings) words ≡ drop 1 words
+args-at : (sizes ratings places : NameList) (words : List Text) → argument_words (sced_app_over sizes ratings places) words ≡ drop 1 words
 unfolding sced_app_over
-args-at sizes ratings words = refl
+args-at sizes ratings places words = refl
 
 args-sced : (words : List Text) → argument_words sced_app words ≡ drop 1 words
 unfolding sced_app
-args-sced words = args-at (spelled size_words) (spelled rating_words) words
+args-sced words = args-at (spelled size_words) (spelled rating_words) (spelled place_words) words
 
--- the command refuses the same words wherever its lists of the sizes and of the ratings lie
-pub fault-anywhere : (sizes ratings : NameList) (words : List Text) → Spells sizes size_words → Spells ratings rating_words
-    → fault_of (sced_app_over sizes ratings) words ≡ fault_of sced_app words
-fault-anywhere sizes ratings words s r =
-    ap (built_fault (built (sced_app_over sizes ratings)) nothing_held) (args-at sizes ratings words)
-    ∙ sym (built-plain (built (sced_app_over sizes ratings)) nothing_held (drop 1 words))
-    ∙ ap (λ (x : App). built_fault x nothing_held (drop 1 words)) (plain-sced sizes ratings s r)
+-- the command refuses the same words wherever its lists of the sizes, of the ratings and of the places lie
+pub fault-anywhere : (sizes ratings places : NameList) (words : List Text) → Spells sizes size_words → Spells ratings rating_words → Spells places place_words
+    → fault_of (sced_app_over sizes ratings places) words ≡ fault_of sced_app words
+fault-anywhere sizes ratings places words s r p =
+    ap (built_fault (built (sced_app_over sizes ratings places)) nothing_held) (args-at sizes ratings places words)
+    ∙ sym (built-plain (built (sced_app_over sizes ratings places)) nothing_held (drop 1 words))
+    ∙ ap (λ (x : App). built_fault x nothing_held (drop 1 words)) (plain-sced sizes ratings places s r p)
     ∙ sym (ap (built_fault (built sced_app) nothing_held) (args-sced words))
 
 -- and reads the same in them
-pub entered-anywhere : (sizes ratings : NameList) (words : List Text) → Spells sizes size_words → Spells ratings rating_words
-    → subcommand_of (sced_app_over sizes ratings) words ≡ subcommand_of sced_app words
-entered-anywhere sizes ratings words s r =
-    let b : App = built (sced_app_over sizes ratings) in
-    ap (λ ws. entered b (stop_after b.top.rules (names_of b) ws)) (args-at sizes ratings words)
+pub entered-anywhere : (sizes ratings places : NameList) (words : List Text) → Spells sizes size_words → Spells ratings rating_words → Spells places place_words
+    → subcommand_of (sced_app_over sizes ratings places) words ≡ subcommand_of sced_app words
+entered-anywhere sizes ratings places words s r p =
+    let b : App = built (sced_app_over sizes ratings places) in
+    ap (λ ws. entered b (stop_after b.top.rules (names_of b) ws)) (args-at sizes ratings places words)
     ∙ sym (enters-plain b (drop 1 words))
-    ∙ ap (λ (x : App). entered x (stop_after x.top.rules (names_of x) (drop 1 words))) (plain-sced sizes ratings s r)
+    ∙ ap (λ (x : App). entered x (stop_after x.top.rules (names_of x) (drop 1 words))) (plain-sced sizes ratings places s r p)
     ∙ sym (ap (λ ws. entered (built sced_app) (stop_after (built sced_app).top.rules (names_of (built sced_app)) ws)) (args-sced words))

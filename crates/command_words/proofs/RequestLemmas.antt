@@ -1,14 +1,16 @@
 -- What a request that was read asks for.
 use Rattle.std.proofs.Common.{◌≡◌, subst, Bor, List, Option}
 use Rattle.clap.specs.Words.{Text}
-use Rattle.market_tables.specs.declared.GridTables.{GridTables}
 use Rattle.command_words.specs.Requests.{Asks, names_of_market, names_to_check, text_of_name}
-use Rattle.command_words.specs.Words.{AsksCheck, AsksClear, AsksMake, AsksPool, AsksReplay, AsksVerify}
+use Rattle.command_words.specs.Words.{AsksCheck, AsksClear, AsksMake, AsksMigrate, AsksPool, AsksReplay, AsksRights, AsksVerify}
+use Rattle.command_words.specs.declared.words.CheckFiles.{CheckFiles}
 use Rattle.command_words.specs.declared.words.ClearFiles.{ClearFiles}
+use Rattle.command_words.specs.declared.words.MigrateFiles.{MigrateFiles}
 use Rattle.command_words.specs.declared.words.PoolFiles.{PoolFiles}
 use Rattle.command_words.specs.declared.words.ReplayFiles.{ReplayFiles}
 use Rattle.command_words.specs.declared.words.Request.{Request}
 use Rattle.command_words.specs.declared.words.Request.TheVariants as request
+use Rattle.command_words.specs.declared.words.RightsFiles.{RightsFiles}
 use Rattle.command_words.specs.declared.words.RingWords.{RingWords}
 use Rattle.command_words.specs.declared.words.VerifyFiles.{VerifyFiles}
 
@@ -27,8 +29,14 @@ pub asks-verify : (words : List Text) (r : Request) (files : VerifyFiles) → r 
     → AsksVerify words (names_of_market files.market) (text_of_name files.edits) files.certificate.now
 asks-verify words r files is asks = subst (Asks words) is asks
 
-pub asks-check : (words : List Text) (r : Request) (files : GridTables (Bor Text) (Option (Bor Text))) → r ≡ request.Check files → Asks words r → AsksCheck words (names_to_check files)
+pub asks-check : (words : List Text) (r : Request) (files : CheckFiles (Bor Text) (Option (Bor Text))) → r ≡ request.Check files → Asks words r → AsksCheck words (names_to_check files)
 asks-check words r files is asks = subst (Asks words) is asks
+
+pub asks-rights : (words : List Text) (r : Request) (files : RightsFiles) → r ≡ request.Rights files → Asks words r → AsksRights words (names_of_market files.market) files.rights.now
+asks-rights words r files is asks = subst (Asks words) is asks
+
+pub asks-migrate : (words : List Text) (r : Request) (files : MigrateFiles) → r ≡ request.Migrate files → Asks words r → AsksMigrate words files.certificate.now files.out.now
+asks-migrate words r files is asks = subst (Asks words) is asks
 
 pub asks-make : (words : List Text) (r : Request) (ring : RingWords) → r ≡ request.Make ring → Asks words r → AsksMake words ring.buses ring.seed
 asks-make words r ring is asks = subst (Asks words) is asks

@@ -4,6 +4,7 @@ use Rattle.std.proofs.Common.{ℕ}
 use Rattle.clap.specs.Words.{Row, Text, one_of, subcommand_of}
 use Rattle.clap.proofs.OnLiterals.{clap_on_literals}
 use Rattle.command_words.specs.Words.{MarketNames, market_names, refuses, sced_app, sced_app_over, size_of}
+use Rattle.market_data.specs.declared.scales.FactorPlaces.TheVariants as factor_places
 use Rattle.net_case.specs.declared.live_parts.PostRating.TheVariants as post
 
 -- the words of a clear that names what it must
@@ -11,10 +12,19 @@ abbrev least : List Text
 least = codes "sced" ∷ codes "clear" ∷ codes "--case" ∷ codes "n.m" ∷ codes "--ptdf" ∷ codes "p" ∷ codes "--offers=o" ∷ []
 
 abbrev by_b : List Text
-by_b = least ++ codes "--lodf" ∷ codes "l" ∷ codes "--contingencies" ∷ codes "k" ∷ codes "--unit-outages" ∷ codes "u" ∷ codes "--offsets" ∷ codes "s" ∷ codes "--penalties" ∷ codes "w" ∷ codes "--post-rating" ∷ codes "b" ∷ []
+by_b = least ++ codes "--lodf" ∷ codes "l" ∷ codes "--contingencies" ∷ codes "k" ∷ codes "--unit-outages" ∷ codes "u" ∷ codes "--offsets" ∷ codes "s" ∷ codes "--penalties" ∷ codes "w" ∷ codes "--post-rating" ∷ codes "b" ∷ codes "--factor-places" ∷ codes "9" ∷ []
 
 abbrev by_d : List Text
 by_d = least ++ codes "--post-rating" ∷ codes "d" ∷ []
+
+abbrev seven_places : List Text
+seven_places = least ++ codes "--factor-places" ∷ codes "7" ∷ []
+
+abbrev no_rights : List Text
+no_rights = codes "sced" ∷ codes "rights" ∷ codes "--case" ∷ codes "n.m" ∷ codes "--ptdf" ∷ codes "p" ∷ codes "--offers=o" ∷ []
+
+abbrev no_out : List Text
+no_out = codes "sced" ∷ codes "migrate" ∷ codes "--certificate" ∷ codes "x" ∷ []
 
 abbrev twice : List Text
 twice = least ++ codes "--offers" ∷ codes "o" ∷ []
@@ -48,6 +58,7 @@ least-named : named_by least
     ≡ Some (record {
       tables = record { grid = record { case = codes "n.m"; ptdf = codes "p"; lodf = None; contingencies = None }; unit_outages = None; offers = codes "o"; offsets = None; penalties = None };
       rating = post.C;
+      places = factor_places.Six;
     })
 unfolding clap_on_literals sced_app sced_app_over
 least-named = refl
@@ -60,6 +71,7 @@ by_b-named : named_by by_b
     ≡ Some (record {
       tables = record { grid = record { case = codes "n.m"; ptdf = codes "p"; lodf = Some (codes "l"); contingencies = Some (codes "k") }; unit_outages = Some (codes "u"); offers = codes "o"; offsets = Some (codes "s"); penalties = Some (codes "w") };
       rating = post.B;
+      places = factor_places.Nine;
     })
 unfolding clap_on_literals sced_app sced_app_over
 by_b-named = refl
@@ -67,6 +79,30 @@ by_b-named = refl
 by_d-refused : refuses by_d ≡ true
 unfolding clap_on_literals refuses sced_app sced_app_over
 by_d-refused = refl
+
+seven_places-refused : refuses seven_places ≡ true
+unfolding clap_on_literals refuses sced_app sced_app_over
+seven_places-refused = refl
+
+no_rights-refused : refuses no_rights ≡ true
+unfolding clap_on_literals refuses sced_app sced_app_over
+no_rights-refused = refl
+
+rights-taken : refuses (no_rights ++ codes "--rights" ∷ codes "r" ∷ []) ≡ false
+unfolding clap_on_literals refuses sced_app sced_app_over
+rights-taken = refl
+
+rights-refuse_certificate : refuses (no_rights ++ codes "--rights" ∷ codes "r" ∷ codes "--certificate" ∷ codes "x" ∷ []) ≡ true
+unfolding clap_on_literals refuses sced_app sced_app_over
+rights-refuse_certificate = refl
+
+no_out-refused : refuses no_out ≡ true
+unfolding clap_on_literals refuses sced_app sced_app_over
+no_out-refused = refl
+
+out-taken : refuses (no_out ++ codes "--out" ∷ codes "y" ∷ []) ≡ false
+unfolding clap_on_literals refuses sced_app sced_app_over
+out-taken = refl
 
 twice-refused : refuses twice ≡ true
 unfolding clap_on_literals refuses sced_app sced_app_over

@@ -15,27 +15,27 @@ use Rattle.clap.specs.declared.error.Error.{Error}
 use Rattle.clap.specs.declared.error.kind.ErrorKind.{ErrorKind}
 use Rattle.clap.specs.declared.error.kind.ErrorKind.TheVariants as kind
 use Rattle.clap.proofs.OnLiterals.{clap_on_literals}
-use Rattle.command_words.specs.Words.{AsksCheck, AsksClear, AsksMake, AsksPool, AsksReplay, AsksVerify, CheckNames, Enters, MarketNames, NameList, Spells, Writes, check_app, check_names, clear_app, file_of, is_fault, make_app, market_names, pool_app, rating_words, refuses, replay_app, sced_app, sced_app_over, size_words, spelled, verify_app}
+use Rattle.command_words.specs.Words.{AsksCheck, AsksClear, AsksMake, AsksMigrate, AsksPool, AsksReplay, AsksRights, AsksVerify, CheckNames, Enters, MarketNames, NameList, Spells, Writes, check_app, check_names, clear_app, file_of, is_fault, make_app, market_names, migrate_app, place_words, pool_app, rating_words, refuses, replay_app, rights_app, sced_app, sced_app_over, size_words, spelled, verify_app}
 use Rattle.command_words.proofs.PlainLemmas.{entered-anywhere, fault-anywhere}
 
-free : (sizes ratings : NameList) → is_simple_and_free (sced_app_over sizes ratings) ≡ true
+free : (sizes ratings places : NameList) → is_simple_and_free (sced_app_over sizes ratings places) ≡ true
 unfolding clap_on_literals sced_app_over
-free sizes ratings = refl
+free sizes ratings places = refl
 
-simple : (sizes ratings : NameList) → is_simple (sced_app_over sizes ratings) ≡ true
+simple : (sizes ratings places : NameList) → is_simple (sced_app_over sizes ratings places) ≡ true
 unfolding clap_on_literals sced_app_over
-simple sizes ratings = refl
+simple sizes ratings places = refl
 
 -- it must be followed by a subcommand
-pub is_needed : (sizes ratings : NameList) → (sced_app_over sizes ratings).top.subcommand_required ≡ true
+pub is_needed : (sizes ratings places : NameList) → (sced_app_over sizes ratings places).top.subcommand_required ≡ true
 unfolding sced_app_over
-is_needed sizes ratings = refl
+is_needed sizes ratings places = refl
 
-pub is_free : (a : App) (sizes ratings : NameList) → a ≡ sced_app_over sizes ratings → is_simple_and_free a ≡ true
-is_free a sizes ratings same = ap is_simple_and_free same ∙ free sizes ratings
+pub is_free : (a : App) (sizes ratings places : NameList) → a ≡ sced_app_over sizes ratings places → is_simple_and_free a ≡ true
+is_free a sizes ratings places same = ap is_simple_and_free same ∙ free sizes ratings places
 
-pub is_plain : (a : App) (sizes ratings : NameList) → a ≡ sced_app_over sizes ratings → is_simple a ≡ true
-is_plain a sizes ratings same = ap is_simple same ∙ simple sizes ratings
+pub is_plain : (a : App) (sizes ratings places : NameList) → a ≡ sced_app_over sizes ratings places → is_simple a ≡ true
+is_plain a sizes ratings places same = ap is_simple same ∙ simple sizes ratings places
 
 some_among : (k : ErrorKind) (ks : Kinds) → IsAmong k ks → ks ≢ []
 some_among k [] h = absurd h
@@ -52,25 +52,25 @@ a_fault : (ks : Kinds) → ks ≢ [] → is_fault ks ≡ true
 a_fault [] h = absurd (h refl)
 a_fault (k ∷ ks) h = refl
 
-kinds-of : (a : App) (sizes ratings : NameList) (words : List Text) → a ≡ sced_app_over sizes ratings → Spells sizes size_words → Spells ratings rating_words → fault_of a words ≡ fault_of sced_app words
-kinds-of a sizes ratings words same s r = ap (λ (x : App). fault_of x words) same ∙ fault-anywhere sizes ratings words s r
+kinds-of : (a : App) (sizes ratings places : NameList) (words : List Text) → a ≡ sced_app_over sizes ratings places → Spells sizes size_words → Spells ratings rating_words → Spells places place_words → fault_of a words ≡ fault_of sced_app words
+kinds-of a sizes ratings places words same s r p = ap (λ (x : App). fault_of x words) same ∙ fault-anywhere sizes ratings places words s r p
 
 -- a parse that succeeds is of words that the command takes, and one that fails, but for memory, of others
-taken_by : {T : Type 0} (r : Result T Error) (m : T) (a : App) (sizes ratings : NameList) (words : List Text) → r ≡ Ok m
-    → a ≡ sced_app_over sizes ratings → Spells sizes size_words → Spells ratings rating_words → FailsBy (fault_of a words) r → refuses words ≡ false
+taken_by : {T : Type 0} (r : Result T Error) (m : T) (a : App) (sizes ratings places : NameList) (words : List Text) → r ≡ Ok m
+    → a ≡ sced_app_over sizes ratings places → Spells sizes size_words → Spells ratings rating_words → Spells places place_words → FailsBy (fault_of a words) r → refuses words ≡ false
 unfolding refuses
-taken_by r m a sizes ratings words is same s t h = no_fault (fault_of sced_app words) (sym (kinds-of a sizes ratings words same s t) ∙ rw is at h)
+taken_by r m a sizes ratings places words is same s t p h = no_fault (fault_of sced_app words) (sym (kinds-of a sizes ratings places words same s t p) ∙ rw is at h)
 
-pub refused_by : {T : Type 0} (r : Result T Error) (e : Error) (a : App) (sizes ratings : NameList) (words : List Text) → r ≡ Err e → kind_of e ≢ kind.OutOfMemory
-    → a ≡ sced_app_over sizes ratings → Spells sizes size_words → Spells ratings rating_words → FailsBy (fault_of a words) r → refuses words ≡ true
+pub refused_by : {T : Type 0} (r : Result T Error) (e : Error) (a : App) (sizes ratings places : NameList) (words : List Text) → r ≡ Err e → kind_of e ≢ kind.OutOfMemory
+    → a ≡ sced_app_over sizes ratings places → Spells sizes size_words → Spells ratings rating_words → Spells places place_words → FailsBy (fault_of a words) r → refuses words ≡ true
 unfolding refuses
-refused_by r e a sizes ratings words is not_memory same s t h =
+refused_by r e a sizes ratings places words is not_memory same s t p h =
     let some = some_kind e (fault_of a words) not_memory (rw is at h) in
-    a_fault (fault_of sced_app words) (λ none. some (kinds-of a sizes ratings words same s t ∙ none))
+    a_fault (fault_of sced_app words) (λ none. some (kinds-of a sizes ratings places words same s t p ∙ none))
 
 -- what a parse enters is what the words name
-entered_by : (a : App) (sizes ratings : NameList) (words : List Text) → a ≡ sced_app_over sizes ratings → Spells sizes size_words → Spells ratings rating_words → subcommand_of a words ≡ subcommand_of sced_app words
-entered_by a sizes ratings words same s t = ap (λ (x : App). subcommand_of x words) same ∙ entered-anywhere sizes ratings words s t
+entered_by : (a : App) (sizes ratings places : NameList) (words : List Text) → a ≡ sced_app_over sizes ratings places → Spells sizes size_words → Spells ratings rating_words → Spells places place_words → subcommand_of a words ≡ subcommand_of sced_app words
+entered_by a sizes ratings places words same s t p = ap (λ (x : App). subcommand_of x words) same ∙ entered-anywhere sizes ratings places words s t p
 
 -- the name and the rows of the subcommand, together
 both_of : (m : ArgMatches) (n : Text) (rs : List Row) → Some n ≡ subcommand_name_of m → Some rs ≡ option_map (λ (p : Text × List Row). p.1) (subcommand_rows_of m)
@@ -83,12 +83,12 @@ both_of m n rs = go (out-ArgMatches m).subcommand n rs
     go (Some b) n rs e h = cc
 
 -- what a parse that succeeds has entered is what the words enter
-pub enters_by : {T : Type 0} (r : Result T Error) (t : T) (m : ArgMatches) (a : App) (sizes ratings : NameList) (words : List Text) (n : Text) (rs : List Row) → r ≡ Ok t
-    → a ≡ sced_app_over sizes ratings → Spells sizes size_words → Spells ratings rating_words → FailsBy (fault_of a words) r → subcommand_rows_of m ≡ subcommand_of a words
+pub enters_by : {T : Type 0} (r : Result T Error) (t : T) (m : ArgMatches) (a : App) (sizes ratings places : NameList) (words : List Text) (n : Text) (rs : List Row) → r ≡ Ok t
+    → a ≡ sced_app_over sizes ratings places → Spells sizes size_words → Spells ratings rating_words → Spells places place_words → FailsBy (fault_of a words) r → subcommand_rows_of m ≡ subcommand_of a words
     → Some n ≡ subcommand_name_of m → Some rs ≡ option_map (λ (p : Text × List Row). p.1) (subcommand_rows_of m) → Enters words n rs
-enters_by r t m a sizes ratings words n rs is same s u fails found name rows = record {
-  taken = taken_by r t a sizes ratings words is same s u fails;
-  entered = sym (entered_by a sizes ratings words same s u) ∙ sym found ∙ both_of m n rs name rows;
+enters_by r t m a sizes ratings places words n rs is same s u p fails found name rows = record {
+  taken = taken_by r t a sizes ratings places words is same s u p fails;
+  entered = sym (entered_by a sizes ratings places words same s u p) ∙ sym found ∙ both_of m n rs name rows;
 }
 
 pub enters-named : (words : List Text) (n n' : Text) (rs : List Row) → n ≡ n' → Enters words n rs → Enters words n' rs
@@ -143,6 +143,22 @@ verifies-once words names names' edits edits' certificate certificate' asks asks
       asks.certificate_is ∙ ap (file_of (codes "certificate")) rows ∙ sym asks'.certificate_is,
     )
 
+pub rights-once : (words : List Text) (names names' : MarketNames) (rights rights' : Text)
+    → AsksRights words names rights → AsksRights words names' rights' → (names ≡ names') × (rights ≡ rights')
+rights-once words names names' rights rights' asks asks' =
+    let rows = (enters-once words _ _ asks.rows asks'.rows asks.enters asks'.enters).1 in (
+      asks.names_are ∙ ap market_names rows ∙ sym asks'.names_are,
+      asks.rights_is ∙ ap (file_of (codes "rights")) rows ∙ sym asks'.rights_is,
+    )
+
+pub migrates-once : (words : List Text) (certificate certificate' out out' : Text)
+    → AsksMigrate words certificate out → AsksMigrate words certificate' out' → (certificate ≡ certificate') × (out ≡ out')
+migrates-once words certificate certificate' out out' asks asks' =
+    let rows = (enters-once words _ _ asks.rows asks'.rows asks.enters asks'.enters).1 in (
+      asks.certificate_is ∙ ap (file_of (codes "certificate")) rows ∙ sym asks'.certificate_is,
+      asks.out_is ∙ ap (file_of (codes "out")) rows ∙ sym asks'.out_is,
+    )
+
 pub checks-once : (words : List Text) (names names' : CheckNames) → AsksCheck words names → AsksCheck words names' → names ≡ names'
 checks-once words names names' asks asks' =
     asks.names_are ∙ ap check_names (enters-once words _ _ asks.rows asks'.rows asks.enters asks'.enters).1 ∙ sym asks'.names_are
@@ -192,30 +208,41 @@ entered-one app (Some (word, rest)) name rows is = go (find (λ s. answers_to wo
         let this : s.name ≡ name = ap (λ (o : Option (Text × List Row)). (unwrap_or o (s.name, rows)).0) same in
         subst (λ n. IsOneOf n app.subs) this (found-among (λ t. answers_to word (label_of t)) app.subs s found)
 
--- its six subcommands, as they are built
+-- its eight subcommands, as they are built
 abbrev pub built_under : Shape → Shape
 built_under sub = built_leaf (inherited (on_top marked_built sced_app).top sub)
 
-abbrev pub six_built : List Shape
-six_built = map built_under (pool_app.top ∷ (clear_app (spelled rating_words)).top ∷ (replay_app (spelled rating_words)).top
-    ∷ (verify_app (spelled rating_words)).top ∷ check_app.top ∷ (make_app (spelled size_words)).top ∷ [])
+abbrev pub eight_built : List Shape
+eight_built = map built_under (pool_app.top ∷ (clear_app (spelled rating_words) (spelled place_words)).top ∷ (replay_app (spelled rating_words) (spelled place_words)).top
+    ∷ (verify_app (spelled rating_words) (spelled place_words)).top ∷ (rights_app (spelled rating_words) (spelled place_words)).top ∷ (check_app (spelled place_words)).top ∷ migrate_app.top
+    ∷ (make_app (spelled size_words)).top ∷ [])
 
-pub subs-are : (built sced_app).subs ≡ six_built
+pub subs-are : (built sced_app).subs ≡ eight_built
 unfolding clap_on_literals sced_app sced_app_over
 subs-are = refl
 
--- what is none of the five others is `make`
-left-make : (name : Text) → IsOneOf name six_built → name ≢ codes "pool" → name ≢ codes "clear" → name ≢ codes "replay" → name ≢ codes "verify" → name ≢ codes "check"
-    → name ≡ codes "make"
-unfolding IsOneOf
-left-make name (inl same) pool clear replay verify check = absurd (pool same)
-left-make name (inr (inl same)) pool clear replay verify check = absurd (clear same)
-left-make name (inr (inr (inl same))) pool clear replay verify check = absurd (replay same)
-left-make name (inr (inr (inr (inl same)))) pool clear replay verify check = absurd (verify same)
-left-make name (inr (inr (inr (inr (inl same))))) pool clear replay verify check = absurd (check same)
-left-make name (inr (inr (inr (inr (inr (inl same)))))) pool clear replay verify check = same
-left-make name (inr (inr (inr (inr (inr (inr none)))))) pool clear replay verify check = absurd none
+-- the name is none of the seven others
+pub record IsNoOther (name : Text) : Type 0 where
+  pub pool : name ≢ codes "pool"
+  pub clear : name ≢ codes "clear"
+  pub replay : name ≢ codes "replay"
+  pub verify : name ≢ codes "verify"
+  pub rights : name ≢ codes "rights"
+  pub check : name ≢ codes "check"
+  pub migrate : name ≢ codes "migrate"
 
-pub entered-make : (words : List Text) (name : Text) (rows : List Row) → Enters words name rows
-    → name ≢ codes "pool" → name ≢ codes "clear" → name ≢ codes "replay" → name ≢ codes "verify" → name ≢ codes "check" → name ≡ codes "make"
+-- so it is `make`
+left-make : (name : Text) → IsOneOf name eight_built → IsNoOther name → name ≡ codes "make"
+unfolding IsOneOf
+left-make name (inl same) others = absurd (others.pool same)
+left-make name (inr (inl same)) others = absurd (others.clear same)
+left-make name (inr (inr (inl same))) others = absurd (others.replay same)
+left-make name (inr (inr (inr (inl same)))) others = absurd (others.verify same)
+left-make name (inr (inr (inr (inr (inl same))))) others = absurd (others.rights same)
+left-make name (inr (inr (inr (inr (inr (inl same)))))) others = absurd (others.check same)
+left-make name (inr (inr (inr (inr (inr (inr (inl same))))))) others = absurd (others.migrate same)
+left-make name (inr (inr (inr (inr (inr (inr (inr (inl same)))))))) others = same
+left-make name (inr (inr (inr (inr (inr (inr (inr (inr none)))))))) others = absurd none
+
+pub entered-make : (words : List Text) (name : Text) (rows : List Row) → Enters words name rows → IsNoOther name → name ≡ codes "make"
 entered-make words name rows enters = left-make name (subst (IsOneOf name) subs-are (entered-one (built sced_app) _ name rows enters.entered))

@@ -7,9 +7,12 @@ use Rattle.std.specs.Str.Parse.{IsNumeral, digits_value, without_leading_plus}
 use Rattle.clap.specs.Words.{App, Kinds, Row, Rule, Text, fault_of, first_of, new_app, new_rule, one_of, subcommand_of, with_rule, with_subcommand}
 use Rattle.clap.specs.declared.builder.value_parser.ValueParser.{ValueParser}
 use Rattle.clap.specs.declared.builder.value_parser.ValueParser.TheVariants.{Names, Signed}
+use Rattle.market_data.specs.declared.scales.FactorPlaces.{FactorPlaces}
+use Rattle.market_data.specs.declared.scales.FactorPlaces.TheVariants as factor_places
 use Rattle.market_tables.specs.declared.GridTables.{GridTables}
 use Rattle.net_case.specs.declared.live_parts.PostRating.{PostRating}
 use Rattle.net_case.specs.declared.live_parts.PostRating.TheVariants as post
+use Rattle.command_words.specs.declared.words.CheckFiles.{CheckFiles}
 use Rattle.command_words.specs.declared.words.MarketFiles.{MarketFiles}
 
 -- a list of names, as a command borrows it
@@ -27,6 +30,10 @@ spelled texts = record { ref_ptr = (0, 0); now = map (λ text. record { ref_ptr 
 -- the letters of the ratings
 abbrev pub rating_words : List Text
 rating_words = codes "a" ∷ codes "b" ∷ codes "c" ∷ []
+
+-- the numbers of places that the factors of tables may have
+abbrev pub place_words : List Text
+place_words = codes "6" ∷ codes "9" ∷ []
 
 -- the numbers of buses that a ring may have
 abbrev pub size_words : List Text
@@ -62,27 +69,41 @@ pool_app = with_file (with_file (new_app (codes "pool")) (codes "case")) (codes 
 abbrev pub with_needed : App → App
 with_needed a = with_file (with_file (with_file a (codes "case")) (codes "ptdf")) (codes "offers")
 
--- and where they are named `--lodf FILE`, `--contingencies FILE`, `--unit-outages FILE`, `--offsets FILE`, `--penalties FILE` and `--post-rating LETTER`
-abbrev pub with_market : App → NameList → App
-with_market a ratings = with_rule (with_table (with_table (with_table (with_table (with_table (with_needed a) (codes "lodf")) (codes "contingencies")) (codes "unit-outages")) (codes "offsets"))
-    (codes "penalties"))
-    (choice_rule (codes "post-rating") ratings)
+-- and where they are named `--lodf FILE`, `--contingencies FILE`, `--unit-outages FILE`, `--offsets FILE` and `--penalties FILE`
+abbrev pub with_tables : App → App
+with_tables a = with_table (with_table (with_table (with_table (with_table a (codes "lodf")) (codes "contingencies")) (codes "unit-outages")) (codes "offsets")) (codes "penalties")
+
+-- and where it is there `--factor-places NUMBER`
+abbrev pub with_places : App → NameList → App
+with_places a places = with_rule a (choice_rule (codes "factor-places") places)
+
+-- all these, and where it is there `--post-rating LETTER`
+abbrev pub with_market : App → NameList → NameList → App
+with_market a ratings places = with_places (with_rule (with_tables (with_needed a)) (choice_rule (codes "post-rating") ratings)) places
 
 -- `clear` with the files of a market, and where it is named `--certificate FILE`
-abbrev pub clear_app : NameList → App
-clear_app ratings = with_table (with_market (new_app (codes "clear")) ratings) (codes "certificate")
+abbrev pub clear_app : NameList → NameList → App
+clear_app ratings places = with_table (with_market (new_app (codes "clear")) ratings places) (codes "certificate")
 
 -- `replay` with the files of a market and `--edits FILE`, and where it is named `--certificate FILE`
-abbrev pub replay_app : NameList → App
-replay_app ratings = with_table (with_file (with_market (new_app (codes "replay")) ratings) (codes "edits")) (codes "certificate")
+abbrev pub replay_app : NameList → NameList → App
+replay_app ratings places = with_table (with_file (with_market (new_app (codes "replay")) ratings places) (codes "edits")) (codes "certificate")
 
 -- `verify` with the files of a market and `--certificate FILE`, and where it is named `--edits FILE`
-abbrev pub verify_app : NameList → App
-verify_app ratings = with_file (with_table (with_market (new_app (codes "verify")) ratings) (codes "edits")) (codes "certificate")
+abbrev pub verify_app : NameList → NameList → App
+verify_app ratings places = with_file (with_table (with_market (new_app (codes "verify")) ratings places) (codes "edits")) (codes "certificate")
 
--- `check --case FILE --ptdf FILE`, and where they are named `--lodf FILE` and `--contingencies FILE`
-abbrev pub check_app : App
-check_app = with_table (with_table (with_file (with_file (new_app (codes "check")) (codes "case")) (codes "ptdf")) (codes "lodf")) (codes "contingencies")
+-- `rights` with the files of a market and `--rights FILE`
+abbrev pub rights_app : NameList → NameList → App
+rights_app ratings places = with_file (with_market (new_app (codes "rights")) ratings places) (codes "rights")
+
+-- `check --case FILE --ptdf FILE`, and where they are there `--lodf FILE`, `--contingencies FILE` and `--factor-places NUMBER`
+abbrev pub check_app : NameList → App
+check_app places = with_places (with_table (with_table (with_file (with_file (new_app (codes "check")) (codes "case")) (codes "ptdf")) (codes "lodf")) (codes "contingencies")) places
+
+-- `migrate --certificate FILE --out FILE`
+abbrev pub migrate_app : App
+migrate_app = with_file (with_file (new_app (codes "migrate")) (codes "certificate")) (codes "out")
 
 -- `make N SEED`; N is one of the sizes, and SEED from 0 to 4294967295
 abbrev pub make_app : NameList → App
@@ -92,16 +113,17 @@ make_app sizes = with_rule (with_rule (new_app (codes "make")) (value_rule (code
 abbrev pub needs_subcommand : App → App
 needs_subcommand a = record a { top = record a.top { subcommand_required = true; disable_help_subcommand = true } }
 
--- the program's command over the lists of the sizes of rings and of the ratings; it has six subcommands
-unfoldable pub sced_app_over : NameList → NameList → App
-sced_app_over sizes ratings =
-    with_subcommand (with_subcommand (with_subcommand (with_subcommand (with_subcommand (with_subcommand
+-- the program's command over the lists of the sizes of rings, of the ratings and of the numbers of places; it has eight subcommands
+unfoldable pub sced_app_over : NameList → NameList → NameList → App
+sced_app_over sizes ratings places =
+    with_subcommand (with_subcommand (with_subcommand (with_subcommand (with_subcommand (with_subcommand (with_subcommand (with_subcommand
     (needs_subcommand (new_app (codes "sced")))
-    pool_app.top) (clear_app ratings).top) (replay_app ratings).top) (verify_app ratings).top) check_app.top) (make_app sizes).top
+    pool_app.top) (clear_app ratings places).top) (replay_app ratings places).top) (verify_app ratings places).top) (rights_app ratings places).top) (check_app places).top)
+    migrate_app.top) (make_app sizes).top
 
 -- the program's command
 unfoldable pub sced_app : App
-sced_app = sced_app_over (spelled size_words) (spelled rating_words)
+sced_app = sced_app_over (spelled size_words) (spelled rating_words) (spelled place_words)
 
 abbrev pub is_fault : Kinds → Bool
 is_fault [] = false
@@ -127,6 +149,14 @@ rating_named letter = if bytes_eq letter (codes "a") then post.A else if bytes_e
 abbrev pub rating_of : List Row → PostRating
 rating_of rows = option_map_or rating_named (first_of (codes "post-rating") rows) post.C
 
+-- the number of places that a word stands for
+abbrev pub places_named : Text → FactorPlaces
+places_named word = if bytes_eq word (codes "9") then factor_places.Nine else factor_places.Six
+
+-- the number of places that its option tells, and 6 where it is not there
+abbrev pub places_of : List Row → FactorPlaces
+places_of rows = option_map_or places_named (first_of (codes "factor-places") rows) factor_places.Six
+
 -- the command takes the words, which enter this subcommand with these options
 pub record Enters (words : List Text) (name : Text) (rows : List Row) : Type 0 where
   pub taken : refuses words ≡ false
@@ -145,34 +175,44 @@ pub record AsksPool (words : List Text) (case offers : Text) : Type 0 where
   pub case_is : case ≡ file_of (codes "case") rows
   pub offers_is : offers ≡ file_of (codes "offers") rows
 
--- the names of the files that `check` reads; those of the outage factors and of the outages may be left out
-abbrev pub CheckNames : Type 0
-CheckNames = GridTables Text (Option Text)
+-- the names of a case and of the tables that are to fit it; those of the outage factors and of the outages may be left out
+abbrev pub GridNames : Type 0
+GridNames = GridTables Text (Option Text)
 
 -- the names that options give
-abbrev pub check_names : List Row → CheckNames
-check_names rows = record {
+abbrev pub grid_names : List Row → GridNames
+grid_names rows = record {
   case = file_of (codes "case") rows;
   ptdf = file_of (codes "ptdf") rows;
   lodf = first_of (codes "lodf") rows;
   contingencies = first_of (codes "contingencies") rows;
 }
 
--- the names of the files of a market with limits, of which some may be left out, and the rating that limits branches after outages
+-- the names of the files that `check` reads, and how many places the factors in them have
+abbrev pub CheckNames : Type 0
+CheckNames = CheckFiles Text (Option Text)
+
+-- those that options give
+abbrev pub check_names : List Row → CheckNames
+check_names rows = record { tables = grid_names rows; places = places_of rows }
+
+-- the names of the files of a market with limits, of which some may be left out, the rating that limits branches after outages, and how
+-- many places the factors have
 abbrev pub MarketNames : Type 0
 MarketNames = MarketFiles Text (Option Text)
 
--- the names that options give
+-- those that options give
 abbrev pub market_names : List Row → MarketNames
 market_names rows = record {
   tables = record {
-    grid = check_names rows;
+    grid = grid_names rows;
     unit_outages = first_of (codes "unit-outages") rows;
     offers = file_of (codes "offers") rows;
     offsets = first_of (codes "offsets") rows;
     penalties = first_of (codes "penalties") rows;
   };
   rating = rating_of rows;
+  places = places_of rows;
 }
 
 -- the words enter `clear`, and these are the names of the market's files, and of the certificate's, which may be left out
@@ -200,6 +240,22 @@ pub record AsksVerify (words : List Text) (names : MarketNames) (edits : Option 
   pub names_are : names ≡ market_names rows
   pub edits_is : edits ≡ first_of (codes "edits") rows
   pub certificate_is : certificate ≡ file_of (codes "certificate") rows
+
+-- the words enter `rights`, and these are the names of the market's files, and of the rights'
+pub record AsksRights (words : List Text) (names : MarketNames) (rights : Text) : Type 0 where
+  pub rows : List Row
+  pub enters : Enters words (codes "rights") rows
+  pub given : AreGiven (codes "case" ∷ codes "ptdf" ∷ codes "offers" ∷ codes "rights" ∷ []) rows
+  pub names_are : names ≡ market_names rows
+  pub rights_is : rights ≡ file_of (codes "rights") rows
+
+-- the words enter `migrate`, and these are the names of the certificate that it reads and of the file that it writes
+pub record AsksMigrate (words : List Text) (certificate out : Text) : Type 0 where
+  pub rows : List Row
+  pub enters : Enters words (codes "migrate") rows
+  pub given : AreGiven (codes "certificate" ∷ codes "out" ∷ []) rows
+  pub certificate_is : certificate ≡ file_of (codes "certificate") rows
+  pub out_is : out ≡ file_of (codes "out") rows
 
 -- the words enter `check`, and these are the names of its files
 pub record AsksCheck (words : List Text) (names : CheckNames) : Type 0 where
@@ -250,13 +306,17 @@ ReadsSeed rows seed = (text : Text) (n : ℕ) → one_of (codes "SEED") rows ≡
 abbrev pub IsPoolFile : Text → Text → Text → Type 0
 IsPoolFile case offers file = (file ≡ case) ⊎ (file ≡ offers)
 
+-- this is the case or a table of these names
+abbrev pub IsGridFile : GridNames → Text → Type 0
+IsGridFile names file = (file ≡ names.case) ⊎ (file ≡ names.ptdf) ⊎ (names.lodf ≡ Some file) ⊎ (names.contingencies ≡ Some file)
+
 -- `check` reads this file, of those of these names
 abbrev pub IsCheckFile : CheckNames → Text → Type 0
-IsCheckFile names file = (file ≡ names.case) ⊎ (file ≡ names.ptdf) ⊎ (names.lodf ≡ Some file) ⊎ (names.contingencies ≡ Some file)
+IsCheckFile names file = IsGridFile names.tables file
 
 -- this is a file of the market of these names
 abbrev pub IsMarketFile : MarketNames → Text → Type 0
-IsMarketFile names file = IsCheckFile names.tables.grid file ⊎ (names.tables.unit_outages ≡ Some file) ⊎ (file ≡ names.tables.offers)
+IsMarketFile names file = IsGridFile names.tables.grid file ⊎ (names.tables.unit_outages ≡ Some file) ⊎ (file ≡ names.tables.offers)
     ⊎ (names.tables.offsets ≡ Some file) ⊎ (names.tables.penalties ≡ Some file)
 
 -- `replay` reads this file, of those of the market and the edits
@@ -266,6 +326,10 @@ IsReplayFile names edits file = IsMarketFile names file ⊎ (file ≡ edits)
 -- `verify` reads this file, of those of the market, the edits and the certificate
 abbrev pub IsVerifyFile : MarketNames → Option Text → Text → Text → Type 0
 IsVerifyFile names edits certificate file = IsMarketFile names file ⊎ (edits ≡ Some file) ⊎ (file ≡ certificate)
+
+-- `rights` reads this file, of those of the market and the rights
+abbrev pub IsRightsFile : MarketNames → Text → Text → Type 0
+IsRightsFile names rights file = IsMarketFile names file ⊎ (file ≡ rights)
 
 -- the words name this file for `pool` to read
 abbrev pub NamesForPool : List Text → Text → Type 0
@@ -289,9 +353,18 @@ NamesForVerify words file = (names : MarketNames) × (edits : Option Text) × (c
 abbrev pub NamesForCheck : List Text → Text → Type 0
 NamesForCheck words file = (names : CheckNames) × AsksCheck words names × IsCheckFile names file
 
+-- the words name this file for `rights` to read
+abbrev pub NamesForRights : List Text → Text → Type 0
+NamesForRights words file = (names : MarketNames) × (rights : Text) × AsksRights words names rights × IsRightsFile names rights file
+
+-- the words name this file as the certificate that `migrate` reads
+abbrev pub NamesForMigrate : List Text → Text → Type 0
+NamesForMigrate words file = (certificate : Text) × (out : Text) × AsksMigrate words certificate out × (file ≡ certificate)
+
 -- the words name this file for reading
 abbrev pub NamesFile : List Text → Text → Type 0
 NamesFile words file = NamesForPool words file ⊎ NamesForClear words file ⊎ NamesForReplay words file ⊎ NamesForVerify words file ⊎ NamesForCheck words file
+    ⊎ NamesForRights words file ⊎ NamesForMigrate words file
 
 -- the words name this file as the certificate that `clear` writes
 abbrev pub ClearWrites : List Text → Text → Type 0
@@ -301,6 +374,10 @@ ClearWrites words file = (names : MarketNames) × AsksClear words names (Some fi
 abbrev pub ReplayWrites : List Text → Text → Type 0
 ReplayWrites words file = (names : MarketNames) × (edits : Text) × AsksReplay words names edits (Some file)
 
+-- the words name this file as the certificate that `migrate` writes
+abbrev pub MigrateWrites : List Text → Text → Type 0
+MigrateWrites words file = (certificate : Text) × AsksMigrate words certificate file
+
 -- the words name this file for writing
 abbrev pub NamesToWrite : List Text → Text → Type 0
-NamesToWrite words file = ClearWrites words file ⊎ ReplayWrites words file
+NamesToWrite words file = ClearWrites words file ⊎ ReplayWrites words file ⊎ MigrateWrites words file

@@ -4,7 +4,7 @@ ghost use Rattle.std.specs.Prelude.{◌≡◌, false, IfOk, codes, pos};
 ghost use Rattle.clap.specs.Words.{app_of, new_app, rule_of, with_subcommand};
 ghost use Rattle.clap.specs.declared.builder.command.Command.TheViews.{out-Command as fields_of};
 ghost use Rattle.clap.specs.declared.builder.value_parser.ValueParser.TheVariants.{Names, Signed};
-ghost use Rattle.command_words.specs.Words.{check_app, choice_rule, clear_app, file_rule, make_app, needs_subcommand, pool_app, replay_app, sced_app_over, table_rule, value_rule, verify_app, with_file, with_market, with_table};
+ghost use Rattle.command_words.specs.Words.{check_app, choice_rule, clear_app, file_rule, make_app, migrate_app, needs_subcommand, pool_app, replay_app, rights_app, sced_app_over, table_rule, value_rule, verify_app, with_file, with_market, with_places, with_table};
 
 use clap::{Arg, Command, value_parser};
 use std::alloc::{AllocError, Global};
@@ -27,11 +27,19 @@ const PENALTIES: &str = "The table of the limits that give way, and of what that
 
 const POST_RATING: &str = "The rating of a branch after an outage; c where this is left out";
 
+const PLACES: &str = "How many decimal places factors may have; 6 where this is left out";
+
+const RIGHTS: &str = "The table of transmission rights";
+
 const EDITS: &str = "The table of edits of the market";
 
 const WRITTEN: &str = "The file that the certificate of the last clear is written to";
 
 const READ: &str = "The certificate that is verified";
+
+const MIGRATED: &str = "The certificate that is written anew";
+
+const OUT: &str = "The file that it is written to";
 
 const SIZE: &str = "How many buses the ring has";
 
@@ -53,12 +61,17 @@ fn file_option<'a>(alloc: Global, name: &'a str, help: &'a str) -> Arg<'a>
     table_option(alloc, name, help).required(true)
 }
 
-/// The option that takes one of the letters of the ratings.
-fn rating_option<'a>(alloc: Global, ratings: &'a [&'a str]) -> Arg<'a>
-    ensures rule { rule_of result ≡ choice_rule (codes "post-rating") ratings.entry }
+/// An option that takes one of these words.
+fn choice_option<'a>(
+    alloc: Global,
+    name: &'a str,
+    help: &'a str,
+    choices: &'a [&'a str],
+) -> Arg<'a>
+    ensures rule { rule_of result ≡ choice_rule name.entry.now choices.entry }
     ensures local { result.global ≡ false }
 {
-    table_option(alloc, "post-rating", POST_RATING).value_parser(ratings)
+    table_option(alloc, name, help).value_parser(choices)
 }
 
 /// The value that is one of the sizes of rings.
@@ -132,14 +145,28 @@ fn pool_command<'a>(alloc: Global) -> Result<Command<'a>, AllocError>
     with_file(alloc, command, "offers", OFFERS)
 }
 
-/// A command with the files of a market with limits, and the rating after an outage.
+/// A command with one more option, which tells how many places the factors of tables may have.
+fn with_places<'a>(
+    alloc: Global,
+    command: Command<'a>,
+    places: &'a [&'a str],
+) -> Result<Command<'a>, AllocError>
+    requires { (fields_of command).has_globals ≡ false }
+    ensures app { IfOk result (λ made. app_of made ≡ with_places (app_of command.entry) places.entry) }
+    ensures local { IfOk result (λ made. (fields_of made).has_globals ≡ false) }
+{
+    command.arg(choice_option(alloc, "factor-places", PLACES, places))
+}
+
+/// A command with the files of a market with limits, the rating after an outage, and the places of factors.
 fn with_market<'a>(
     alloc: Global,
     command: Command<'a>,
     ratings: &'a [&'a str],
+    places: &'a [&'a str],
 ) -> Result<Command<'a>, AllocError>
     requires { (fields_of command).has_globals ≡ false }
-    ensures app { IfOk result (λ made. app_of made ≡ with_market (app_of command.entry) ratings.entry) }
+    ensures app { IfOk result (λ made. app_of made ≡ with_market (app_of command.entry) ratings.entry places.entry) }
     ensures local { IfOk result (λ made. (fields_of made).has_globals ≡ false) }
 {
     let command = with_file(alloc, command, "case", CASE)?;
@@ -150,11 +177,16 @@ fn with_market<'a>(
     let command = with_table(alloc, command, "unit-outages", UNIT_OUTAGES)?;
     let command = with_table(alloc, command, "offsets", OFFSETS)?;
     let command = with_table(alloc, command, "penalties", PENALTIES)?;
-    command.arg(rating_option(alloc, ratings))
+    let command = command.arg(choice_option(alloc, "post-rating", POST_RATING, ratings))?;
+    with_places(alloc, command, places)
 }
 
-fn clear_command<'a>(alloc: Global, ratings: &'a [&'a str]) -> Result<Command<'a>, AllocError>
-    ensures app { IfOk result (λ made. app_of made ≡ clear_app ratings.entry) }
+fn clear_command<'a>(
+    alloc: Global,
+    ratings: &'a [&'a str],
+    places: &'a [&'a str],
+) -> Result<Command<'a>, AllocError>
+    ensures app { IfOk result (λ made. app_of made ≡ clear_app ratings.entry places.entry) }
     ensures local { IfOk result (λ made. (fields_of made).has_globals ≡ false) }
 {
     let command = described(
@@ -162,12 +194,16 @@ fn clear_command<'a>(alloc: Global, ratings: &'a [&'a str]) -> Result<Command<'a
         "clear",
         "Clears the market within the limits of the branches, before and after outages",
     );
-    let command = with_market(alloc, command, ratings)?;
+    let command = with_market(alloc, command, ratings, places)?;
     with_table(alloc, command, "certificate", WRITTEN)
 }
 
-fn replay_command<'a>(alloc: Global, ratings: &'a [&'a str]) -> Result<Command<'a>, AllocError>
-    ensures app { IfOk result (λ made. app_of made ≡ replay_app ratings.entry) }
+fn replay_command<'a>(
+    alloc: Global,
+    ratings: &'a [&'a str],
+    places: &'a [&'a str],
+) -> Result<Command<'a>, AllocError>
+    ensures app { IfOk result (λ made. app_of made ≡ replay_app ratings.entry places.entry) }
     ensures local { IfOk result (λ made. (fields_of made).has_globals ≡ false) }
 {
     let command = described(
@@ -175,13 +211,17 @@ fn replay_command<'a>(alloc: Global, ratings: &'a [&'a str]) -> Result<Command<'
         "replay",
         "Edits the market step by step, and clears it where a step says so",
     );
-    let command = with_market(alloc, command, ratings)?;
+    let command = with_market(alloc, command, ratings, places)?;
     let command = with_file(alloc, command, "edits", EDITS)?;
     with_table(alloc, command, "certificate", WRITTEN)
 }
 
-fn verify_command<'a>(alloc: Global, ratings: &'a [&'a str]) -> Result<Command<'a>, AllocError>
-    ensures app { IfOk result (λ made. app_of made ≡ verify_app ratings.entry) }
+fn verify_command<'a>(
+    alloc: Global,
+    ratings: &'a [&'a str],
+    places: &'a [&'a str],
+) -> Result<Command<'a>, AllocError>
+    ensures app { IfOk result (λ made. app_of made ≡ verify_app ratings.entry places.entry) }
     ensures local { IfOk result (λ made. (fields_of made).has_globals ≡ false) }
 {
     let command = described(
@@ -189,13 +229,30 @@ fn verify_command<'a>(alloc: Global, ratings: &'a [&'a str]) -> Result<Command<'
         "verify",
         "Tells whether a certificate holds for the market",
     );
-    let command = with_market(alloc, command, ratings)?;
+    let command = with_market(alloc, command, ratings, places)?;
     let command = with_table(alloc, command, "edits", EDITS)?;
     with_file(alloc, command, "certificate", READ)
 }
 
-fn check_command<'a>(alloc: Global) -> Result<Command<'a>, AllocError>
-    ensures app { IfOk result (λ made. app_of made ≡ check_app) }
+fn rights_command<'a>(
+    alloc: Global,
+    ratings: &'a [&'a str],
+    places: &'a [&'a str],
+) -> Result<Command<'a>, AllocError>
+    ensures app { IfOk result (λ made. app_of made ≡ rights_app ratings.entry places.entry) }
+    ensures local { IfOk result (λ made. (fields_of made).has_globals ≡ false) }
+{
+    let command = described(
+        alloc,
+        "rights",
+        "Clears the market, and tells whether transmission rights fit and what they are paid",
+    );
+    let command = with_market(alloc, command, ratings, places)?;
+    with_file(alloc, command, "rights", RIGHTS)
+}
+
+fn check_command<'a>(alloc: Global, places: &'a [&'a str]) -> Result<Command<'a>, AllocError>
+    ensures app { IfOk result (λ made. app_of made ≡ check_app places.entry) }
     ensures local { IfOk result (λ made. (fields_of made).has_globals ≡ false) }
 {
     let command = described(
@@ -206,7 +263,21 @@ fn check_command<'a>(alloc: Global) -> Result<Command<'a>, AllocError>
     let command = with_file(alloc, command, "case", CASE)?;
     let command = with_file(alloc, command, "ptdf", PTDF)?;
     let command = with_table(alloc, command, "lodf", LODF)?;
-    with_table(alloc, command, "contingencies", CONTINGENCIES)
+    let command = with_table(alloc, command, "contingencies", CONTINGENCIES)?;
+    with_places(alloc, command, places)
+}
+
+fn migrate_command<'a>(alloc: Global) -> Result<Command<'a>, AllocError>
+    ensures app { IfOk result (λ made. app_of made ≡ migrate_app) }
+    ensures local { IfOk result (λ made. (fields_of made).has_globals ≡ false) }
+{
+    let command = described(
+        alloc,
+        "migrate",
+        "Writes a certificate anew, in the version of today",
+    );
+    let command = with_file(alloc, command, "certificate", MIGRATED)?;
+    with_file(alloc, command, "out", OUT)
 }
 
 fn make_command<'a>(alloc: Global, sizes: &'a [&'a str]) -> Result<Command<'a>, AllocError>
@@ -248,21 +319,23 @@ fn bare_command<'a>(alloc: Global) -> Command<'a>
     .disable_help_subcommand(true)
 }
 
-/// The command of the program, over the lists of the sizes of rings and of the letters of the
-/// ratings.
+/// The command of the program, over the lists of the sizes of rings, of the letters of the ratings and of the numbers of places.
 #[tactic(auto, unfolding(crate::specs::Words::sced_app_over))]
 pub fn sced_command<'a>(
     alloc: Global,
     sizes: &'a [&'a str],
     ratings: &'a [&'a str],
+    places: &'a [&'a str],
 ) -> Result<Command<'a>, AllocError>
-    ensures app { IfOk result (λ made. app_of made ≡ sced_app_over sizes.entry ratings.entry) }
+    ensures app { IfOk result (λ made. app_of made ≡ sced_app_over sizes.entry ratings.entry places.entry) }
     ensures local { IfOk result (λ made. (fields_of made).has_globals ≡ false) }
 {
     let command = with_subcommand(bare_command(alloc), pool_command(alloc)?)?;
-    let command = with_subcommand(command, clear_command(alloc, ratings)?)?;
-    let command = with_subcommand(command, replay_command(alloc, ratings)?)?;
-    let command = with_subcommand(command, verify_command(alloc, ratings)?)?;
-    let command = with_subcommand(command, check_command(alloc)?)?;
+    let command = with_subcommand(command, clear_command(alloc, ratings, places)?)?;
+    let command = with_subcommand(command, replay_command(alloc, ratings, places)?)?;
+    let command = with_subcommand(command, verify_command(alloc, ratings, places)?)?;
+    let command = with_subcommand(command, rights_command(alloc, ratings, places)?)?;
+    let command = with_subcommand(command, check_command(alloc, places)?)?;
+    let command = with_subcommand(command, migrate_command(alloc)?)?;
     with_subcommand(command, make_command(alloc, sizes)?)
 }

@@ -5,6 +5,6 @@ mod command;
 mod words;
 
 pub use words::{
-    CheckNames, ClearFiles, MarketFiles, MarketNames, PoolFiles, ReplayFiles, Request, RingWords,
-    VerifyFiles, WordsStop, request_of,
+    CheckFiles, CheckNames, ClearFiles, GridNames, MarketFiles, MarketNames, MigrateFiles,
+    PoolFiles, ReplayFiles, Request, RightsFiles, RingWords, VerifyFiles, WordsStop, request_of,
 };

@@ -2,12 +2,13 @@
 
 ghost use Rattle.std.specs.Prelude.{◌≡◌, ◌≢◌, ◌≤◌, codes, map, string_bytes, IfOk, IfErr};
 ghost use Rattle.clap.specs.Words.{first_of, found_of, rows_of};
-ghost use Rattle.command_words.specs.Words.{AsksNothing, IsRingSize, ReadsSeed, check_names, file_of, market_names, rating_of, size_of};
-ghost use Rattle.command_words.specs.Requests.{Asks, names_of_market, names_to_check, text_of_name};
+ghost use Rattle.command_words.specs.Words.{AsksNothing, IsRingSize, ReadsSeed, check_names, file_of, grid_names, market_names, places_of, rating_of, size_of};
+ghost use Rattle.command_words.specs.Requests.{Asks, names_of_grid, names_of_market, names_to_check, text_of_name};
 
 use crate::command::sced_command;
 use clap::ArgMatches;
 use clap::error::ErrorKind;
+use market_data::FactorPlaces;
 use market_tables::{GridTables, MarketTables};
 use net_case::PostRating;
 use std::alloc::{AllocError, Global};
@@ -18,6 +19,9 @@ static SIZES: [&str; 5] = ["4", "8", "16", "32", "64"];
 /// The letters of the ratings of a branch.
 static RATINGS: [&str; 3] = ["a", "b", "c"];
 
+/// The numbers of places that the factors of tables may have.
+static PLACES: [&str; 2] = ["6", "9"];
+
 /// The names of the two files that `pool` reads.
 #[derive(Clone, Copy, Debug)]
 pub struct PoolFiles<'a> {
@@ -25,17 +29,28 @@ pub struct PoolFiles<'a> {
     pub offers: &'a str,
 }
 
-/// The names of the files that `check` reads, where they are named.
-pub type CheckNames<'a> = GridTables<&'a str, Option<&'a str>>;
+/// The names of a case and of the tables that are to fit it, where they are named.
+pub type GridNames<'a> = GridTables<&'a str, Option<&'a str>>;
 
-/// The files of a market with limits, and the rating that limits a branch after an outage.
+/// A case and the tables that are to fit it, and how many places their factors may have.
+#[derive(Clone, Copy, Debug)]
+pub struct CheckFiles<T, O> {
+    pub tables: GridTables<T, O>,
+    pub places: FactorPlaces,
+}
+
+/// The names of the files that `check` reads, where they are named, and the places of factors.
+pub type CheckNames<'a> = CheckFiles<&'a str, Option<&'a str>>;
+
+/// The files of a market with limits, the rating that limits a branch after an outage, and how many places factors may have.
 #[derive(Clone, Copy, Debug)]
 pub struct MarketFiles<T, O> {
     pub tables: MarketTables<T, O>,
     pub rating: PostRating,
+    pub places: FactorPlaces,
 }
 
-/// The names of these files, where they are named, and the rating.
+/// The names of these files, where they are named, the rating and the places.
 pub type MarketNames<'a> = MarketFiles<&'a str, Option<&'a str>>;
 
 /// The names of the files that `clear` reads, and of the certificate that it writes, where it is
@@ -63,6 +78,20 @@ pub struct VerifyFiles<'a> {
     pub certificate: &'a str,
 }
 
+/// The names of the files that `rights` reads, where they are named.
+#[derive(Clone, Copy, Debug)]
+pub struct RightsFiles<'a> {
+    pub market: MarketNames<'a>,
+    pub rights: &'a str,
+}
+
+/// The names of the certificate that `migrate` reads and of the file that it writes.
+#[derive(Clone, Copy, Debug)]
+pub struct MigrateFiles<'a> {
+    pub certificate: &'a str,
+    pub out: &'a str,
+}
+
 /// The ring that `make` makes: how many buses it has, of 4, 8, 16, 32 and 64, and the seed of its
 /// numbers, of 32 bits.
 #[derive(Clone, Copy, Debug)]
@@ -78,7 +107,9 @@ pub enum Request<'a> {
     Clear(ClearFiles<'a>),
     Replay(ReplayFiles<'a>),
     Verify(VerifyFiles<'a>),
+    Rights(RightsFiles<'a>),
     Check(CheckNames<'a>),
+    Migrate(MigrateFiles<'a>),
     Make(RingWords),
 }
 
@@ -115,6 +146,16 @@ fn named_rating<'a>(matches: &ArgMatches<'a>) -> PostRating
     }
 }
 
+/// The number of places that its option tells.
+fn named_places<'a>(matches: &ArgMatches<'a>) -> FactorPlaces
+    ensures { result ≡ places_of (rows_of (found_of matches.now)) }
+{
+    match named_table(matches, "factor-places") {
+        Some("9") => FactorPlaces::Nine,
+        _ => FactorPlaces::Six,
+    }
+}
+
 /// The files that `pool` is to read.
 fn pool_files<'a>(matches: &ArgMatches<'a>) -> PoolFiles<'a>
     ensures case { result.case.now ≡ file_of (codes "case") (rows_of (found_of matches.now)) }
@@ -126,9 +167,9 @@ fn pool_files<'a>(matches: &ArgMatches<'a>) -> PoolFiles<'a>
     }
 }
 
-/// The files that `check` is to read.
-fn check_files<'a>(matches: &ArgMatches<'a>) -> CheckNames<'a>
-    ensures { names_to_check result ≡ check_names (rows_of (found_of matches.now)) }
+/// The case and the tables that are to fit it.
+fn grid_files<'a>(matches: &ArgMatches<'a>) -> GridNames<'a>
+    ensures { names_of_grid result ≡ grid_names (rows_of (found_of matches.now)) }
 {
     GridTables {
         case: named_file(matches, "case"),
@@ -138,19 +179,30 @@ fn check_files<'a>(matches: &ArgMatches<'a>) -> CheckNames<'a>
     }
 }
 
+/// The files that `check` is to read.
+fn check_files<'a>(matches: &ArgMatches<'a>) -> CheckNames<'a>
+    ensures { names_to_check result ≡ check_names (rows_of (found_of matches.now)) }
+{
+    CheckFiles {
+        tables: grid_files(matches),
+        places: named_places(matches),
+    }
+}
+
 /// The files of the market.
 fn market_files<'a>(matches: &ArgMatches<'a>) -> MarketNames<'a>
     ensures { names_of_market result ≡ market_names (rows_of (found_of matches.now)) }
 {
     MarketFiles {
         tables: MarketTables {
-            grid: check_files(matches),
+            grid: grid_files(matches),
             unit_outages: named_table(matches, "unit-outages"),
             offers: named_file(matches, "offers"),
             offsets: named_table(matches, "offsets"),
             penalties: named_table(matches, "penalties"),
         },
         rating: named_rating(matches),
+        places: named_places(matches),
     }
 }
 
@@ -188,6 +240,28 @@ fn verify_files<'a>(matches: &ArgMatches<'a>) -> VerifyFiles<'a>
         market: market_files(matches),
         edits: named_table(matches, "edits"),
         certificate: named_file(matches, "certificate"),
+    }
+}
+
+/// The files that `rights` is to read.
+fn rights_files<'a>(matches: &ArgMatches<'a>) -> RightsFiles<'a>
+    ensures market { names_of_market result.market ≡ market_names (rows_of (found_of matches.now)) }
+    ensures rights { result.rights.now ≡ file_of (codes "rights") (rows_of (found_of matches.now)) }
+{
+    RightsFiles {
+        market: market_files(matches),
+        rights: named_file(matches, "rights"),
+    }
+}
+
+/// The files that `migrate` is to read and to write.
+fn migrate_files<'a>(matches: &ArgMatches<'a>) -> MigrateFiles<'a>
+    ensures certificate { result.certificate.now ≡ file_of (codes "certificate") (rows_of (found_of matches.now)) }
+    ensures out { result.out.now ≡ file_of (codes "out") (rows_of (found_of matches.now)) }
+{
+    MigrateFiles {
+        certificate: named_file(matches, "certificate"),
+        out: named_file(matches, "out"),
     }
 }
 
@@ -246,7 +320,7 @@ pub fn request_of<'a>(alloc: Global, words: &'a [String]) -> Result<Request<'a>,
     ensures asked { IfOk result (Asks (map string_bytes words.entry.now)) }
     ensures refused { IfErr result (λ stop. stop ≢ WordsStop.Memory → AsksNothing (map string_bytes words.entry.now)) }
 {
-    let command = match sced_command(alloc, SIZES.as_slice(), RATINGS.as_slice()) {
+    let command = match sced_command(alloc, SIZES.as_slice(), RATINGS.as_slice(), PLACES.as_slice()) {
         Ok(command) => command,
         Err(_) => return Err(WordsStop::Memory),
     };
@@ -258,7 +332,9 @@ pub fn request_of<'a>(alloc: Global, words: &'a [String]) -> Result<Request<'a>,
                 "clear" => Ok(Request::Clear(clear_files(inner))),
                 "replay" => Ok(Request::Replay(replay_files(inner))),
                 "verify" => Ok(Request::Verify(verify_files(inner))),
+                "rights" => Ok(Request::Rights(rights_files(inner))),
                 "check" => Ok(Request::Check(check_files(inner))),
+                "migrate" => Ok(Request::Migrate(migrate_files(inner))),
                 _ => Ok(Request::Make(ring_words(inner))),
             }
         }

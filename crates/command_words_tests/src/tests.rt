@@ -18,38 +18,62 @@ fn told(alloc: Global, line: &str) -> Result<String, Fail> {
     }
 }
 
-const TABLE: [(&str, &str); 32] = [
+const TABLE: [(&str, &str); 40] = [
     (
         "sced pool --case n.m --offers o.csv",
         "Pool(PoolFiles { case: \"n.m\", offers: \"o.csv\" })",
     ),
     (
-        "sced clear --case n.m --ptdf p --offers o --lodf l --contingencies k --unit-outages u --offsets s --penalties w --post-rating b",
-        "Clear(ClearFiles { market: MarketFiles { tables: MarketTables { grid: GridTables { case: \"n.m\", ptdf: \"p\", lodf: Some(\"l\"), contingencies: Some(\"k\") }, unit_outages: Some(\"u\"), offers: \"o\", offsets: Some(\"s\"), penalties: Some(\"w\") }, rating: B }, certificate: None })",
+        "sced clear --case n.m --ptdf p --offers o --lodf l --contingencies k --unit-outages u --offsets s --penalties w --post-rating b --factor-places 9",
+        "Clear(ClearFiles { market: MarketFiles { tables: MarketTables { grid: GridTables { case: \"n.m\", ptdf: \"p\", lodf: Some(\"l\"), contingencies: Some(\"k\") }, unit_outages: Some(\"u\"), offers: \"o\", offsets: Some(\"s\"), penalties: Some(\"w\") }, rating: B, places: Nine }, certificate: None })",
     ),
     (
         "sced clear --post-rating=a --offers=o --ptdf=p --case=n.m",
-        "Clear(ClearFiles { market: MarketFiles { tables: MarketTables { grid: GridTables { case: \"n.m\", ptdf: \"p\", lodf: None, contingencies: None }, unit_outages: None, offers: \"o\", offsets: None, penalties: None }, rating: A }, certificate: None })",
+        "Clear(ClearFiles { market: MarketFiles { tables: MarketTables { grid: GridTables { case: \"n.m\", ptdf: \"p\", lodf: None, contingencies: None }, unit_outages: None, offers: \"o\", offsets: None, penalties: None }, rating: A, places: Six }, certificate: None })",
     ),
     (
         "sced clear --case n.m --ptdf p --offers o --certificate x",
-        "Clear(ClearFiles { market: MarketFiles { tables: MarketTables { grid: GridTables { case: \"n.m\", ptdf: \"p\", lodf: None, contingencies: None }, unit_outages: None, offers: \"o\", offsets: None, penalties: None }, rating: C }, certificate: Some(\"x\") })",
+        "Clear(ClearFiles { market: MarketFiles { tables: MarketTables { grid: GridTables { case: \"n.m\", ptdf: \"p\", lodf: None, contingencies: None }, unit_outages: None, offers: \"o\", offsets: None, penalties: None }, rating: C, places: Six }, certificate: Some(\"x\") })",
     ),
     (
         "sced replay --case n.m --ptdf p --offers o --edits e --certificate x --lodf l",
-        "Replay(ReplayFiles { market: MarketFiles { tables: MarketTables { grid: GridTables { case: \"n.m\", ptdf: \"p\", lodf: Some(\"l\"), contingencies: None }, unit_outages: None, offers: \"o\", offsets: None, penalties: None }, rating: C }, edits: \"e\", certificate: Some(\"x\") })",
+        "Replay(ReplayFiles { market: MarketFiles { tables: MarketTables { grid: GridTables { case: \"n.m\", ptdf: \"p\", lodf: Some(\"l\"), contingencies: None }, unit_outages: None, offers: \"o\", offsets: None, penalties: None }, rating: C, places: Six }, edits: \"e\", certificate: Some(\"x\") })",
     ),
     (
         "sced verify --case n.m --ptdf p --offers o --certificate x --post-rating b",
-        "Verify(VerifyFiles { market: MarketFiles { tables: MarketTables { grid: GridTables { case: \"n.m\", ptdf: \"p\", lodf: None, contingencies: None }, unit_outages: None, offers: \"o\", offsets: None, penalties: None }, rating: B }, edits: None, certificate: \"x\" })",
+        "Verify(VerifyFiles { market: MarketFiles { tables: MarketTables { grid: GridTables { case: \"n.m\", ptdf: \"p\", lodf: None, contingencies: None }, unit_outages: None, offers: \"o\", offsets: None, penalties: None }, rating: B, places: Six }, edits: None, certificate: \"x\" })",
     ),
     (
         "sced verify --case n.m --ptdf p --offers o --certificate x --edits e",
-        "Verify(VerifyFiles { market: MarketFiles { tables: MarketTables { grid: GridTables { case: \"n.m\", ptdf: \"p\", lodf: None, contingencies: None }, unit_outages: None, offers: \"o\", offsets: None, penalties: None }, rating: C }, edits: Some(\"e\"), certificate: \"x\" })",
+        "Verify(VerifyFiles { market: MarketFiles { tables: MarketTables { grid: GridTables { case: \"n.m\", ptdf: \"p\", lodf: None, contingencies: None }, unit_outages: None, offers: \"o\", offsets: None, penalties: None }, rating: C, places: Six }, edits: Some(\"e\"), certificate: \"x\" })",
     ),
     (
         "sced check --case n.m --ptdf p --lodf l",
-        "Check(GridTables { case: \"n.m\", ptdf: \"p\", lodf: Some(\"l\"), contingencies: None })",
+        "Check(CheckFiles { tables: GridTables { case: \"n.m\", ptdf: \"p\", lodf: Some(\"l\"), contingencies: None }, places: Six })",
+    ),
+    (
+        "sced check --case n.m --ptdf p --factor-places=9",
+        "Check(CheckFiles { tables: GridTables { case: \"n.m\", ptdf: \"p\", lodf: None, contingencies: None }, places: Nine })",
+    ),
+    (
+        "sced rights --case n.m --ptdf p --offers o --rights r",
+        "Rights(RightsFiles { market: MarketFiles { tables: MarketTables { grid: GridTables { case: \"n.m\", ptdf: \"p\", lodf: None, contingencies: None }, unit_outages: None, offers: \"o\", offsets: None, penalties: None }, rating: C, places: Six }, rights: \"r\" })",
+    ),
+    (
+        "sced migrate --certificate a --out b",
+        "Migrate(MigrateFiles { certificate: \"a\", out: \"b\" })",
+    ),
+    (
+        "sced migrate --certificate a",
+        "error: the following required arguments were not provided:",
+    ),
+    (
+        "sced rights --case n.m --ptdf p --offers o --rights r --certificate x",
+        "error: unexpected argument '--certificate' found",
+    ),
+    (
+        "sced check --case n.m --ptdf p --factor-places 7",
+        "error: invalid value '7' for '--factor-places <factor-places>'",
     ),
     ("sced make 4 7", "Make(RingWords { buses: 4, seed: 7 })"),
     (
@@ -126,6 +150,14 @@ const TABLE: [(&str, &str); 32] = [
     (
         "sced verify --help",
         "Tells whether a certificate holds for the market",
+    ),
+    (
+        "sced rights --help",
+        "Clears the market, and tells whether transmission rights fit and what they are paid",
+    ),
+    (
+        "sced migrate --help",
+        "Writes a certificate anew, in the version of today",
     ),
     (
         "sced check --help",

@@ -4,6 +4,7 @@ pub mod Clearing
 pub mod Files
 pub mod Pooling
 pub mod Replaying
+pub mod RightsInputs
 pub mod Steps
 pub mod Stops
 pub mod Tables

@@ -10,6 +10,7 @@ mod limits;
 mod offers;
 mod pooling;
 mod replays;
+mod rights;
 mod stops;
 mod tables;
 
@@ -18,4 +19,5 @@ pub use clearing::clear_market;
 pub use lengths::MOST_BYTES;
 pub use pooling::pool_market;
 pub use replays::{edit_steps, read_certificate};
+pub use rights::read_rights;
 pub use stops::InputStop;

@@ -13,6 +13,7 @@ use offer_book::OfferFault;
 use outage_list::{OutageFault, UnitOutageFault};
 use plain_list::Memory;
 use refusal_text::{Input, Refusal};
+use rights_test::RightsFault;
 
 /// Why nothing was made of the files.
 #[derive(Debug, Drop)]
@@ -116,6 +117,19 @@ pub(crate) fn table_stop(file: Input, fault: TableFault) -> InputStop
     match fault {
         TableFault::Memory => InputStop::Memory,
         _ => InputStop::Refused(Refusal::Table(file, fault)),
+    }
+}
+
+impl From<RightsFault> for InputStop {
+    ghost use Rattle.market_inputs.specs.Stops.{rights_stop};
+
+    ghost from_gives = { λ fault stop. stop ≡ rights_stop fault };
+
+    fn from(fault: RightsFault) -> InputStop {
+        match fault {
+            RightsFault::Memory => InputStop::Memory,
+            _ => InputStop::Refused(Refusal::Rights(fault)),
+        }
     }
 }
 

@@ -6,4 +6,5 @@ pub mod laws;
 mod limits;
 mod outcome;
 
+pub use limits::row_words;
 pub use outcome::report;

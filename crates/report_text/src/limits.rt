@@ -41,8 +41,8 @@ fn outage_words(text: &mut Text, outage: u32, unit: u32) -> Result<(), Memory>
     loss_words(text, b" lost ", unit)
 }
 
-/// The name of a limit.
-fn row_words(text: &mut Text, row: RowId) -> Result<(), Memory>
+/// The name of a limit, with the word `limit` before it.
+pub fn row_words(text: &mut Text, row: RowId) -> Result<(), Memory>
     ensures { IfOk result (λ _. text.new ≡ text.old ++ row_text row) }
 {
     text.word(b"limit ")?;

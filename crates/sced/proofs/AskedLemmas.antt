@@ -2,30 +2,34 @@
 use Rattle.std.specs.Prelude.{◌≡◌, ℕ, true, false, List, Option, Some, codes, Result}
 use Rattle.std.specs.Str.{bytes_eq}
 use Rattle.std.proofs.Common.{refl, sym, subst, ◌∙◌}
+use Rattle.fraction_theory.specs.Fraction.{Fraction}
 use Rattle.outside_store.specs.Files.{Files}
+use Rattle.cert_format.specs.declared.certificate.Cert.{Cert}
 use Rattle.clap.specs.Words as clap_words
 use Rattle.market_model.specs.declared.participants.Parts.{Parts}
 use Rattle.refusal_text.specs.declared.refusals.Refusal.{Refusal}
 use Rattle.market_inputs.specs.Files.{sized_grid}
 use Rattle.market_inputs.specs.declared.checking.Inputs.{Inputs}
 use Rattle.market_inputs.proofs.OnceLemmas.{OfOne, inputs-once, pool-once}
-use Rattle.command_words.specs.Words.{AsksClear, AsksMake, AsksPool, CheckNames, Enters, MarketNames, refuses}
-use Rattle.command_words.proofs.WordsLemmas.{asks-once, checks-once, clears-once, enters-one, makes-once, names-apart, replays-once, verifies-once}
+use Rattle.command_words.specs.Words.{AsksClear, AsksMake, AsksPool, CheckNames, Enters, GridNames, MarketNames, refuses}
+use Rattle.command_words.proofs.WordsLemmas.{asks-once, checks-once, clears-once, enters-one, makes-once, migrates-once, names-apart, replays-once, rights-once, verifies-once}
 use Rattle.command_answers.specs.Checking.{TellsCheck}
 use Rattle.command_answers.specs.Clearing.{TellsClear, most_size}
-use Rattle.command_answers.specs.Inputs.{IsCertified, IsCheck, IsLimited, IsReplayed, MarketCertificate, MarketSteps}
+use Rattle.command_answers.specs.Inputs.{AreEntitled, IsCertified, IsCheck, IsLimited, IsMigrated, IsReplayed, MarketCertificate, MarketRights, MarketSteps}
+use Rattle.command_answers.specs.Migrating.{TellsMigration}
 use Rattle.command_answers.specs.Replaying.{TellsReplay}
+use Rattle.command_answers.specs.Rights.{TellsRights}
 use Rattle.command_answers.specs.Making.{MakesTo}
 use Rattle.command_answers.specs.Tellings.{ComesTo, Telling, Tells}
 use Rattle.command_answers.specs.Verifying.{TellsVerdict}
-use Rattle.command_answers.proofs.RoundTripLemmas.{certified-once, limited-once, replayed-once}
-use Rattle.sced.specs.Asked.{AsksToCheck, AsksToClear, AsksToReplay, AsksToVerify, as_clear, as_pool}
+use Rattle.command_answers.proofs.RoundTripLemmas.{certified-once, entitled-once, limited-once, replayed-once}
+use Rattle.sced.specs.Asked.{AsksForRights, AsksToCheck, AsksToClear, AsksToMigrate, AsksToReplay, AsksToVerify, as_clear, as_pool}
 use Rattle.edit_table.specs.EditTable.{header as edit_header}
 use Rattle.market_tables.specs.Tables.{GridTexts, MarketTexts}
 use Rattle.market_tables.proofs.EachLemmas.{same-grid, same-tables}
 use Rattle.command_files.specs.Reading.{HaveGridTexts, HaveTexts, IsTable, Source, grid_sources, header_alone, in_file, source_of, table_sources}
-use Rattle.sced.specs.Told.{AnswersTo, checked, cleared, made, pooled, refused, replayed, verified}
-use Rattle.command_files.specs.Standing.{AreCheckFiles, AreClearFiles, ArePoolFiles, AreReplayFiles, AreVerifyFiles}
+use Rattle.sced.specs.Told.{AnswersTo, checked, cleared, entitled, made, migrated, pooled, refused, replayed, verified}
+use Rattle.command_files.specs.Standing.{AreCheckFiles, AreClearFiles, ArePoolFiles, AreReplayFiles, AreRightsFiles, AreVerifyFiles, IsMigratedFile}
 
 -- ---- files stand for one market, or have one first fault
 same-bytes : (a b : List ℕ) (o : Option (List ℕ)) → o ≡ Some a → o ≡ Some b → a ≡ b
@@ -44,30 +48,40 @@ pool-files-once files case offers a b h k =
     let same_offers = same-bytes k.offers h.offers (files offers) k.offers_is h.offers_is in
     pool-once _ _ a b h.market (rw (same_case, same_offers) at k.market)
 
-same-grid-texts : (files : Files) (names : CheckNames) (a b : GridTexts) → HaveGridTexts files names a → HaveGridTexts files names b → a ≡ b
+same-grid-texts : (files : Files) (names : GridNames) (a b : GridTexts) → HaveGridTexts files names a → HaveGridTexts files names b → a ≡ b
 same-grid-texts files names a b h k = same-grid (IsTable files) (same-table files) (grid_sources names) a b h k
 
 check-files-once : (files : Files) (names : CheckNames) → OfOne (AreCheckFiles files names)
 check-files-once files names a b h k =
-    inputs-once (sized_grid h.texts) a b h.inputs (subst (λ texts. IsCheck texts b) (same-grid-texts files names k.texts h.texts k.have h.have) k.inputs)
+    inputs-once names.places (sized_grid h.texts) a b h.inputs (subst (λ texts. IsCheck names.places texts b) (same-grid-texts files names.tables k.texts h.texts k.have h.have) k.inputs)
 
 clear-files-once : (files : Files) (names : MarketNames) → OfOne (AreClearFiles files names)
 clear-files-once files names a b h k =
-    limited-once names.rating h.texts a b h.market (subst (λ texts. IsLimited names.rating texts b) (same-texts files names k.texts h.texts k.have h.have) k.market)
+    limited-once names.rating names.places h.texts a b h.market (subst (λ texts. IsLimited names.rating names.places texts b) (same-texts files names k.texts h.texts k.have h.have) k.market)
 
 replay-files-once : (files : Files) (names : MarketNames) (edits : List ℕ) → OfOne (AreReplayFiles files names edits)
 replay-files-once files names edits a b h k =
     let same_edits = same-bytes k.edits h.edits (files edits) k.edits_are h.edits_are in
-    let steps = subst (λ texts. IsReplayed names.rating texts k.edits b) (same-texts files names k.texts h.texts k.have h.have) k.steps in
-    replayed-once names.rating h.texts h.edits a b h.steps (subst (λ table. IsReplayed names.rating h.texts table b) same_edits steps)
+    let steps = subst (λ texts. IsReplayed names.rating names.places texts k.edits b) (same-texts files names k.texts h.texts k.have h.have) k.steps in
+    replayed-once names.rating names.places h.texts h.edits a b h.steps (subst (λ table. IsReplayed names.rating names.places h.texts table b) same_edits steps)
 
 verify-files-once : (files : Files) (names : MarketNames) (edits : Option (List ℕ)) (certificate : List ℕ) → OfOne (AreVerifyFiles files names edits certificate)
 verify-files-once files names edits certificate a b h k =
     let same_edits = same-table files (source_of edit_header edits) k.edits h.edits k.edits_are h.edits_are in
     let same_certificate = same-bytes k.certificate h.certificate (files certificate) k.certificate_is h.certificate_is in
-    let certified = subst (λ texts. IsCertified names.rating texts k.edits k.certificate b) (same-texts files names k.texts h.texts k.have h.have) k.certified in
-    let edited = subst (λ table. IsCertified names.rating h.texts table k.certificate b) same_edits certified in
-    certified-once names.rating h.texts h.edits h.certificate a b h.certified (subst (λ text. IsCertified names.rating h.texts h.edits text b) same_certificate edited)
+    let certified = subst (λ texts. IsCertified names.rating names.places texts k.edits k.certificate b) (same-texts files names k.texts h.texts k.have h.have) k.certified in
+    let edited = subst (λ table. IsCertified names.rating names.places h.texts table k.certificate b) same_edits certified in
+    certified-once names.rating names.places h.texts h.edits h.certificate a b h.certified (subst (λ text. IsCertified names.rating names.places h.texts h.edits text b) same_certificate edited)
+
+rights-files-once : (files : Files) (names : MarketNames) (rights : List ℕ) → OfOne (AreRightsFiles files names rights)
+rights-files-once files names rights a b h k =
+    let same_rights = same-bytes k.rights h.rights (files rights) k.rights_are h.rights_are in
+    let entitled = subst (λ texts. AreEntitled names.rating names.places texts k.rights b) (same-texts files names k.texts h.texts k.have h.have) k.entitled in
+    entitled-once names.rating names.places h.texts h.rights a b h.entitled (subst (λ table. AreEntitled names.rating names.places h.texts table b) same_rights entitled)
+
+migrated-file-once : (files : Files) (certificate : List ℕ) → OfOne (IsMigratedFile files certificate)
+migrated-file-once files certificate a b h k =
+    sym h.read ∙ sym (subst (λ text. IsMigrated text b) (same-bytes k.certificate h.certificate (files certificate) k.certificate_is h.certificate_is) k.read) ∙ refl
 
 -- what is told is told of what the files stand for, or of their first fault
 told-of : {A : Type 0} (stand : Result A Refusal → Type 0) (right : A → Telling → Type 0) (r : Result A Refusal) (t : Telling) → OfOne stand → stand r → Tells stand right t → ComesTo right r t
@@ -119,6 +133,8 @@ module _ (files : Files) (words : List (List ℕ)) (t : Telling) where
   clear-told _ r (cleared names file asked told) asks = cleared-told r names file asked told asks
   clear-told _ r (replayed names edits file asked told) asks = absurd (neither words (codes "replay") asked.rows refl refl asked.enters (entered files words r asks))
   clear-told _ r (verified names edits certificate asked told) asks = absurd (neither words (codes "verify") asked.rows refl refl asked.enters (entered files words r asks))
+  clear-told _ r (entitled names held asked told) asks = absurd (neither words (codes "rights") asked.rows refl refl asked.enters (entered files words r asks))
+  clear-told _ r (migrated old out asked told) asks = absurd (neither words (codes "migrate") asked.rows refl refl asked.enters (entered files words r asks))
   clear-told _ r (checked names asked told) asks = absurd (neither words (codes "check") asked.rows refl refl asked.enters (entered files words r asks))
   clear-told _ r (made buses seed asked told) asks = absurd (neither words (codes "make") asked.rows refl refl asked.enters (entered files words r asks))
 
@@ -127,6 +143,8 @@ module _ (files : Files) (words : List (List ℕ)) (t : Telling) where
   replay-told _ r (pooled case offers asked told) asks = absurd (no-other words (codes "pool") (codes "replay") asked.rows asks.asks.rows refl asked.enters asks.asks.enters)
   replay-told _ r (cleared names file asked told) asks = absurd (no-other words (codes "clear") (codes "replay") asked.rows asks.asks.rows refl asked.enters asks.asks.enters)
   replay-told _ r (verified names edits certificate asked told) asks = absurd (no-other words (codes "verify") (codes "replay") asked.rows asks.asks.rows refl asked.enters asks.asks.enters)
+  replay-told _ r (entitled names held asked told) asks = absurd (no-other words (codes "rights") (codes "replay") asked.rows asks.asks.rows refl asked.enters asks.asks.enters)
+  replay-told _ r (migrated old out asked told) asks = absurd (no-other words (codes "migrate") (codes "replay") asked.rows asks.asks.rows refl asked.enters asks.asks.enters)
   replay-told _ r (checked names asked told) asks = absurd (no-other words (codes "check") (codes "replay") asked.rows asks.asks.rows refl asked.enters asks.asks.enters)
   replay-told _ r (made buses seed asked told) asks = absurd (no-other words (codes "make") (codes "replay") asked.rows asks.asks.rows refl asked.enters asks.asks.enters)
   replay-told _ r (replayed names edits file asked told) asks =
@@ -140,6 +158,8 @@ module _ (files : Files) (words : List (List ℕ)) (t : Telling) where
   verify-told _ r (pooled case offers asked told) asks = absurd (no-other words (codes "pool") (codes "verify") asked.rows asks.asks.rows refl asked.enters asks.asks.enters)
   verify-told _ r (cleared names file asked told) asks = absurd (no-other words (codes "clear") (codes "verify") asked.rows asks.asks.rows refl asked.enters asks.asks.enters)
   verify-told _ r (replayed names edits file asked told) asks = absurd (no-other words (codes "replay") (codes "verify") asked.rows asks.asks.rows refl asked.enters asks.asks.enters)
+  verify-told _ r (entitled names held asked told) asks = absurd (no-other words (codes "rights") (codes "verify") asked.rows asks.asks.rows refl asked.enters asks.asks.enters)
+  verify-told _ r (migrated old out asked told) asks = absurd (no-other words (codes "migrate") (codes "verify") asked.rows asks.asks.rows refl asked.enters asks.asks.enters)
   verify-told _ r (checked names asked told) asks = absurd (no-other words (codes "check") (codes "verify") asked.rows asks.asks.rows refl asked.enters asks.asks.enters)
   verify-told _ r (made buses seed asked told) asks = absurd (no-other words (codes "make") (codes "verify") asked.rows asks.asks.rows refl asked.enters asks.asks.enters)
   verify-told _ r (verified names edits certificate asked told) asks =
@@ -149,6 +169,34 @@ module _ (files : Files) (words : List (List ℕ)) (t : Telling) where
       (subst (λ (x : Option (List ℕ)). AreVerifyFiles files names x asks.certificate r) same.1
       (subst (λ (x : MarketNames). AreVerifyFiles files x asks.edits asks.certificate r) same.0 asks.stand)) in
       told-of (AreVerifyFiles files names edits certificate) TellsVerdict r t (verify-files-once files names edits certificate) here told
+
+  pub rights-told : (w : List (List ℕ × List ℕ)) (r : Result MarketRights Refusal) → AnswersTo (Some files) words t w → AsksForRights files words r → ComesTo TellsRights r t
+  rights-told _ r (refused nothing usage) asks = absurd (not-refused words _ asks.asks.rows nothing asks.asks.enters)
+  rights-told _ r (pooled case offers asked told) asks = absurd (no-other words (codes "pool") (codes "rights") asked.rows asks.asks.rows refl asked.enters asks.asks.enters)
+  rights-told _ r (cleared names file asked told) asks = absurd (no-other words (codes "clear") (codes "rights") asked.rows asks.asks.rows refl asked.enters asks.asks.enters)
+  rights-told _ r (replayed names edits file asked told) asks = absurd (no-other words (codes "replay") (codes "rights") asked.rows asks.asks.rows refl asked.enters asks.asks.enters)
+  rights-told _ r (verified names edits certificate asked told) asks = absurd (no-other words (codes "verify") (codes "rights") asked.rows asks.asks.rows refl asked.enters asks.asks.enters)
+  rights-told _ r (migrated old out asked told) asks = absurd (no-other words (codes "migrate") (codes "rights") asked.rows asks.asks.rows refl asked.enters asks.asks.enters)
+  rights-told _ r (checked names asked told) asks = absurd (no-other words (codes "check") (codes "rights") asked.rows asks.asks.rows refl asked.enters asks.asks.enters)
+  rights-told _ r (made buses seed asked told) asks = absurd (no-other words (codes "make") (codes "rights") asked.rows asks.asks.rows refl asked.enters asks.asks.enters)
+  rights-told _ r (entitled names held asked told) asks =
+      let same = rights-once words asks.names names asks.rights held asks.asks asked in
+      let here : AreRightsFiles files names held r =
+      subst (λ (x : List ℕ). AreRightsFiles files names x r) same.1 (subst (λ (x : MarketNames). AreRightsFiles files x asks.rights r) same.0 asks.stand) in
+      told-of (AreRightsFiles files names held) TellsRights r t (rights-files-once files names held) here told
+
+  pub migrate-told : (w : List (List ℕ × List ℕ)) (r : Result (Cert Fraction) Refusal) → AnswersTo (Some files) words t w → AsksToMigrate files words r → ComesTo TellsMigration r t
+  migrate-told _ r (refused nothing usage) asks = absurd (not-refused words _ asks.asks.rows nothing asks.asks.enters)
+  migrate-told _ r (pooled case offers asked told) asks = absurd (no-other words (codes "pool") (codes "migrate") asked.rows asks.asks.rows refl asked.enters asks.asks.enters)
+  migrate-told _ r (cleared names file asked told) asks = absurd (no-other words (codes "clear") (codes "migrate") asked.rows asks.asks.rows refl asked.enters asks.asks.enters)
+  migrate-told _ r (replayed names edits file asked told) asks = absurd (no-other words (codes "replay") (codes "migrate") asked.rows asks.asks.rows refl asked.enters asks.asks.enters)
+  migrate-told _ r (verified names edits certificate asked told) asks = absurd (no-other words (codes "verify") (codes "migrate") asked.rows asks.asks.rows refl asked.enters asks.asks.enters)
+  migrate-told _ r (entitled names held asked told) asks = absurd (no-other words (codes "rights") (codes "migrate") asked.rows asks.asks.rows refl asked.enters asks.asks.enters)
+  migrate-told _ r (checked names asked told) asks = absurd (no-other words (codes "check") (codes "migrate") asked.rows asks.asks.rows refl asked.enters asks.asks.enters)
+  migrate-told _ r (made buses seed asked told) asks = absurd (no-other words (codes "make") (codes "migrate") asked.rows asks.asks.rows refl asked.enters asks.asks.enters)
+  migrate-told _ r (migrated old out asked told) asks =
+      let here : IsMigratedFile files old r = subst (λ (x : List ℕ). IsMigratedFile files x r) (migrates-once words asks.certificate old asks.out out asks.asks asked).0 asks.stand in
+      told-of (IsMigratedFile files old) TellsMigration r t (migrated-file-once files old) here told
 
   pub check-told : (w : List (List ℕ × List ℕ)) (r : Result Inputs Refusal) → AnswersTo (Some files) words t w → AsksToCheck files words r → ComesTo TellsCheck r t
   check-told _ r (refused nothing usage) asks = absurd (not-refused words _ asks.asks.rows nothing asks.asks.enters)
@@ -172,6 +220,8 @@ module _ (files : Option Files) (words : List (List ℕ)) (t : Telling) (buses s
   make-told _ (cleared names file asked told) = other-made (codes "clear") asked.rows refl asked.enters
   make-told _ (replayed names edits file asked told) = other-made (codes "replay") asked.rows refl asked.enters
   make-told _ (verified names edits certificate asked told) = other-made (codes "verify") asked.rows refl asked.enters
+  make-told _ (entitled names held asked told) = other-made (codes "rights") asked.rows refl asked.enters
+  make-told _ (migrated old out asked told) = other-made (codes "migrate") asked.rows refl asked.enters
   make-told _ (checked names asked told) = other-made (codes "check") asked.rows refl asked.enters
   make-told _ (made n s asked told) =
       let same = makes-once words n buses s seed asked asks in

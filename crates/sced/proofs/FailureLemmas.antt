@@ -10,19 +10,19 @@ use Rattle.market_inputs.specs.declared.checking.Inputs.{Inputs}
 use Rattle.market_tables.specs.Tables.{GridTexts, MarketTexts}
 use Rattle.record_reading.specs.Records.{Record}
 use Rattle.refusal_text.specs.declared.refusals.Refusal.{Refusal}
-use Rattle.command_words.specs.Words.{AsksCheck, AsksClear, AsksPool, AsksReplay, AsksVerify, CheckNames, IsCheckFile, IsMarketFile, IsPoolFile, IsReplayFile, IsVerifyFile, MarketNames, NamesFile, NamesToWrite}
-use Rattle.command_words.proofs.WordsLemmas.{asks-once, checks-once, clears-once, replays-once, verifies-once}
-use Rattle.command_answers.specs.Inputs.{MarketCertificate, MarketSteps}
+use Rattle.command_words.specs.Words.{AsksCheck, AsksClear, AsksMigrate, AsksPool, AsksReplay, AsksRights, AsksVerify, CheckNames, GridNames, IsCheckFile, IsGridFile, IsMarketFile, IsPoolFile, IsReplayFile, IsRightsFile, IsVerifyFile, MarketNames, NamesFile, NamesToWrite}
+use Rattle.command_words.proofs.WordsLemmas.{asks-once, checks-once, clears-once, migrates-once, replays-once, rights-once, verifies-once}
+use Rattle.command_answers.specs.Inputs.{MarketCertificate, MarketRights, MarketSteps}
 use Rattle.command_answers.specs.Tellings.{Telling}
 use Rattle.command_answers.specs.declared.status.Status.{Status}
 use Rattle.command_answers.specs.declared.status.Status.TheVariants as status
 use Rattle.command_files.specs.OnlyReads.{IsSilent}
 use Rattle.command_files.specs.Reading.{HaveGridTexts, HaveTexts, IsTable, source_of}
-use Rattle.command_files.specs.Standing.{AreCheckFiles, AreClearFiles, ArePoolFiles, AreReplayFiles, AreVerifyFiles}
+use Rattle.command_files.specs.Standing.{AreCheckFiles, AreClearFiles, ArePoolFiles, AreReplayFiles, AreRightsFiles, AreVerifyFiles}
 use Rattle.sced.specs.Headline.{LawOfAnswered, LawOfCauses, LawOfCutShort, LawOfMissing}
 use Rattle.sced.specs.Runs.{Ends, IsTold, Outside}
 use Rattle.sced.specs.Runs as ending
-use Rattle.sced.specs.Told.{Answers, AnswersTo, checked, cleared, made, pooled, refused, replayed, verified}
+use Rattle.sced.specs.Told.{Answers, AnswersTo, checked, cleared, entitled, made, migrated, pooled, refused, replayed, verified}
 use Rattle.sced.proofs.AskedLemmas.{no-other, not-refused}
 
 pub silent-or : (s : Status) → IsSilent s ⊎ ¬ (IsSilent s)
@@ -127,7 +127,7 @@ module _ (files : Files) (name : List ℕ) where
   optional-there header (Some n) text same is = here-as n text (let one : n ≡ name = cc same in sym one) is
   optional-there header None text same is = cc same
 
-  grid-there : (names : CheckNames) (texts : GridTexts) → HaveGridTexts files names texts → IsCheckFile names name → There files name
+  grid-there : (names : GridNames) (texts : GridTexts) → HaveGridTexts files names texts → IsGridFile names name → There files name
   grid-there names texts have (inl same) = here-as names.case texts.case same have.case
   grid-there names texts have (inr (inl same)) = here-as names.ptdf texts.ptdf same have.ptdf
   grid-there names texts have (inr (inr (inl same))) = optional-there _ names.lodf texts.lodf same have.lodf
@@ -157,7 +157,11 @@ module _ (files : Files) (name : List ℕ) where
   verify-there names edits certificate h (inr (inr same)) = here-as certificate h.certificate same h.certificate_is
 
   check-there : (names : CheckNames) {told : Result Inputs Refusal} → AreCheckFiles files names told → IsCheckFile names name → There files name
-  check-there names h named = grid-there names h.texts h.have named
+  check-there names h named = grid-there names.tables h.texts h.have named
+
+  rights-there : (names : MarketNames) (rights : List ℕ) {told : Result MarketRights Refusal} → AreRightsFiles files names rights told → IsRightsFile names rights name → There files name
+  rights-there names rights h (inl market) = market-there names h.texts h.have market
+  rights-there names rights h (inr same) = here-as rights h.rights same h.rights_are
 
   module _ (words : List (List ℕ)) (t : Telling) where
     told-pool : (case' offers' : List ℕ) (w : List (List ℕ × List ℕ)) → AnswersTo (Some files) words t w → AsksPool words case' offers' → IsPoolFile case' offers' name → There files name
@@ -166,6 +170,8 @@ module _ (files : Files) (name : List ℕ) where
     told-pool case' offers' _ (cleared names file asked tells) asks named = absurd (no-other words (codes "clear") (codes "pool") asked.rows asks.rows refl asked.enters asks.enters)
     told-pool case' offers' _ (replayed names edits file asked tells) asks named = absurd (no-other words (codes "replay") (codes "pool") asked.rows asks.rows refl asked.enters asks.enters)
     told-pool case' offers' _ (verified names edits certificate asked tells) asks named = absurd (no-other words (codes "verify") (codes "pool") asked.rows asks.rows refl asked.enters asks.enters)
+    told-pool case' offers' _ (entitled names held asked tells) asks named = absurd (no-other words (codes "rights") (codes "pool") asked.rows asks.rows refl asked.enters asks.enters)
+    told-pool case' offers' _ (migrated old out asked tells) asks named = absurd (no-other words (codes "migrate") (codes "pool") asked.rows asks.rows refl asked.enters asks.enters)
     told-pool case' offers' _ (checked names asked tells) asks named = absurd (no-other words (codes "check") (codes "pool") asked.rows asks.rows refl asked.enters asks.enters)
     told-pool case' offers' _ (made buses seed asked makes) asks named = absurd (no-other words (codes "make") (codes "pool") asked.rows asks.rows refl asked.enters asks.enters)
 
@@ -175,6 +181,8 @@ module _ (files : Files) (name : List ℕ) where
     told-clear names' file' _ (cleared names file asked tells) asks named = let same = clears-once words names names' file file' asked asks in clear-there names tells.stands (subst (λ n. IsMarketFile n name) (sym same.0) named)
     told-clear names' file' _ (replayed names edits file asked tells) asks named = absurd (no-other words (codes "replay") (codes "clear") asked.rows asks.rows refl asked.enters asks.enters)
     told-clear names' file' _ (verified names edits certificate asked tells) asks named = absurd (no-other words (codes "verify") (codes "clear") asked.rows asks.rows refl asked.enters asks.enters)
+    told-clear names' file' _ (entitled names held asked tells) asks named = absurd (no-other words (codes "rights") (codes "clear") asked.rows asks.rows refl asked.enters asks.enters)
+    told-clear names' file' _ (migrated old out asked tells) asks named = absurd (no-other words (codes "migrate") (codes "clear") asked.rows asks.rows refl asked.enters asks.enters)
     told-clear names' file' _ (checked names asked tells) asks named = absurd (no-other words (codes "check") (codes "clear") asked.rows asks.rows refl asked.enters asks.enters)
     told-clear names' file' _ (made buses seed asked makes) asks named = absurd (no-other words (codes "make") (codes "clear") asked.rows asks.rows refl asked.enters asks.enters)
 
@@ -184,6 +192,8 @@ module _ (files : Files) (name : List ℕ) where
     told-replay names' edits' file' _ (cleared names file asked tells) asks named = absurd (no-other words (codes "clear") (codes "replay") asked.rows asks.rows refl asked.enters asks.enters)
     told-replay names' edits' file' _ (replayed names edits file asked tells) asks named = let same = replays-once words names names' edits edits' file file' asked asks in replay-there names edits tells.stands (subst₂ (λ n e. IsReplayFile n e name) (sym same.0) (sym same.1) named)
     told-replay names' edits' file' _ (verified names edits certificate asked tells) asks named = absurd (no-other words (codes "verify") (codes "replay") asked.rows asks.rows refl asked.enters asks.enters)
+    told-replay names' edits' file' _ (entitled names held asked tells) asks named = absurd (no-other words (codes "rights") (codes "replay") asked.rows asks.rows refl asked.enters asks.enters)
+    told-replay names' edits' file' _ (migrated old out asked tells) asks named = absurd (no-other words (codes "migrate") (codes "replay") asked.rows asks.rows refl asked.enters asks.enters)
     told-replay names' edits' file' _ (checked names asked tells) asks named = absurd (no-other words (codes "check") (codes "replay") asked.rows asks.rows refl asked.enters asks.enters)
     told-replay names' edits' file' _ (made buses seed asked makes) asks named = absurd (no-other words (codes "make") (codes "replay") asked.rows asks.rows refl asked.enters asks.enters)
 
@@ -193,6 +203,8 @@ module _ (files : Files) (name : List ℕ) where
     told-verify names' edits' certificate' _ (cleared names file asked tells) asks named = absurd (no-other words (codes "clear") (codes "verify") asked.rows asks.rows refl asked.enters asks.enters)
     told-verify names' edits' certificate' _ (replayed names edits file asked tells) asks named = absurd (no-other words (codes "replay") (codes "verify") asked.rows asks.rows refl asked.enters asks.enters)
     told-verify names' edits' certificate' _ (verified names edits certificate asked tells) asks named = let same = verifies-once words names names' edits edits' certificate certificate' asked asks in verify-there names edits certificate tells.stands (subst (λ n. IsVerifyFile n edits certificate name) (sym same.0) (subst₂ (λ e c. IsVerifyFile names' e c name) (sym same.1) (sym same.2) named))
+    told-verify names' edits' certificate' _ (entitled names held asked tells) asks named = absurd (no-other words (codes "rights") (codes "verify") asked.rows asks.rows refl asked.enters asks.enters)
+    told-verify names' edits' certificate' _ (migrated old out asked tells) asks named = absurd (no-other words (codes "migrate") (codes "verify") asked.rows asks.rows refl asked.enters asks.enters)
     told-verify names' edits' certificate' _ (checked names asked tells) asks named = absurd (no-other words (codes "check") (codes "verify") asked.rows asks.rows refl asked.enters asks.enters)
     told-verify names' edits' certificate' _ (made buses seed asked makes) asks named = absurd (no-other words (codes "make") (codes "verify") asked.rows asks.rows refl asked.enters asks.enters)
 
@@ -205,12 +217,36 @@ module _ (files : Files) (name : List ℕ) where
     told-check names' _ (checked names asked tells) asks named = check-there names tells.stands (subst (λ n. IsCheckFile n name) (sym (checks-once words names names' asked asks)) named)
     told-check names' _ (made buses seed asked makes) asks named = absurd (no-other words (codes "make") (codes "check") asked.rows asks.rows refl asked.enters asks.enters)
 
+    told-rights : (names' : MarketNames) (rights' : List ℕ) (w : List (List ℕ × List ℕ)) → AnswersTo (Some files) words t w → AsksRights words names' rights' → IsRightsFile names' rights' name → There files name
+    told-rights names' rights' _ (refused nothing usage) asks named = absurd (not-refused words _ asks.rows nothing asks.enters)
+    told-rights names' rights' _ (pooled case offers asked tells) asks named = absurd (no-other words (codes "pool") (codes "rights") asked.rows asks.rows refl asked.enters asks.enters)
+    told-rights names' rights' _ (cleared names file asked tells) asks named = absurd (no-other words (codes "clear") (codes "rights") asked.rows asks.rows refl asked.enters asks.enters)
+    told-rights names' rights' _ (replayed names edits file asked tells) asks named = absurd (no-other words (codes "replay") (codes "rights") asked.rows asks.rows refl asked.enters asks.enters)
+    told-rights names' rights' _ (verified names edits certificate asked tells) asks named = absurd (no-other words (codes "verify") (codes "rights") asked.rows asks.rows refl asked.enters asks.enters)
+    told-rights names' rights' _ (entitled names held asked tells) asks named = let same = rights-once words names names' held rights' asked asks in rights-there names held tells.stands (subst₂ (λ n r. IsRightsFile n r name) (sym same.0) (sym same.1) named)
+    told-rights names' rights' _ (migrated old out asked tells) asks named = absurd (no-other words (codes "migrate") (codes "rights") asked.rows asks.rows refl asked.enters asks.enters)
+    told-rights names' rights' _ (checked names asked tells) asks named = absurd (no-other words (codes "check") (codes "rights") asked.rows asks.rows refl asked.enters asks.enters)
+    told-rights names' rights' _ (made buses seed asked makes) asks named = absurd (no-other words (codes "make") (codes "rights") asked.rows asks.rows refl asked.enters asks.enters)
+
+    told-migrate : (certificate' out' : List ℕ) (w : List (List ℕ × List ℕ)) → AnswersTo (Some files) words t w → AsksMigrate words certificate' out' → name ≡ certificate' → There files name
+    told-migrate certificate' out' _ (refused nothing usage) asks named = absurd (not-refused words _ asks.rows nothing asks.enters)
+    told-migrate certificate' out' _ (pooled case offers asked tells) asks named = absurd (no-other words (codes "pool") (codes "migrate") asked.rows asks.rows refl asked.enters asks.enters)
+    told-migrate certificate' out' _ (cleared names file asked tells) asks named = absurd (no-other words (codes "clear") (codes "migrate") asked.rows asks.rows refl asked.enters asks.enters)
+    told-migrate certificate' out' _ (replayed names edits file asked tells) asks named = absurd (no-other words (codes "replay") (codes "migrate") asked.rows asks.rows refl asked.enters asks.enters)
+    told-migrate certificate' out' _ (verified names edits certificate asked tells) asks named = absurd (no-other words (codes "verify") (codes "migrate") asked.rows asks.rows refl asked.enters asks.enters)
+    told-migrate certificate' out' _ (entitled names held asked tells) asks named = absurd (no-other words (codes "rights") (codes "migrate") asked.rows asks.rows refl asked.enters asks.enters)
+    told-migrate certificate' out' _ (migrated old out asked tells) asks named = here-as old tells.stands.certificate (named ∙ sym (migrates-once words old certificate' out out' asked asks).0) tells.stands.certificate_is
+    told-migrate certificate' out' _ (checked names asked tells) asks named = absurd (no-other words (codes "check") (codes "migrate") asked.rows asks.rows refl asked.enters asks.enters)
+    told-migrate certificate' out' _ (made buses seed asked makes) asks named = absurd (no-other words (codes "make") (codes "migrate") asked.rows asks.rows refl asked.enters asks.enters)
+
     named-there : (w : List (List ℕ × List ℕ)) → AnswersTo (Some files) words t w → NamesFile words name → There files name
     named-there w a (inl (case, offers, asks, named)) = told-pool case offers w a asks named
     named-there w a (inr (inl (names, file, asks, named))) = told-clear names file w a asks named
     named-there w a (inr (inr (inl (names, edits, file, asks, named)))) = told-replay names edits file w a asks named
     named-there w a (inr (inr (inr (inl (names, edits, certificate, asks, named))))) = told-verify names edits certificate w a asks named
-    named-there w a (inr (inr (inr (inr (names, asks, named))))) = told-check names w a asks named
+    named-there w a (inr (inr (inr (inr (inl (names, asks, named)))))) = told-check names w a asks named
+    named-there w a (inr (inr (inr (inr (inr (inl (names, held, asks, named))))))) = told-rights names held w a asks named
+    named-there w a (inr (inr (inr (inr (inr (inr (old, out, asks, named))))))) = told-migrate old out w a asks named
 
 pub law_of_missing : LawOfMissing
 law_of_missing words before after s files name runs are named missing = elim (silent-or s) [

@@ -1,5 +1,5 @@
 -- The laws of every run.
-use Rattle.std.specs.Prelude.{◌≡◌, ◌≢◌, ◌⊎◌, ℕ, Bool, true, false, if◌then◌else◌, List, [], ◌∷◌, ◌++◌, Option, Some, None, Ok, Err, Result, codes, length, nat_lt, option_and_then, option_map}
+use Rattle.std.specs.Prelude.{◌≡◌, ◌≢◌, ◌⊎◌, ℕ, Bool, true, false, if◌then◌else◌, List, [], ◌∷◌, ◌++◌, Option, Some, None, Ok, Err, Result, codes, length, nat_lt, option_and_then, option_map, unwrap_or}
 use Rattle.std.proofs.Common.{inl, inr, refl, sym, subst, ap, ◌∙◌}
 use Rattle.fraction_theory.specs.Fraction.{Fraction}
 use Rattle.exact_fraction.specs.declared.Passed.{Passed}
@@ -8,6 +8,8 @@ use Rattle.market_model.specs.declared.answered.Answer.{Answer}
 use Rattle.market_model.specs.declared.answered.Outcome.{Outcome}
 use Rattle.market_model.specs.declared.answered.Outcome.TheVariants as outcome
 use Rattle.market_model.specs.declared.participants.Parts.{Parts}
+use Rattle.market_model.specs.declared.participants.TransmissionRight.{TransmissionRight}
+use Rattle.rights_test.specs.declared.right_parts.Fit.TheVariants as fit
 use Rattle.market_model.specs.Market.{IsMarket}
 use Rattle.market_model.specs.RightAnswers.{IsRight, dispatch_in}
 use Rattle.market_model.specs.Settlement.{surplus}
@@ -15,6 +17,7 @@ use Rattle.market_model.proofs.FarkasLaw.{law_of_infeasibility}
 use Rattle.market_model.proofs.Optimum.{law_of_the_optimum, law_of_the_surplus}
 use Rattle.market_system.specs.WorkingPairs.{IsRangeOf}
 use Rattle.market_system.proofs.Completeness.{law_of_completeness, law_of_the_numbers}
+use Rattle.market_data.specs.declared.scales.FactorPlaces.{FactorPlaces}
 use Rattle.net_case.specs.declared.live_parts.PostRating.{PostRating}
 use Rattle.case_maker.specs.Rings.{ring_of}
 use Rattle.record_reading.specs.Steps.{or_as}
@@ -41,17 +44,20 @@ use Rattle.market_inputs.specs.Files.{most_file, sized}
 use Rattle.market_inputs.specs.Replaying.{certificate_in}
 use Rattle.market_inputs.specs.Steps.{Is, Onward, Then}
 use Rattle.market_inputs.specs.declared.checking.Inputs.{Inputs}
-use Rattle.command_words.specs.Words.{AsksClear, AsksReplay, MarketNames, NamesToWrite}
+use Rattle.command_words.specs.Words.{AsksClear, AsksMigrate, AsksReplay, MarketNames, NamesToWrite}
 use Rattle.command_words.proofs.WordsLemmas.{clears-once, replays-once}
 use Rattle.command_answers.specs.Clearing.{ArePassedWithin, TellsClear, most_size, status_of}
 use Rattle.residual_text.specs.ResidualLines.{residuals_text}
 use Rattle.command_answers.specs.Checking.{AreResiduals, TellsCheck, are_within, check_status_of}
 use Rattle.command_answers.specs.declared.checking.Residuals.{Residuals}
 use Rattle.market_tables.specs.Tables.{MarketTexts}
-use Rattle.command_answers.specs.Inputs.{IsCertified, MarketCertificate, MarketSteps}
+use Rattle.command_answers.specs.Inputs.{IsCertified, MarketCertificate, MarketRights, MarketSteps}
 use Rattle.command_answers.specs.Making.{MakesTo}
 use Rattle.command_answers.specs.Making as making
+use Rattle.command_answers.specs.Migrating.{TellsMigration}
 use Rattle.command_answers.specs.Replaying.{TellsReplay, last_clear}
+use Rattle.command_answers.specs.Rights.{TellsFit, TellsOutcome, TellsRights, fitted}
+use Rattle.command_answers.specs.Rights as answers
 use Rattle.command_answers.specs.Tellings.{ComesTo, Telling, Tells, certified, refusal_of, uncertified}
 use Rattle.command_answers.specs.declared.told.Outputs.{Outputs}
 use Rattle.command_answers.specs.Verdicts.{verdict_line}
@@ -59,19 +65,19 @@ use Rattle.command_answers.specs.Verifying.{TellsVerdict, VerifiesTo, judged, pa
 use Rattle.command_answers.specs.declared.status.Status.{Status}
 use Rattle.command_answers.specs.declared.status.Status.TheVariants as status
 use Rattle.sced.specs.Asked.{AsksSteps, AsksVerdict, as_clear, as_pool}
-use Rattle.sced.specs.Headline.{HasCertificate, IsAsked, HasGreatestWelfare, IsFirstFault, IsMade, IsPriced, IsReplayed, IsReported, IsVerdict, LawOfAsked, LawOfCertificate, LawOfCheck, LawOfCleared, LawOfComplete, LawOfFaults, LawOfInfeasible, LawOfLastCertificate, LawOfMake, LawOfOutside, LawOfRange, LawOfReplay, LawOfRoundTrip, LawOfVerify, RefusesEdit, cleared_ring, for_check, for_clear, for_nothing, for_ring, for_steps, for_verdict, no, passes, range_ring, to_check, to_clear, to_replay, to_verify, with_fault, yes}
+use Rattle.sced.specs.Headline.{HasCertificate, IsAsked, HasGreatestWelfare, IsFirstFault, IsMade, IsPriced, IsReplayed, IsReported, IsVerdict, LawOfAsked, LawOfCertificate, LawOfCheck, LawOfCleared, LawOfComplete, LawOfFaults, LawOfInfeasible, LawOfLastCertificate, LawOfMake, LawOfOutside, LawOfRange, LawOfReplay, LawOfRoundTrip, LawOfVerify, RefusesEdit, cleared_ring, for_check, for_clear, for_holders, for_migration, for_nothing, for_rights, for_ring, for_steps, for_verdict, no, passes, range_ring, to_check, to_clear, to_migrate, to_replay, to_verify, with_fault, yes}
 use Rattle.sced.specs.Runs.{Keeps, Outside}
 use Rattle.sced.specs.Runs as ending
-use Rattle.sced.specs.Told.{Answers, AnswersTo, checked, cleared, made, named_bytes, named_outputs, pooled, refused, replayed, verified}
-use Rattle.command_files.specs.Standing.{AreCheckFiles, AreClearFiles, ArePoolFiles, AreReplayFiles, AreVerifyFiles}
+use Rattle.sced.specs.Told.{Answers, AnswersTo, checked, cleared, entitled, made, migrated, named_bytes, named_outputs, pooled, refused, replayed, verified}
+use Rattle.command_files.specs.Standing.{AreCheckFiles, AreClearFiles, ArePoolFiles, AreReplayFiles, AreRightsFiles, AreVerifyFiles, IsMigratedFile}
 use Rattle.command_answers.specs.Laws.{Certifies, CertifiesLast, IsYesOrRange}
 use Rattle.command_answers.proofs.RoundTripLemmas.{law_of_the_replay, law_of_the_round_trip, law_of_yes}
-use Rattle.sced.proofs.AskedLemmas.{check-told, clear-told, make-told, no-other, not-refused, replay-told, verify-told}
+use Rattle.sced.proofs.AskedLemmas.{check-told, clear-told, make-told, migrate-told, no-other, not-refused, replay-told, rights-told, verify-told}
 use Rattle.sced.proofs.FailureLemmas.{silent-or}
 use Rattle.sced.proofs.RunLemmas.{IsPrinted, cleared-at, edit-at, printed, refused-at, refused-status, reported}
 
 -- ---- cleared and infeasible
-right-best : (m : Parts) (a : Answer Fraction) → IsMarket m → IsRight m a → HasGreatestWelfare m (dispatch_in a) × IsPriced m a
+pub right-best : (m : Parts) (a : Answer Fraction) → IsMarket m → IsRight m a → HasGreatestWelfare m (dispatch_in a) × IsPriced m a
 unfolding surplus
 right-best m a market right = (
   record {
@@ -172,6 +178,12 @@ asked-told words files s t _ ends (verified names edits certificate asked tells)
     asked-of words files s t (AreVerifyFiles files names edits certificate) TellsVerdict
     (λ v stands. for_verdict s v.market v.certificate (record { names = names; edits = edits; certificate = certificate; asks = asked; stand = stands }))
     (λ r stands. to_verify (record { names = names; edits = edits; certificate = certificate; asks = asked; stand = stands })) tells
+asked-told words files s t _ ends (entitled names held asked tells) =
+    asked-of words files s t (AreRightsFiles files names held) TellsRights (λ r stands. for_holders s r.market r.rights (record { names = names; rights = held; asks = asked; stand = stands }))
+    (λ r stands. for_rights (record { names = names; rights = held; asks = asked; stand = stands })) tells
+asked-told words files s t _ ends (migrated old out asked tells) =
+    asked-of words files s t (IsMigratedFile files old) TellsMigration (λ c stands. for_migration s c (record { certificate = old; out = out; asks = asked; stand = stands }))
+    (λ r stands. to_migrate (record { certificate = old; out = out; asks = asked; stand = stands })) tells
 asked-told words files s t _ ends (checked names asked tells) =
     asked-of words files s t (AreCheckFiles files names) TellsCheck (λ inputs stands. for_check s inputs (record { names = names; asks = asked; stand = stands }))
     (λ r stands. to_check (record { names = names; asks = asked; stand = stands })) tells
@@ -192,7 +204,7 @@ sized-read : (long : Bool) (too_long : Refusal) (bytes : List ℕ) (c : Cert Fra
 sized-read true too_long bytes c is = cc is
 sized-read false too_long bytes c is = seen-certificate (cert_read bytes) c is
 
-read-in : (too_long : Refusal) (bytes : List ℕ) (c : Cert Fraction) → certificate_in (sized too_long bytes) ≡ Ok c → cert_read bytes ≡ Ok c
+pub read-in : (too_long : Refusal) (bytes : List ℕ) (c : Cert Fraction) → certificate_in (sized too_long bytes) ≡ Ok c → cert_read bytes ≡ Ok c
 unfolding sized
 read-in too_long bytes c is = sized-read (nat_lt most_file (length bytes)) too_long bytes c is
 
@@ -200,8 +212,8 @@ abbrev certificate_or : Cert Fraction → Result MarketCertificate Refusal → C
 certificate_or c (Ok stood) = stood.certificate
 certificate_or c (Err r) = c
 
-certified-read : (rating : PostRating) (t : MarketTexts) (edits certificate : List ℕ) (m : Parts) (c : Cert Fraction) → IsCertified rating t edits certificate (Ok (record { market = m; certificate = c })) → cert_read certificate ≡ Ok c
-certified-read rating t edits certificate m c h = first h.made h.rest
+certified-read : (rating : PostRating) (places : FactorPlaces) (t : MarketTexts) (edits certificate : List ℕ) (m : Parts) (c : Cert Fraction) → IsCertified rating places t edits certificate (Ok (record { market = m; certificate = c })) → cert_read certificate ≡ Ok c
+certified-read rating places t edits certificate m c h = first h.made h.rest
   where
     second : (stepped : MarketSteps) (made : Result (Cert Fraction) Refusal) → certificate_in (sized (refusal.TooLong input.Certificate) certificate) ≡ made
         → Onward {B = MarketCertificate} made (λ read. Is (Ok (record { market = edited_by stepped.market stepped.steps; certificate = read }))) (Ok (record { market = m; certificate = c })) → cert_read certificate ≡ Ok c
@@ -214,7 +226,7 @@ certified-read rating t edits certificate m c h = first h.made h.rest
     first (Err r) rest = cc rest
 
 asked-read : (files : Files) (words : List (List ℕ)) (m : Parts) (c : Cert Fraction) (asks : AsksVerdict files words m c) → cert_read asks.stand.certificate ≡ Ok c
-asked-read files words m c asks = certified-read asks.names.rating asks.stand.texts asks.stand.edits asks.stand.certificate m c asks.stand.certified
+asked-read files words m c asks = certified-read asks.names.rating asks.names.places asks.stand.texts asks.stand.edits asks.stand.certificate m c asks.stand.certified
 
 verdict-line-yes : verdict_line None ≡ codes "yes\n"
 unfolding verdict_line
@@ -250,19 +262,21 @@ clear-written files words t _ names file asks (refused nothing usage) = absurd (
 clear-written files words t _ names file asks (pooled case offers asked told) = absurd (no-other words (codes "pool") (codes "clear") asked.rows asks.rows refl asked.enters asks.enters)
 clear-written files words t _ names file asks (replayed names' edits file' asked told) = absurd (no-other words (codes "replay") (codes "clear") asked.rows asks.rows refl asked.enters asks.enters)
 clear-written files words t _ names file asks (verified names' edits certificate asked told) = absurd (no-other words (codes "verify") (codes "clear") asked.rows asks.rows refl asked.enters asks.enters)
+clear-written files words t _ names file asks (entitled names' held asked told) = absurd (no-other words (codes "rights") (codes "clear") asked.rows asks.rows refl asked.enters asks.enters)
+clear-written files words t _ names file asks (migrated old out asked told) = absurd (no-other words (codes "migrate") (codes "clear") asked.rows asks.rows refl asked.enters asks.enters)
 clear-written files words t _ names file asks (checked names' asked told) = absurd (no-other words (codes "check") (codes "clear") asked.rows asks.rows refl asked.enters asks.enters)
 clear-written files words t _ names file asks (made buses seed asked told) = absurd (no-other words (codes "make") (codes "clear") asked.rows asks.rows refl asked.enters asks.enters)
 
-has-certificate : (o : Outcome Fraction) → (status_of o ≡ status.Done) ⊎ (status_of o ≡ status.Infeasible) → (bytes : List ℕ) × (certificate_of o ≡ Some bytes)
-has-certificate (outcome.Cleared a) is = (_, refl)
-has-certificate (outcome.Infeasible f) is = (_, refl)
-has-certificate (outcome.Range p) (inl is) = cc is
-has-certificate (outcome.Range p) (inr is) = cc is
+has-certificate : (places : FactorPlaces) (o : Outcome Fraction) → (status_of o ≡ status.Done) ⊎ (status_of o ≡ status.Infeasible) → (bytes : List ℕ) × (certificate_of places o ≡ Some bytes)
+has-certificate places (outcome.Cleared a) is = (_, refl)
+has-certificate places (outcome.Infeasible f) is = (_, refl)
+has-certificate places (outcome.Range p) (inl is) = cc is
+has-certificate places (outcome.Range p) (inr is) = cc is
 
 told-certificate : (m : Parts) (t : Telling) (s : Status) → t.status ≡ s → (s ≡ status.Done) ⊎ (s ≡ status.Infeasible) → TellsClear m t → (bytes : List ℕ) × (t.outputs.certificate ≡ Some bytes)
 told-certificate m t s ends which (market, clears) =
     let is = sym clears.status_is ∙ ends in
-    let some = has-certificate clears.outcome (subst (λ (x : Status). (x ≡ status.Done) ⊎ (x ≡ status.Infeasible)) (sym is) which) in
+    let some = has-certificate m.places clears.outcome (subst (λ (x : Status). (x ≡ status.Done) ⊎ (x ≡ status.Infeasible)) (sym is) which) in
     (some.0, ap (λ (o : Outputs (List ℕ)). o.certificate) clears.certificate_is ∙ some.1)
 
 -- a file has this text, or what it had where there is none
@@ -285,7 +299,7 @@ yes-or-range t answer s words ends (inr is) = inr (sym ends ∙ is)
 
 -- ---- certificate
 -- where a file is named for the certificate, it has the one that there is, or what it had
-kept-as : (files later : Files) (file : List ℕ) (certificate : Option (List ℕ)) (w : List (List ℕ × List ℕ)) (after : Option Files) → w ≡ named_bytes (Some file) certificate [] → after ≡ Some later
+pub kept-as : (files later : Files) (file : List ℕ) (certificate : Option (List ℕ)) (w : List (List ℕ × List ℕ)) (after : Option Files) → w ≡ named_bytes (Some file) certificate [] → after ≡ Some later
     → Keeps ⊥ w (Some files) after → HasText certificate (files file) (later file)
 kept-as files later file certificate w after is now kept = by certificate (subst (λ a. Keeps ⊥ (named_bytes (Some file) certificate []) (Some files) a) now (subst (λ x. Keeps ⊥ x (Some files) after) is kept))
   where
@@ -314,11 +328,11 @@ law_of_certificate words files later text s names file m o clear now asked marke
     let p = printed words files text s clear in
     let tells = clear-told files words p.telling p.written (Ok m) p.answers market in
     let same : tells.1.outcome ≡ o = reports_apart m tells.1.outcome o (outcome_fits _ m tells.1.outcome tells.1.right) fits (sym tells.1.text_is ∙ p.text_is ∙ is) in
-    let put : p.telling.outputs.certificate ≡ certificate_of o = ap (λ (x : Outputs (List ℕ)). x.certificate) tells.1.certificate_is ∙ ap certificate_of same in
+    let put : p.telling.outputs.certificate ≡ certificate_of m.places o = ap (λ (x : Outputs (List ℕ)). x.certificate) tells.1.certificate_is ∙ ap (certificate_of m.places) same in
     let written = clear-written files words p.telling p.written names (Some file) asked p.answers ∙ ap (λ c. named_bytes (Some file) c []) put in
-    certificate-kept (Certifies m) (cert_of_outcome o) (files file) (later file) (kept-as files later file (certificate_of o) p.written clear.after.files written now p.kept)
+    certificate-kept (Certifies m) (cert_of_outcome m.places o) (files file) (later file) (kept-as files later file (certificate_of m.places o) p.written clear.after.files written now p.kept)
     (λ c some. (let trip = law_of_the_round_trip m p.telling (cert_text c) tells (put ∙ ap (option_map cert_text) some) in
-    let one : trip.0 ≡ c = one-certificate (cert_of_outcome o) trip.0 c (ap cert_of_outcome (sym same) ∙ trip.1) some in
+    let one : trip.0 ≡ c = one-certificate (cert_of_outcome m.places o) trip.0 c (ap (cert_of_outcome m.places) (sym same) ∙ trip.1) some in
     subst (Certifies m (cert_text c)) one trip.2))
 
 -- what is written of a replay is its certificate, where a file is named for it
@@ -329,13 +343,15 @@ replay-written files words t _ names edits file asks (refused nothing usage) = a
 replay-written files words t _ names edits file asks (pooled case offers asked told) = absurd (no-other words (codes "pool") (codes "replay") asked.rows asks.rows refl asked.enters asks.enters)
 replay-written files words t _ names edits file asks (cleared names' file' asked told) = absurd (no-other words (codes "clear") (codes "replay") asked.rows asks.rows refl asked.enters asks.enters)
 replay-written files words t _ names edits file asks (verified names' edits' certificate asked told) = absurd (no-other words (codes "verify") (codes "replay") asked.rows asks.rows refl asked.enters asks.enters)
+replay-written files words t _ names edits file asks (entitled names' held asked told) = absurd (no-other words (codes "rights") (codes "replay") asked.rows asks.rows refl asked.enters asks.enters)
+replay-written files words t _ names edits file asks (migrated old out asked told) = absurd (no-other words (codes "migrate") (codes "replay") asked.rows asks.rows refl asked.enters asks.enters)
 replay-written files words t _ names edits file asks (checked names' asked told) = absurd (no-other words (codes "check") (codes "replay") asked.rows asks.rows refl asked.enters asks.enters)
 replay-written files words t _ names edits file asks (made buses seed asked told) = absurd (no-other words (codes "make") (codes "replay") asked.rows asks.rows refl asked.enters asks.enters)
 
 -- the text of the certificate of an outcome that there may be
-text-of-last : (o : Option (Outcome Fraction)) → option_and_then certificate_of o ≡ option_map cert_text (option_and_then cert_of_outcome o)
-text-of-last None = refl
-text-of-last (Some o) = refl
+text-of-last : (places : FactorPlaces) (o : Option (Outcome Fraction)) → option_and_then (certificate_of places) o ≡ option_map cert_text (option_and_then (cert_of_outcome places) o)
+text-of-last places None = refl
+text-of-last places (Some o) = refl
 
 pub law_of_last_certificate : LawOfLastCertificate
 law_of_last_certificate words files later text s names edits file r outcomes replay now asked steps fits is =
@@ -344,13 +360,13 @@ law_of_last_certificate words files later text s names edits file r outcomes rep
     let same : tells.1.outcomes ≡ outcomes =
     replays_read_apart r.market r.steps tells.1.outcomes outcomes (replay_fits most_size r.market [] tells.1.taken r.steps tells.1.outcomes tells.1.right) fits (sym tells.1.text_is ∙ p.text_is ∙ is) in
     let last = last_clear None outcomes in
-    let put : p.telling.outputs.certificate ≡ option_map cert_text (option_and_then cert_of_outcome last) =
-    ap (λ (x : Outputs (List ℕ)). x.certificate) tells.1.certificate_is ∙ ap (λ os. option_and_then certificate_of (last_clear None os)) same ∙ text-of-last last in
+    let put : p.telling.outputs.certificate ≡ option_map cert_text (option_and_then (cert_of_outcome r.market.places) last) =
+    ap (λ (x : Outputs (List ℕ)). x.certificate) tells.1.certificate_is ∙ ap (λ os. option_and_then (certificate_of r.market.places) (last_clear None os)) same ∙ text-of-last r.market.places last in
     let written = replay-written files words p.telling p.written names edits (Some file) asked p.answers ∙ ap (λ c. named_bytes (Some file) c []) put in
-    certificate-kept (CertifiesLast r) (option_and_then cert_of_outcome last) (files file) (later file)
-    (kept-as files later file (option_map cert_text (option_and_then cert_of_outcome last)) p.written replay.after.files written now p.kept)
+    certificate-kept (CertifiesLast r) (option_and_then (cert_of_outcome r.market.places) last) (files file) (later file)
+    (kept-as files later file (option_map cert_text (option_and_then (cert_of_outcome r.market.places) last)) p.written replay.after.files written now p.kept)
     (λ c some. (let trip = law_of_the_replay r p.telling (cert_text c) tells (put ∙ ap (option_map cert_text) some) in
-    let one : trip.0 ≡ c = one-certificate (option_and_then cert_of_outcome last) trip.0 c (ap (λ os. option_and_then cert_of_outcome (last_clear None os)) (sym same) ∙ trip.1) some in
+    let one : trip.0 ≡ c = one-certificate (option_and_then (cert_of_outcome r.market.places) last) trip.0 c (ap (λ os. option_and_then (cert_of_outcome r.market.places) (last_clear None os)) (sym same) ∙ trip.1) some in
     subst (CertifiesLast r (cert_text c)) one trip.2))
 
 pub law_of_round_trip : LawOfRoundTrip
@@ -392,6 +408,8 @@ none-written files words t _ none (pooled case offers asked tells) = refl
 none-written files words t _ none (cleared names file asked tells) = no-outputs file t.outputs none
 none-written files words t _ none (replayed names edits file asked tells) = no-outputs file t.outputs none
 none-written files words t _ none (verified names edits certificate asked tells) = refl
+none-written files words t _ none (entitled names held asked tells) = refl
+none-written files words t _ none (migrated old out asked tells) = no-outputs (Some out) t.outputs none
 none-written files words t _ none (checked names asked tells) = refl
 none-written files words t _ none (made buses seed asked makes) = refl
 
@@ -412,6 +430,8 @@ module _ (words : List (List ℕ)) (files : Files) (text : List ℕ) (s : Status
   fault-told r (to_clear asks) = refusal-alone r (clear-told files words p.telling p.written (Err r) p.answers asks)
   fault-told r (to_replay asks) = refusal-alone r (replay-told files words p.telling p.written (Err r) p.answers asks)
   fault-told r (to_verify asks) = refusal-alone r (verify-told files words p.telling p.written (Err r) p.answers asks)
+  fault-told r (for_rights asks) = refusal-alone r (rights-told files words p.telling p.written (Err r) p.answers asks)
+  fault-told r (to_migrate asks) = refusal-alone r (migrate-told files words p.telling p.written (Err r) p.answers asks)
   fault-told r (to_check asks) = refusal-alone r (check-told files words p.telling p.written (Err r) p.answers asks)
 
   abbrev Why : Type 0
@@ -452,6 +472,22 @@ module _ (words : List (List ℕ)) (files : Files) (text : List ℕ) (s : Status
         range-refused : status.Range ≡ status.Refused → ⊥
         range-refused wrong = cc wrong
 
+    of-fit : (m : Parts) (rights : List TransmissionRight) (price : ℕ → Fraction) (report : List ℕ) → TellsFit most_size m rights price report p.telling → Why
+    of-fit m rights price report (fitted fit.Fits is-fit is) = let wrong : status.Done ≡ status.Refused = sym (ap (λ (t : Telling). t.status) is) ∙ bad in cc wrong
+    of-fit m rights price report (fitted (fit.Breaks row flow) is-fit is) = let wrong : status.Refuted ≡ status.Refused = sym (ap (λ (t : Telling). t.status) is) ∙ bad in cc wrong
+    of-fit m rights price report (answers.passed q pair within is) = let wrong : status.Range ≡ status.Refused = sym (ap (λ (t : Telling). t.status) is) ∙ bad in cc wrong
+
+    of-rights : (r : MarketRights) → TellsRights r p.telling → Why
+    of-rights r tells = by tells.entitles.outcome tells.entitles.told
+      where
+        by : (o : Outcome Fraction) → TellsOutcome most_size r.market r.rights o p.telling → Why
+        by (outcome.Cleared a) told = of-fit r.market r.rights _ _ told
+        by (outcome.Infeasible f) is = let wrong : status.Infeasible ≡ status.Refused = sym (ap (λ (t : Telling). t.status) is) ∙ bad in cc wrong
+        by (outcome.Range q) is = let wrong : status.Range ≡ status.Refused = sym (ap (λ (t : Telling). t.status) is) ∙ bad in cc wrong
+
+    of-migration : (c : Cert Fraction) → TellsMigration c p.telling → Why
+    of-migration c is = let wrong : status.Done ≡ status.Refused = sym (ap (λ (t : Telling). t.status) is) ∙ bad in cc wrong
+
     of-check : (inputs : Inputs) → TellsCheck inputs p.telling → Why
     of-check inputs (r, are, is) = check-status (are_within r) (sym (ap (λ (t : Telling). t.status) is) ∙ bad)
       where
@@ -473,6 +509,10 @@ module _ (words : List (List ℕ)) (files : Files) (text : List ℕ) (s : Status
     why-refused _ (verified names edits certificate asked tells) =
         by-fault (AreVerifyFiles files names edits certificate) TellsVerdict (λ r stands. to_verify (record { names = names; edits = edits; certificate = certificate; asks = asked; stand = stands }))
         (λ v stands right. of-verdict v right) tells
+    why-refused _ (entitled names held asked tells) =
+        by-fault (AreRightsFiles files names held) TellsRights (λ r stands. for_rights (record { names = names; rights = held; asks = asked; stand = stands })) (λ r stands right. of-rights r right) tells
+    why-refused _ (migrated old out asked tells) =
+        by-fault (IsMigratedFile files old) TellsMigration (λ r stands. to_migrate (record { certificate = old; out = out; asks = asked; stand = stands })) (λ c stands right. of-migration c right) tells
     why-refused _ (checked names asked tells) = by-fault (AreCheckFiles files names) TellsCheck (λ r stands. to_check (record { names = names; asks = asked; stand = stands })) (λ inputs stands right. of-check inputs right) tells
     why-refused _ (made buses seed asked makes) = of-ring buses seed makes
 
@@ -518,8 +558,10 @@ written-named : (files : Option Files) (words : List (List ℕ)) (t : Telling) (
 written-named files words t _ (refused nothing usage) = tt
 written-named files words t _ (pooled case offers asked told) = tt
 written-named files words t _ (cleared names file asked told) = bytes-named (NamesToWrite words) file t.outputs.certificate (λ name is. inl (names, subst (AsksClear words names) is asked))
-written-named files words t _ (replayed names edits file asked told) = bytes-named (NamesToWrite words) file t.outputs.certificate (λ name is. inr (names, edits, subst (AsksReplay words names edits) is asked))
+written-named files words t _ (replayed names edits file asked told) = bytes-named (NamesToWrite words) file t.outputs.certificate (λ name is. inr (inl (names, edits, subst (AsksReplay words names edits) is asked)))
 written-named files words t _ (verified names edits certificate asked told) = tt
+written-named files words t _ (entitled names held asked told) = tt
+written-named files words t _ (migrated old out asked told) = bytes-named (NamesToWrite words) (Some out) t.outputs.certificate (λ name is. inr (inr (old, subst (λ o. AsksMigrate words old (unwrap_or o out)) is asked)))
 written-named files words t _ (checked names asked told) = tt
 written-named files words t _ (made buses seed asked told) = tt
 

@@ -4,4 +4,5 @@ pub mod EndLemmas
 mod FailureLemmas
 mod HeadlineLemmas
 mod PromiseLemmas
+mod RightsLemmas
 mod RunLemmas

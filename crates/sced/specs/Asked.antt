@@ -3,13 +3,14 @@ use Rattle.std.specs.Prelude.{ℕ, List, Option, Result, Ok}
 use Rattle.fraction_theory.specs.Fraction.{Fraction}
 use Rattle.outside_store.specs.Files.{Files}
 use Rattle.market_model.specs.declared.participants.Parts.{Parts}
+use Rattle.market_model.specs.declared.participants.TransmissionRight.{TransmissionRight}
 use Rattle.cert_format.specs.declared.certificate.Cert.{Cert}
 use Rattle.edit_table.specs.declared.Step.{Step}
-use Rattle.command_words.specs.Words.{AsksCheck, AsksClear, AsksPool, AsksReplay, AsksVerify, CheckNames, MarketNames}
+use Rattle.command_words.specs.Words.{AsksCheck, AsksClear, AsksMigrate, AsksPool, AsksReplay, AsksRights, AsksVerify, CheckNames, MarketNames}
 use Rattle.market_inputs.specs.declared.checking.Inputs.{Inputs}
 use Rattle.refusal_text.specs.declared.refusals.Refusal.{Refusal}
-use Rattle.command_answers.specs.Inputs.{MarketCertificate, MarketSteps}
-use Rattle.command_files.specs.Standing.{AreCheckFiles, AreClearFiles, ArePoolFiles, AreReplayFiles, AreVerifyFiles}
+use Rattle.command_answers.specs.Inputs.{MarketCertificate, MarketRights, MarketSteps}
+use Rattle.command_files.specs.Standing.{AreCheckFiles, AreClearFiles, ArePoolFiles, AreReplayFiles, AreRightsFiles, AreVerifyFiles, IsMigratedFile}
 
 -- to clear a market, as if no branch had a limit or within the limits
 pub data AsksToClear (files : Files) (words : List (List ℕ)) (told : Result Parts Refusal) : Type 0 where
@@ -32,13 +33,27 @@ pub record AsksToVerify (files : Files) (words : List (List ℕ)) (told : Result
   pub asks : AsksVerify words names edits certificate
   pub stand : AreVerifyFiles files names edits certificate told
 
+-- whether rights to what the limits of a market earn fit, and what they are paid
+pub record AsksForRights (files : Files) (words : List (List ℕ)) (told : Result MarketRights Refusal) : Type 0 where
+  pub names : MarketNames
+  pub rights : List ℕ
+  pub asks : AsksRights words names rights
+  pub stand : AreRightsFiles files names rights told
+
+-- to write a certificate anew
+pub record AsksToMigrate (files : Files) (words : List (List ℕ)) (told : Result (Cert Fraction) Refusal) : Type 0 where
+  pub certificate : List ℕ
+  pub out : List ℕ
+  pub asks : AsksMigrate words certificate out
+  pub stand : IsMigratedFile files certificate told
+
 -- how far tables of factors are from those of the network
 pub record AsksToCheck (files : Files) (words : List (List ℕ)) (told : Result Inputs Refusal) : Type 0 where
   pub names : CheckNames
   pub asks : AsksCheck words names
   pub stand : AreCheckFiles files names told
 
--- this market, these steps of this market, and this certificate of this market
+-- this market, these steps of this market, this certificate of this market, and these rights to what its limits earn
 abbrev pub AsksMarket : Files → List (List ℕ) → Parts → Type 0
 AsksMarket files words m = AsksToClear files words (Ok m)
 
@@ -47,3 +62,6 @@ AsksSteps files words m steps = AsksToReplay files words (Ok (record { market = 
 
 abbrev pub AsksVerdict : Files → List (List ℕ) → Parts → Cert Fraction → Type 0
 AsksVerdict files words m c = AsksToVerify files words (Ok (record { market = m; certificate = c }))
+
+abbrev pub AsksHeld : Files → List (List ℕ) → Parts → List TransmissionRight → Type 0
+AsksHeld files words m rights = AsksForRights files words (Ok (record { market = m; rights = rights }))

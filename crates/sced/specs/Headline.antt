@@ -14,17 +14,22 @@ use Rattle.market_model.specs.declared.answered.Farkas.{Farkas}
 use Rattle.market_model.specs.declared.answered.Outcome.{Outcome}
 use Rattle.market_model.specs.declared.answered.Outcome.TheVariants.{Cleared, Infeasible, Range}
 use Rattle.market_model.specs.declared.limits.Row.{Row}
+use Rattle.market_model.specs.declared.answered.RowId.{RowId}
 use Rattle.market_model.specs.declared.participants.Parts.{Parts}
+use Rattle.market_model.specs.declared.participants.TransmissionRight.{TransmissionRight}
 use Rattle.market_model.specs.Dispatch.{Dispatch, IsDispatch, balance, places, zero}
 use Rattle.market_model.specs.Infeasibility.{IsFarkas}
 use Rattle.market_model.specs.LimitRows.{flow, most_flow, rows}
 use Rattle.market_model.specs.Optimality.{AreWithin, Feasible, ProperDuals, Supports, bus_price, welfare}
 use Rattle.market_model.specs.RightAnswers.{dispatch_in, price_made, settlement_at}
+use Rattle.market_model.specs.Rights.{AreFeasibleTogether}
 use Rattle.market_model.specs.Settlement.{rent}
+use Rattle.market_model.specs.Valued.{total_at}
 use Rattle.market_system.specs.Outcomes.{IsDecided}
 use Rattle.market_system.specs.WorkingPairs.{AllNumbersFit, IsRangeOf, NoPairPasses}
 use Rattle.case_maker.specs.Rings.{ring_of}
 use Rattle.cert_format.specs.Certificates.{cert_of_outcome}
+use Rattle.cert_format.specs.Grammar.{cert_read}
 use Rattle.cert_format.specs.Written.{cert_text}
 use Rattle.cert_format.specs.declared.certificate.Cert.{Cert}
 use Rattle.cert_verify.specs.Certificates.{IsTrueOf, first_reason}
@@ -40,6 +45,9 @@ use Rattle.report_text.specs.ReportLaws.{OutcomeFitsReport}
 use Rattle.report_text.specs.Reports.{range_text, report_text}
 use Rattle.replay_text.specs.ReplayTextLaws.{OutcomesFit}
 use Rattle.replay_text.specs.ReplayTexts.{replayed}
+use Rattle.rights_test.specs.Fits.{IsFit}
+use Rattle.rights_test.specs.Paid.{payments_of}
+use Rattle.rights_test.specs.declared.right_parts.Fit.TheVariants.{Fits, Breaks}
 use Rattle.refusal_text.specs.Refusals.{refusal_line}
 use Rattle.refusal_text.specs.declared.refusals.Refusal.{Refusal}
 use Rattle.command_words.specs.Words.{AsksClear, AsksMake, AsksNothing, AsksReplay, MarketNames, NamesFile, NamesToWrite}
@@ -52,11 +60,13 @@ use Rattle.command_answers.specs.Inputs.{MarketSteps}
 use Rattle.command_answers.specs.Laws.{Certifies, CertifiesLast}
 use Rattle.command_answers.specs.Making.{ring_line, summary}
 use Rattle.command_answers.specs.Replaying.{last_clear, replay_status}
+use Rattle.command_answers.specs.Rights.{IsRightsRefusal}
+use Rattle.command_answers.specs.RightsLines.{rights_lines}
 use Rattle.cert_verify.specs.Stops.{IsCertificateStop}
 use Rattle.command_answers.specs.Verdicts.{verdict_line}
 use Rattle.command_answers.specs.declared.status.Status.{Status}
 use Rattle.command_answers.specs.declared.status.Status.TheVariants as status
-use Rattle.sced.specs.Asked.{AsksMarket, AsksSteps, AsksVerdict, AsksToCheck, AsksToClear, AsksToReplay, AsksToVerify}
+use Rattle.sced.specs.Asked.{AsksForRights, AsksHeld, AsksMarket, AsksSteps, AsksVerdict, AsksToCheck, AsksToClear, AsksToMigrate, AsksToReplay, AsksToVerify}
 use Rattle.sced.specs.Promise.{Runs}
 use Rattle.command_files.specs.OnlyReads.{IsSilent}
 use Rattle.sced.specs.Runs.{CountsReads, CountsWrites, IsTold, LeavesAll, Outside}
@@ -80,7 +90,9 @@ pub data IsFirstFault (words : List (List ℕ)) (files : Files) (r : Refusal) : 
   to_clear : AsksToClear files words (Err r) → IsFirstFault words files r
   to_replay : AsksToReplay files words (Err r) → IsFirstFault words files r
   to_verify : AsksToVerify files words (Err r) → IsFirstFault words files r
+  for_rights : AsksForRights files words (Err r) → IsFirstFault words files r
   to_check : AsksToCheck files words (Err r) → IsFirstFault words files r
+  to_migrate : AsksToMigrate files words (Err r) → IsFirstFault words files r
 
 -- a run that puts a text was asked for one of these: for nothing that the program does, for work on what the files stand for, for a ring, or on
 -- files with a first fault
@@ -89,6 +101,8 @@ pub data IsAsked (words : List (List ℕ)) (files : Files) : Status → Type 0 w
   for_clear : (s : Status) (m : Parts) → AsksMarket files words m → IsAsked words files s
   for_steps : (s : Status) (m : Parts) (steps : List Step) → AsksSteps files words m steps → IsAsked words files s
   for_verdict : (s : Status) (m : Parts) (c : Cert Fraction) → AsksVerdict files words m c → IsAsked words files s
+  for_holders : (s : Status) (m : Parts) (rights : List TransmissionRight) → AsksHeld files words m rights → IsAsked words files s
+  for_migration : (s : Status) (c : Cert Fraction) → AsksToMigrate files words (Ok c) → IsAsked words files s
   for_check : (s : Status) (inputs : Inputs) → AsksToCheck files words (Ok inputs) → IsAsked words files s
   for_ring : (s : Status) (buses seed : ℕ) → AsksMake words buses seed → IsAsked words files s
   with_fault : (s : Status) (r : Refusal) → IsFirstFault words files r → IsAsked words files s
@@ -220,7 +234,7 @@ pub record HasCertificate (holds : List ℕ → Cert Fraction → Type 0) (certi
 abbrev pub LawOfCertificate : Type 0
 LawOfCertificate = (words : List (List ℕ)) (files later : Files) (text : List ℕ) (s : Status) (names : MarketNames) (file : List ℕ) (m : Parts)
     (o : Outcome Fraction) → (clear : Prints words files text s) → clear.after.files ≡ Some later → AsksClear words names (Some file) → AsksMarket files words m
-    → OutcomeFitsReport m o → text ≡ report_text m o → HasCertificate (Certifies m) (cert_of_outcome o) (files file) (later file)
+    → OutcomeFitsReport m o → text ≡ report_text m o → HasCertificate (Certifies m) (cert_of_outcome m.places o) (files file) (later file)
 
 -- in a replay, that of the last clear and of the market as the steps before it edit it
 abbrev pub LawOfLastCertificate : Type 0
@@ -228,7 +242,7 @@ LawOfLastCertificate = (words : List (List ℕ)) (files later : Files) (text : L
     (r : MarketSteps) (outcomes : List (StepOutcome Fraction)) → (replay : Prints words files text s) → replay.after.files ≡ Some later
     → AsksReplay words names edits (Some file) → AsksToReplay files words (Ok r)
     → OutcomesFit r.market r.steps outcomes → text ≡ replayed r.market r.steps outcomes
-    → HasCertificate (CertifiesLast r) (option_and_then cert_of_outcome (last_clear None outcomes)) (files file) (later file)
+    → HasCertificate (CertifiesLast r) (option_and_then (cert_of_outcome r.market.places) (last_clear None outcomes)) (files file) (later file)
 
 -- ---- round trip
 -- of what a clear of a market wrote `verify` says yes against that market, or that numbers are too large
@@ -238,6 +252,42 @@ LawOfRoundTrip = (words again : List (List ℕ)) (files later : Files) (text ans
     → AsksClear words names (Some file) → AsksMarket files words m
     → (s ≡ status.Done) ⊎ (s ≡ status.Infeasible) → Prints again later answer t → (asks : AsksVerdict later again m c) → asks.certificate ≡ file
     → ((t ≡ status.Done) × (answer ≡ codes "yes\n")) ⊎ (t ≡ status.Range)
+
+-- ---- rights
+-- The market is cleared, best and priced as above, and behind the report stand whether limits could carry the rights together and what each is
+-- paid by the bus prices that are printed. Where they could, the rights are paid no more than the surplus; where not, the first limit that is broken is told.
+-- Or the report stands alone: that nothing qualifies, or two numbers that are a working pair of the market and pass 127 bits, so that this
+-- does not come where none does. Or in place of the lines on rights stand two numbers of a sum of these.
+pub data IsEntitled (m : Parts) (rights : List TransmissionRight) (text : List ℕ) : Status → Type 0 where
+  rights_fit : (a : Answer Fraction) → HasGreatestWelfare m (dispatch_in a) → IsPriced m a → AreFeasibleTogether m rights
+      → text ≡ report_text m (Cleared a) ++ rights_lines Fits (payments_of (total_at (λ x. x) a.prices) rights)
+      → (payments_of (total_at (λ x. x) a.prices) rights).total ≤ℚ a.money.surplus → IsEntitled m rights text status.Done
+  rights_break : (a : Answer Fraction) (r : RowId) (flow : Fraction) → HasGreatestWelfare m (dispatch_in a) → IsPriced m a → ¬ (AreFeasibleTogether m rights)
+      → IsFit m rights (Breaks r flow) → text ≡ report_text m (Cleared a) ++ rights_lines (Breaks r flow) (payments_of (total_at (λ x. x) a.prices) rights)
+      → IsEntitled m rights text status.Refuted
+  nothing_qualifies : (f : Farkas Fraction) → ((x : Dispatch) → ¬ (Feasible m x)) → IsFarkas m f → text ≡ report_text m (Infeasible f)
+      → IsEntitled m rights text status.Infeasible
+  clear_passes : (p : Passed Fraction) → IsRangeOf m [] most_size p → ArePassedWithin most_size p → text ≡ report_text m (Range p)
+      → IsEntitled m rights text status.Range
+  rights_pass : (a : Answer Fraction) (p : Passed Fraction) → HasGreatestWelfare m (dispatch_in a) → IsPriced m a
+      → IsRightsRefusal m rights (total_at (λ x. x) a.prices) most_size p → ArePassedWithin most_size p → text ≡ report_text m (Cleared a) ++ range_text p
+      → IsEntitled m rights text status.Range
+
+abbrev pub LawOfRights : Type 0
+LawOfRights = (words : List (List ℕ)) (files : Files) (text : List ℕ) (s : Status) (m : Parts) (rights : List TransmissionRight)
+    → Prints words files text s → AsksHeld files words m rights → IsEntitled m rights text s
+
+-- ---- migrate
+-- what was read of the certificate is written in the version of today, and it is read back as the same
+pub record IsMigrated (c : Cert Fraction) (text : List ℕ) (s : Status) (has : Option (List ℕ)) : Type 0 where
+  pub done : s ≡ status.Done
+  pub said : text ≡ codes "migrated\n"
+  pub written : has ≡ Some (cert_text c)
+  pub read : cert_read (cert_text c) ≡ Ok c
+
+abbrev pub LawOfMigrate : Type 0
+LawOfMigrate = (words : List (List ℕ)) (files later : Files) (text : List ℕ) (s : Status) (c : Cert Fraction)
+    → (run : Prints words files text s) → run.after.files ≡ Some later → (asks : AsksToMigrate files words (Ok c)) → IsMigrated c text s (later asks.out)
 
 -- ---- check
 -- the residuals of the tables are told, and whether they are within what rounding explains

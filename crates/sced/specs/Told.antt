@@ -1,17 +1,19 @@
 -- What is right to tell of the words of a run and of the files that they name.
 use Rattle.std.specs.Prelude.{◌≡◌, ℕ, List, [], ◌∷◌, Option, Some, None}
 use Rattle.outside_store.specs.Files.{Files}
-use Rattle.command_words.specs.Words.{AsksCheck, AsksClear, AsksMake, AsksNothing, AsksPool, AsksReplay, AsksVerify, CheckNames, MarketNames}
+use Rattle.command_words.specs.Words.{AsksCheck, AsksClear, AsksMake, AsksMigrate, AsksNothing, AsksPool, AsksReplay, AsksRights, AsksVerify, CheckNames, MarketNames}
 use Rattle.command_answers.specs.Checking.{TellsCheck}
 use Rattle.command_answers.specs.Clearing.{TellsClear, most_size}
 use Rattle.command_answers.specs.Making.{MakesTo}
+use Rattle.command_answers.specs.Migrating.{TellsMigration}
 use Rattle.command_answers.specs.Replaying.{TellsReplay}
+use Rattle.command_answers.specs.Rights.{TellsRights}
 use Rattle.command_answers.specs.Tellings.{Telling, certified, map_outputs, telling_of}
 use Rattle.command_answers.specs.Verifying.{TellsVerdict}
 use Rattle.command_answers.specs.declared.told.Outputs.{Outputs}
 use Rattle.command_answers.specs.declared.status.Status.{Status}
 use Rattle.command_answers.specs.declared.status.Status.TheVariants as status
-use Rattle.command_files.specs.Standing.{AreCheckFiles, AreClearFiles, ArePoolFiles, AreReplayFiles, AreVerifyFiles, OfFiles}
+use Rattle.command_files.specs.Standing.{AreCheckFiles, AreClearFiles, ArePoolFiles, AreReplayFiles, AreRightsFiles, AreVerifyFiles, IsMigratedFile, OfFiles}
 use Rattle.sced.specs.Runs.{Ends, Outside}
 use Rattle.sced.specs.declared.run.Work.{Work}
 
@@ -37,8 +39,8 @@ names_for work = map_outputs (λ name. name.now) work.files
 abbrev pub written_by : Work → List (List ℕ × List ℕ)
 written_by work = named_outputs (names_for work) (telling_of work.told).outputs
 
--- The words are refused, or what is told is right for the files that they name. The one file that there is to write is a certificate
--- that a clear or a replay has, where the words name a file for it.
+-- The words are refused, or what is told is right for the files that they name. The one file that there is to write is a certificate:
+-- that which a clear or a replay has, where the words name a file for it, or one that is written anew.
 pub data AnswersTo (files : Option Files) (words : List (List ℕ)) (t : Telling) : List (List ℕ × List ℕ) → Type 0 where
   refused : AsksNothing words → t.status ≡ status.Usage → AnswersTo files words t []
   pooled : (case offers : List ℕ) → AsksPool words case offers → OfFiles files (λ f. ArePoolFiles f case offers) TellsClear t → AnswersTo files words t []
@@ -48,6 +50,9 @@ pub data AnswersTo (files : Option Files) (words : List (List ℕ)) (t : Telling
       → OfFiles files (λ f. AreReplayFiles f names edits) TellsReplay t → AnswersTo files words t (named_outputs (certified file) t.outputs)
   verified : (names : MarketNames) (edits : Option (List ℕ)) (certificate : List ℕ) → AsksVerify words names edits certificate
       → OfFiles files (λ f. AreVerifyFiles f names edits certificate) TellsVerdict t → AnswersTo files words t []
+  entitled : (names : MarketNames) (rights : List ℕ) → AsksRights words names rights → OfFiles files (λ f. AreRightsFiles f names rights) TellsRights t → AnswersTo files words t []
+  migrated : (certificate out : List ℕ) → AsksMigrate words certificate out → OfFiles files (λ f. IsMigratedFile f certificate) TellsMigration t
+      → AnswersTo files words t (named_outputs (certified (Some out)) t.outputs)
   checked : (names : CheckNames) → AsksCheck words names → OfFiles files (λ f. AreCheckFiles f names) TellsCheck t → AnswersTo files words t []
   made : (buses seed : ℕ) → AsksMake words buses seed → MakesTo most_size buses seed t → AnswersTo files words t []
 

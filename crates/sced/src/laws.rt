@@ -1,7 +1,7 @@
 //! What every run of the program means for those who read what it prints: laws that follow from what `run` promises, each the contract of a
 //! function that does nothing.
 
-ghost use Rattle.sced.specs.Headline.{LawOfAnswered, LawOfAsked, LawOfCauses, LawOfCertificate, LawOfCheck, LawOfCleared, LawOfComplete, LawOfCutShort, LawOfFaults, LawOfInfeasible, LawOfLastCertificate, LawOfMake, LawOfMissing, LawOfOutside, LawOfRange, LawOfReplay, LawOfRoundTrip, LawOfVerify};
+ghost use Rattle.sced.specs.Headline.{LawOfAnswered, LawOfAsked, LawOfCauses, LawOfCertificate, LawOfCheck, LawOfCleared, LawOfComplete, LawOfCutShort, LawOfFaults, LawOfInfeasible, LawOfLastCertificate, LawOfMake, LawOfMigrate, LawOfMissing, LawOfOutside, LawOfRange, LawOfReplay, LawOfRights, LawOfRoundTrip, LawOfVerify};
 
 /// A run that puts a text was asked for nothing that the program does, for work on what the files stand for, for a ring, or on files with
 /// a first fault.
@@ -57,6 +57,17 @@ pub fn last_certificate()
 /// Of what a clear of a market wrote `verify` says yes against that market, or that numbers are too large.
 pub fn round_trip()
     ensures { LawOfRoundTrip }
+{}
+
+/// Behind the report of a cleared market come whether limits could carry the rights together, with the first limit that they could not, and
+/// what each right is paid by the printed bus prices; where they fit, they are paid no more than the surplus.
+pub fn rights()
+    ensures { LawOfRights }
+{}
+
+/// A certificate of an earlier version is written in the version of today, and is read back as the same certificate.
+pub fn migrate()
+    ensures { LawOfMigrate }
 {}
 
 /// The residuals of the tables are told, and whether they are within what rounding explains.

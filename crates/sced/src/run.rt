@@ -11,7 +11,10 @@ ghost use Rattle.command_files.specs.OnlyReads.{IsSilent, OnlyReads};
 ghost use Rattle.sced.specs.Told.{AnswersTo, IsOutputFile, named_bytes, names_for, written_by};
 
 use command_answers::{Outputs, Status, Told, make_told};
-use command_files::{check_files, clear_files, or_memory, pool_files, replay_files, verify_files};
+use command_files::{
+    check_files, clear_files, migrate_file, or_memory, pool_files, replay_files, rights_files,
+    verify_files,
+};
 use command_words::{Request, WordsStop, request_of};
 use outside_store::{Failed, Sink, Store};
 use std::alloc::Global;
@@ -63,7 +66,14 @@ fn asked_work<'a, S: Store>(
             },
         ),
         Ok(Request::Verify(files)) => with_files(verify_files(alloc, &files, store), none),
+        Ok(Request::Rights(files)) => with_files(rights_files(alloc, &files, store), none),
         Ok(Request::Check(files)) => with_files(check_files(alloc, &files, store), none),
+        Ok(Request::Migrate(files)) => with_files(
+            migrate_file(alloc, files.certificate, store),
+            Outputs {
+                certificate: Some(files.out),
+            },
+        ),
         Ok(Request::Make(ring)) => with_files(
             or_memory(make_told(alloc, ring.buses, ring.seed)),
             none,

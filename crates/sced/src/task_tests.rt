@@ -16,15 +16,15 @@ const AFTER: &str =
 
 /// The certificate of the market with a limit of 40, and of 45 after the outage of branch 1.
 const OPTIMAL: &str =
-    "{\"blocks\":[\"45000000000/1\",\"15000000000/1\"],\"energy\":\"10000000/1\",\"kind\":\"optimal\",\"limits\":[{\"branch\":2,\"down\":\"0/1\",\"outage\":1,\"up\":\"20000000/1\"}],\"version\":1}";
+    "{\"blocks\":[\"45000000000/1\",\"15000000000/1\"],\"energy\":\"10000000/1\",\"kind\":\"optimal\",\"limits\":[{\"branch\":2,\"down\":\"0/1\",\"outage\":1,\"up\":\"20000000/1\"}],\"places\":6,\"version\":2}";
 
-/// The same with its dual at the limit in the base.
+/// The same with its dual at the limit in the base, in a text of the first version.
 const MOVED: &str =
     "{\"blocks\":[\"45000000000/1\",\"15000000000/1\"],\"energy\":\"10000000/1\",\"kind\":\"optimal\",\"limits\":[{\"branch\":2,\"down\":\"0/1\",\"outage\":0,\"up\":\"20000000/1\"}],\"version\":1}";
 
 /// Duals that show that nothing is feasible where branch 2 has a limit of 10.
 const FARKAS: &str =
-    "{\"energy\":\"-1/1\",\"kind\":\"farkas\",\"limits\":[{\"branch\":2,\"down\":\"0/1\",\"outage\":0,\"up\":\"2/1\"}],\"version\":1}";
+    "{\"energy\":\"-1/1\",\"kind\":\"farkas\",\"limits\":[{\"branch\":2,\"down\":\"0/1\",\"outage\":0,\"up\":\"2/1\"}],\"places\":6,\"version\":2}";
 
 const LIMITED: &str =
     "cleared\nwelfare -800\nenergy 10\nbus 1 price 10 congestion 0\nbus 2 price 30 congestion 20\nbus 3 price 40 congestion 30\nblock 1 sell 1 mw 50\nblock 2 sell 1 mw 10\nlimit 2 base flow 40 up 40 down 0 rent 1600\nunit 1 mw 50 paid 500\nunit 2 mw 10 paid 300\nload 1 mw 0 pays 0\nload 2 mw 0 pays 0\nload 3 mw 60 pays 2400\nsurplus 1600\n";
@@ -34,7 +34,7 @@ const CHEAPER: &str =
     "step 1 clear\ncleared\nwelfare -800\nenergy 10\nbus 1 price 10 congestion 0\nbus 2 price 30 congestion 20\nbus 3 price 40 congestion 30\nblock 1 sell 1 mw 50\nblock 2 sell 1 mw 10\nlimit 2 base flow 40 up 40 down 0 rent 1600\nunit 1 mw 50 paid 500\nunit 2 mw 10 paid 300\nload 1 mw 0 pays 0\nload 2 mw 0 pays 0\nload 3 mw 60 pays 2400\nsurplus 1600\nstep 2 edit accepted\nstep 3 clear\ncleared\nwelfare -700\nenergy 10\nbus 1 price 10 congestion 0\nbus 2 price 20 congestion 10\nbus 3 price 25 congestion 15\nblock 1 sell 1 mw 50\nblock 2 sell 1 mw 10\nlimit 2 base flow 40 up 20 down 0 rent 800\nunit 1 mw 50 paid 500\nunit 2 mw 10 paid 200\nload 1 mw 0 pays 0\nload 2 mw 0 pays 0\nload 3 mw 60 pays 1500\nsurplus 800\n";
 
 const CHEAPER_CERTIFICATE: &str =
-    "{\"blocks\":[\"50000000000/1\",\"10000000000/1\"],\"energy\":\"10000000/1\",\"kind\":\"optimal\",\"limits\":[{\"branch\":2,\"down\":\"0/1\",\"outage\":0,\"up\":\"20000000/1\"}],\"version\":1}";
+    "{\"blocks\":[\"50000000000/1\",\"10000000000/1\"],\"energy\":\"10000000/1\",\"kind\":\"optimal\",\"limits\":[{\"branch\":2,\"down\":\"0/1\",\"outage\":0,\"up\":\"20000000/1\"}],\"places\":6,\"version\":2}";
 
 /// A demand of 40 more at bus 1, and no flow over branch 2.
 const BLOCKED: &str =
@@ -158,22 +158,32 @@ fn refuses_certificates(rt: HostRuntime) -> Result<(), Fail> {
             "refused certificate Key blocks\n",
         ),
         (
+            "{\"energy\":\"1/1\",\"kind\":\"farkas\",\"limits\":[],\"version\":2}",
+            Status::Refused,
+            "refused certificate Key places\n",
+        ),
+        (
             "{\"energy\":\"1/1\",\"kind\":\"farkas\",\"limits\":[],\"version\":1,\"x\":0}",
             Status::Refused,
             "refused certificate Key extra\n",
         ),
         (
-            "{\"blocks\":[\"VAST\"],\"energy\":\"VAST\",\"kind\":\"optimal\",\"limits\":[],\"version\":1}",
+            "{\"blocks\":[\"VAST\"],\"energy\":\"VAST\",\"kind\":\"optimal\",\"limits\":[],\"places\":9,\"version\":2}",
+            Status::Refuted,
+            "no Places\n",
+        ),
+        (
+            "{\"blocks\":[\"VAST\"],\"energy\":\"VAST\",\"kind\":\"optimal\",\"limits\":[],\"places\":6,\"version\":2}",
             Status::Refuted,
             "no Count\n",
         ),
         (
-            "{\"energy\":\"VAST\",\"kind\":\"farkas\",\"limits\":[{\"branch\":2,\"down\":\"-1/1\",\"outage\":0,\"up\":\"VAST\"}],\"version\":1}",
+            "{\"energy\":\"VAST\",\"kind\":\"farkas\",\"limits\":[{\"branch\":2,\"down\":\"-1/1\",\"outage\":0,\"up\":\"VAST\"}],\"places\":6,\"version\":2}",
             Status::Refuted,
             "no Sign branch 2 outage 0\n",
         ),
         (
-            "{\"energy\":\"VAST\",\"kind\":\"farkas\",\"limits\":[{\"branch\":2,\"down\":\"0/1\",\"outage\":0,\"up\":\"VAST\"}],\"version\":1}",
+            "{\"energy\":\"VAST\",\"kind\":\"farkas\",\"limits\":[{\"branch\":2,\"down\":\"0/1\",\"outage\":0,\"up\":\"VAST\"}],\"places\":6,\"version\":2}",
             Status::Range,
             "range ",
         ),

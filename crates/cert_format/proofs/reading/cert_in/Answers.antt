@@ -9,27 +9,27 @@ returns-then-not-is_object g c =
     let object = sym c.is_object.ensures ∙ c.if-not-is_object.true in
     rw object refl
 
-pub returns-then-not-has_version : goal.returns-then-not-has_version
-unfolding cert_in
-returns-then-not-has_version g c =
-    let object = sym c.is_object.ensures ∙ c.if-not-is_object.false in
-    let version = sym c.has_version.ensures ∙ c.if-not-has_version.true in
-    rw (object, version) refl
-
 pub returns-in_default : goal.returns-in_default
 unfolding cert_in
 returns-in_default g c =
     let object = sym c.is_object.ensures ∙ c.if-not-is_object.false in
-    let version = sym c.has_version.ensures ∙ c.if-not-has_version.false in
-    let kind = sym c.kind_in.ensures ∙ c.in_default.is in
+    let version = sym c.version_in.ensures ∙ c.in_default.is in
+    rw (object, version) refl
+
+pub returns-in_default-kind_in : goal.returns-in_default-kind_in
+unfolding cert_in
+returns-in_default-kind_in g c =
+    let object = sym c.is_object.ensures ∙ c.if-not-is_object.false in
+    let version = sym c.version_in.ensures ∙ c.in-Some.is in
+    let kind = sym c.kind_in.ensures ∙ c.in_default-kind_in.is in
     rw (object, version, kind) refl
 
 pub returns-in_default-fraction_at : goal.returns-in_default-fraction_at
 unfolding cert_in
 returns-in_default-fraction_at g c =
     let object = sym c.is_object.ensures ∙ c.if-not-is_object.false in
-    let version = sym c.has_version.ensures ∙ c.if-not-has_version.false in
-    let kind = sym c.kind_in.ensures ∙ c.in-Some.is in
+    let version = sym c.version_in.ensures ∙ c.in-Some.is in
+    let kind = sym c.kind_in.ensures ∙ c.in-Some-kind_in.is in
     let energy = sym c.fraction_at.ensures ∙ ap (option_map g.N.Exact.value) c.in_default-fraction_at.is in
     rw (object, version, kind, energy) refl
 
@@ -37,8 +37,8 @@ pub returns-in-Optimal : goal.returns-in-Optimal
 unfolding cert_in
 returns-in-Optimal g c =
     let object = sym c.is_object.ensures ∙ c.if-not-is_object.false in
-    let version = sym c.has_version.ensures ∙ c.if-not-has_version.false in
-    let kind = sym c.kind_in.ensures ∙ c.in-Some.is ∙ ap Some c.in-Optimal.is in
+    let version = sym c.version_in.ensures ∙ c.in-Some.is in
+    let kind = sym c.kind_in.ensures ∙ c.in-Some-kind_in.is ∙ ap Some c.in-Optimal.is in
     let energy = sym c.fraction_at.ensures ∙ ap (option_map g.N.Exact.value) c.in-Some-fraction_at.is in
     rw (object, version, kind, energy) c.optimal_in.ensures
 
@@ -46,7 +46,7 @@ pub returns-in-Farkas : goal.returns-in-Farkas
 unfolding cert_in
 returns-in-Farkas g c =
     let object = sym c.is_object.ensures ∙ c.if-not-is_object.false in
-    let version = sym c.has_version.ensures ∙ c.if-not-has_version.false in
-    let kind = sym c.kind_in.ensures ∙ c.in-Some.is ∙ ap Some c.in-Farkas.is in
+    let version = sym c.version_in.ensures ∙ c.in-Some.is in
+    let kind = sym c.kind_in.ensures ∙ c.in-Some-kind_in.is ∙ ap Some c.in-Farkas.is in
     let energy = sym c.fraction_at.ensures ∙ ap (option_map g.N.Exact.value) c.in-Some-fraction_at.is in
     rw (object, version, kind, energy) c.farkas_in.ensures

@@ -11,4 +11,4 @@ pub returns-clause-text : goal.returns-clause-text
 unfolding cert_text
 returns-clause-text g c =
     let value = c.in_ok-farkas_value.ensures.value in
-    IfOk-weaker c.to_vec.result _ _ (λ b h. h (ap has_float value ∙ no-float (cert_at g.N.Exact.value (cert.Farkas c.args.energy c.args.limits.now))) ∙ ap compact_text value) c.to_vec.ensures.text
+    IfOk-weaker c.to_vec.result _ _ (λ b h. h (ap has_float value ∙ no-float (cert_at g.N.Exact.value (cert.Farkas c.args.energy c.args.limits.now c.args.places))) ∙ ap compact_text value) c.to_vec.ensures.text

@@ -7,7 +7,7 @@ pub returns-in-Cleared : goal.returns-in-Cleared
 returns-in-Cleared g c =
     let value = g.N.Exact.value in
     let bound = g.N.Exact.bound in
-    let it = cert.Optimal c.in-Cleared.answer.dispatch c.in-Cleared.answer.duals.energy c.in-Cleared.answer.duals.limits in
+    let it = cert.Optimal c.in-Cleared.answer.dispatch c.in-Cleared.answer.duals.energy c.in-Cleared.answer.duals.limits c.args.places in
     let text = c.made.ensures.text _ c.optimal_text.ensures.text in
     let fits = passed_on c.made.result c.optimal_text.result _ (NumbersFit bound (cert_at value it)) c.made.ensures.made c.optimal_text.ensures.rows (λ rows. numbers-fit value bound g.met.N.Exact.value_fits it rows) in
     rw c.in-Cleared.is
@@ -21,7 +21,7 @@ pub returns-in-Infeasible : goal.returns-in-Infeasible
 returns-in-Infeasible g c =
     let value = g.N.Exact.value in
     let bound = g.N.Exact.bound in
-    let it = cert.Farkas c.in-Infeasible.farkas.duals.energy c.in-Infeasible.farkas.duals.limits in
+    let it = cert.Farkas c.in-Infeasible.farkas.duals.energy c.in-Infeasible.farkas.duals.limits c.args.places in
     let text = c.made-in-Infeasible.ensures.text _ c.farkas_text.ensures.text in
     let fits = passed_on c.made-in-Infeasible.result c.farkas_text.result _ (NumbersFit bound (cert_at value it)) c.made-in-Infeasible.ensures.made c.farkas_text.ensures.rows (λ rows. numbers-fit value bound g.met.N.Exact.value_fits it rows) in
     rw c.in-Infeasible.is

@@ -13,5 +13,5 @@ returns-clause-right g c =
     told-ok _ _ c.or_memory.result c.check_told.result c.or_memory.ensures
     (if_ok-map _ _ c.check_told.result
     (λ told is. files-check _ _ (map_grid vec_items vec_items c.in_ok-grid.grid) (telling_of told) c.in_ok-grid.ensures.bytes
-    (subst (λ texts. Tells (IsCheck texts) TellsCheck (telling_of told)) c.as_slices.ensures is))
+    (subst (λ texts. Tells (IsCheck c.args.files.now.places texts) TellsCheck (telling_of told)) c.as_slices.ensures is))
     c.check_told.ensures.tells)

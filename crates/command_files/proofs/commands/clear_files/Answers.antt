@@ -15,5 +15,5 @@ returns-clause-right g c =
     let names = names_of_market c.args.files.now in
     told-ok _ _ c.or_memory.result c.clear_told.result c.or_memory.ensures
     (if_ok-map _ _ c.clear_told.result
-    (λ told is. files-clear files names (map_tables vec_items vec_items c.in_ok-bytes.bytes) (telling_of told) c.in_ok-bytes.ensures.bytes (subst (λ x. Tells (IsLimited names.rating x) TellsClear (telling_of told)) c.as_slices.ensures is))
+    (λ told is. files-clear files names (map_tables vec_items vec_items c.in_ok-bytes.bytes) (telling_of told) c.in_ok-bytes.ensures.bytes (subst (λ x. Tells (IsLimited names.rating names.places x) TellsClear (telling_of told)) c.as_slices.ensures is))
     c.clear_told.ensures.tells)

@@ -19,7 +19,7 @@ returns-clause-right g c =
     told-ok _ _ c.or_memory.result c.replay_told-told.result c.or_memory.ensures
     (if_ok-map _ _ c.replay_told-told.result
     (λ told is. files-replay files names _ (map_tables vec_items vec_items c.in_ok-bytes.bytes) _ (telling_of told) c.in_ok-bytes.ensures.bytes edits
-    (subst (λ x. Tells (IsReplayed names.rating x c.as_slice.result.now) TellsReplay (telling_of told)) c.as_slices.ensures is))
+    (subst (λ x. Tells (IsReplayed names.rating names.places x c.as_slice.result.now) TellsReplay (telling_of told)) c.as_slices.ensures is))
     c.replay_told-told.ensures.tells)
 
 pub returns-clause-reads : goal.returns-clause-reads

@@ -1,7 +1,7 @@
 use Rattle.std.proofs.Common.{◌∙◌, ap, ap₂, codes}
 use Rattle.std.proofs.lemmas.Result.{IfOk-weaker}
 use Rattle.clap.specs.Words.{with_rule}
-use Rattle.command_words.specs.Words.{with_file, with_table}
+use Rattle.command_words.specs.Words.{with_file, with_places, with_table}
 use Rattle.command_words.proofs.command.with_market.Goals as goal
 
 pub returns-clause-app : goal.returns-clause-app
@@ -14,4 +14,5 @@ returns-clause-app c =
     let unit_outages = c.in_ok-command-6.ensures.app ∙ ap (λ a. with_table a (codes "unit-outages")) contingencies in
     let offsets = c.in_ok-command-7.ensures.app ∙ ap (λ a. with_table a (codes "offsets")) unit_outages in
     let penalties = c.in_ok-command-8.ensures.app ∙ ap (λ a. with_table a (codes "penalties")) offsets in
-    IfOk-weaker c.arg.result _ _ (λ r h. h.shape c.rating_option.ensures.local ∙ ap₂ with_rule penalties c.rating_option.ensures.rule) c.arg.ensures
+    let rating = c.in_ok-command-9.ensures.shape c.choice_option.ensures.local ∙ ap₂ with_rule penalties c.choice_option.ensures.rule in
+    IfOk-weaker c.with_places.result _ _ (λ r h. h ∙ ap (λ a. with_places a c.args.places) rating) c.with_places.ensures.app

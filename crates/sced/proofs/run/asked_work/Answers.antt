@@ -1,9 +1,9 @@
-use Rattle.std.proofs.Common.{None, refl}
+use Rattle.std.proofs.Common.{None, Some, refl}
 use Rattle.std.specs.Prelude.{map, string_bytes}
 use Rattle.command_answers.specs.Tellings.{certified}
 use Rattle.command_words.specs.Requests.{names_of_market, names_to_check, text_of_name}
-use Rattle.command_words.proofs.RequestLemmas.{asks-check, asks-clear, asks-make, asks-pool, asks-replay, asks-verify}
-use Rattle.sced.specs.Told.{checked, cleared, made, pooled, refused, replayed, verified}
+use Rattle.command_words.proofs.RequestLemmas.{asks-check, asks-clear, asks-make, asks-migrate, asks-pool, asks-replay, asks-rights, asks-verify}
+use Rattle.sced.specs.Told.{checked, cleared, entitled, made, migrated, pooled, refused, replayed, verified}
 use Rattle.sced.proofs.AnswerLemmas.{named-by, work-ok}
 use Rattle.command_files.proofs.ReadingLemmas.{told-ok}
 use Rattle.sced.proofs.run.asked_work.Goals as goal
@@ -39,6 +39,23 @@ returns-in-Ok-Verify-clause-answers g c =
     let asks = asks-verify words c.in-Ok-Verify.field-0 c.in-Ok-Verify.files c.in-Ok-Verify.field-0-is c.in-Ok-Verify.ensures.asked in
     work-ok _ _ c.with_files-in-Ok-Verify.result c.verify_files.result (certified None) c.with_files-in-Ok-Verify.ensures c.verify_files.ensures.right
     (λ work right name. named-by files words work (certified None) name (verified (names_of_market c.in-Ok-Verify.files.market) (text_of_name c.in-Ok-Verify.files.edits) c.in-Ok-Verify.files.certificate.now asks right))
+
+pub returns-in-Ok-Rights-clause-answers : goal.returns-in-Ok-Rights-clause-answers
+returns-in-Ok-Rights-clause-answers g c =
+    let files = g.S.Store.files c.args.store.now in
+    let words = map string_bytes c.args.words.now in
+    let asks = asks-rights words c.in-Ok-Rights.field-0 c.in-Ok-Rights.files c.in-Ok-Rights.field-0-is c.in-Ok-Rights.ensures.asked in
+    work-ok _ _ c.with_files-in-Ok-Rights.result c.rights_files.result (certified None) c.with_files-in-Ok-Rights.ensures c.rights_files.ensures.right
+    (λ work right name. named-by files words work (certified None) name (entitled (names_of_market c.in-Ok-Rights.files.market) c.in-Ok-Rights.files.rights.now asks right))
+
+pub returns-in-Ok-Migrate-clause-answers : goal.returns-in-Ok-Migrate-clause-answers
+returns-in-Ok-Migrate-clause-answers g c =
+    let files = g.S.Store.files c.args.store.now in
+    let words = map string_bytes c.args.words.now in
+    let out = c.in-Ok-Migrate.files.out.now in
+    let asks = asks-migrate words c.in-Ok-Migrate.field-0 c.in-Ok-Migrate.files c.in-Ok-Migrate.field-0-is c.in-Ok-Migrate.ensures.asked in
+    work-ok _ _ c.with_files-in-Ok-Migrate.result c.migrate_file.result (certified (Some out)) c.with_files-in-Ok-Migrate.ensures c.migrate_file.ensures.right
+    (λ work right name. named-by files words work (certified (Some out)) name (migrated c.in-Ok-Migrate.files.certificate.now out asks right))
 
 pub returns-in-Ok-Check-clause-answers : goal.returns-in-Ok-Check-clause-answers
 returns-in-Ok-Check-clause-answers g c =

@@ -1,0 +1,104 @@
+-- The text of a certificate is read as no other one.
+use Rattle.std.specs.Prelude.{◌≡◌, ◌==◌, ℕ, Bool, true, ◌<◌, ◌+◌, ◌^◌, List, [], ◌∷◌, map, All, Option, Some, None, Ok, unsigned_abs, option_and_then, if◌then◌else◌}
+use Rattle.std.proofs.Common.{◌∙◌, ap, ap₂, arith, refl, suc, sym, zero}
+use Rattle.std.proofs.lemmas.Bool.{lt-ltb}
+use Rattle.std.proofs.lemmas.Option.{cond_some, option_and_then_some, same_Some}
+use Rattle.std.proofs.lemmas.Str.{is_utf8-from_IsUtf8}
+use Rattle.fraction_theory.specs.Fraction.{Fraction}
+use Rattle.exact_fraction.specs.Written.{parts_text}
+use Rattle.market_data.specs.Scales.{place_count}
+use Rattle.market_model.specs.declared.answered.Dual.{Dual}
+use Rattle.serde_json.specs.Data.{Data}
+use Rattle.serde_json.specs.View.{items_of}
+use Rattle.serde_json.proofs.OnLiterals.{serde_json_on_literals}
+use Rattle.cert_format.specs.declared.certificate.Cert.{Cert}
+use Rattle.cert_format.specs.declared.certificate.Cert.TheVariants as cert
+use Rattle.cert_format.specs.declared.certificate.Key.TheVariants as key
+use Rattle.cert_format.specs.Certificates.{Fits, RowFits, most_part}
+use Rattle.cert_format.specs.FractionTexts.{fraction_of}
+use Rattle.cert_format.specs.Grammar.{cert_in, cert_read, each, farkas_in, fraction_in, if_distinct, distinct, limit_in, members_with, optimal_in, places_named}
+use Rattle.cert_format.specs.Laws.{LawOfMigratedTexts}
+use Rattle.cert_format.specs.Written.{cert_data, cert_text, fraction_data, limit_data}
+use Rattle.cert_format.proofs.CertLemmas.{RowsFit, after_unit, places-back, read-cert_text, utf8-cert_text}
+use Rattle.cert_format.proofs.FractionLemmas.{fraction_of-read, fraction_of-spells}
+use Rattle.cert_format.proofs.InverseLemmas.{needed, ok_is}
+use Rattle.cert_format.proofs.RowLemmas.{not_0}
+
+-- a text spells one fraction, whatever the bounds of its parts
+fraction-same : (most : ℕ) (x y : Fraction) → fraction_of most (parts_text x) ≡ Some y → y ≡ x
+fraction-same most x y h =
+    let s = fraction_of-spells most (parts_text x) y h in
+    let wide = most + unsigned_abs x.num + x.den in
+    let own : Fits wide x = record { num = omega arith; den = omega arith } in
+    let other : Fits wide y = record { num = omega (arith, s.fits.num); den = omega (arith, s.fits.den) } in
+    same_Some _ _ (sym (fraction_of-read wide (parts_text x) y (record { spelling = s.spelling; fits = other })) ∙ fraction_of-read wide (parts_text x) x (record { spelling = refl; fits = own }))
+
+-- so items are read as those that they were written of
+each-same : {A : Type 0} (P : A → Type 0) (read : Data → Option A) (data_of : A → Data) → ((x y : A) → P x → read (data_of x) ≡ Some y → y ≡ x)
+    → (xs ys : List A) → All P xs → each read (items_of (map data_of xs)) ≡ Some ys → ys ≡ xs
+unfolding each
+each-same P read data_of same [] [] all h = refl
+each-same P read data_of same [] (y ∷ ys) all h = cc
+each-same P read data_of same (x ∷ xs) ys all h =
+    option_and_then_some _ (read (data_of x)) ys h (λ z e1 h1.
+    option_and_then_some _ (each read (items_of (map data_of xs))) ys h1 (λ zs e2 h2.
+    let is : z ∷ zs ≡ ys = cc in
+    sym is ∙ ap₂ (λ u us. u ∷ us) (same x z (all 0 x (omega arith)) e1) (each-same P read data_of same xs zs (λ k d lt. all (suc k) d (omega (arith, lt))) e2)))
+
+-- ---- the duals of a limit
+module _ (branch outage : ℕ) (up down : Fraction) (b : branch < 2 ^ 32) (o : outage < 2 ^ 32) where
+  prices-same : (unit : ℕ) (y : Dual Fraction) (sized : Bool)
+      → option_and_then (λ u. option_and_then (λ d. if sized then Some (after_unit branch outage u d unit) else None) (fraction_of most_part (parts_text down))) (fraction_of most_part (parts_text up)) ≡ Some y
+      → y ≡ after_unit branch outage up down unit
+  prices-same unit y sized h =
+      option_and_then_some _ (fraction_of most_part (parts_text up)) y h (λ u e1 h1.
+      option_and_then_some _ (fraction_of most_part (parts_text down)) y h1 (λ d e2 h2.
+      sym (cond_some sized (after_unit branch outage u d unit) y h2).1
+      ∙ ap₂ (λ (v w : Fraction). after_unit branch outage v w unit) (fraction-same most_part up u e1) (fraction-same most_part down d e2)))
+
+  unit-same : (unit : ℕ) (y : Dual Fraction) → unit < 2 ^ 32 → limit_in most_part (limit_data (after_unit branch outage up down unit)) ≡ Some y → y ≡ after_unit branch outage up down unit
+  unfolding serde_json_on_literals limit_in
+  unit-same zero y u h = prices-same zero y true (rw (lt-ltb _ _ b, lt-ltb _ _ o) at h)
+  unit-same (suc unit) y u h = prices-same (suc unit) y (5 == members_with (suc unit)) (rw (not_0 unit, lt-ltb _ _ b, lt-ltb _ _ o, lt-ltb _ _ u, not_0 unit) at h)
+
+limit-same : (d y : Dual Fraction) → RowFits d.row → limit_in most_part (limit_data d) ≡ Some y → y ≡ d
+limit-same d y row h = unit-same d.row.branch d.row.outage d.up d.down row.branch row.outage d.row.unit y row.unit h
+
+-- ---- certificates
+blocks-same : (xs ys : List Fraction) → each (fraction_in most_part) (items_of (map fraction_data xs)) ≡ Some ys → ys ≡ xs
+blocks-same xs ys h = each-same (λ x. Unit {0}) (fraction_in most_part) fraction_data (λ x y p e. fraction-same most_part x y e) xs ys (λ k x lt. tt) h
+
+limits-same : (ds es : List (Dual Fraction)) → All (λ d. RowFits d.row) ds → option_and_then if_distinct (each (limit_in most_part) (items_of (map limit_data ds))) ≡ Some es → es ≡ ds
+limits-same ds es rows h =
+    option_and_then_some if_distinct (each (limit_in most_part) (items_of (map limit_data ds))) es h (λ ys e1 h1.
+    sym (cond_some (distinct ys) ys es h1).1 ∙ each-same (λ d. RowFits d.row) (limit_in most_part) limit_data limit-same ds ys rows e1)
+
+cert-same : (c d : Cert Fraction) → RowsFit c → cert_in most_part (cert_data c) ≡ Ok d → d ≡ c
+unfolding serde_json_on_literals cert_in optimal_in farkas_in
+cert-same (cert.Optimal blocks energy limits places) d rows h =
+    let e = needed key.Energy (fraction_of most_part (parts_text energy)) _ d h in
+    let b = needed key.Blocks (each (fraction_in most_part) (items_of (map fraction_data blocks))) _ d e.rest in
+    let l = needed key.Limits (option_and_then if_distinct (each (limit_in most_part) (items_of (map limit_data limits)))) _ d b.rest in
+    let p = needed key.Places (places_named (place_count places)) _ d l.rest in
+    let is = ok_is (cert.Optimal b.value e.value l.value p.value) d p.rest in
+    let same_blocks = blocks-same blocks b.value b.is in
+    let same_energy = fraction-same most_part energy e.value e.is in
+    let same_limits = limits-same limits l.value rows l.is in
+    let same_places = same_Some _ _ (sym p.is ∙ places-back places) in
+    sym is ∙ (λ i. cert.Optimal (same_blocks i) (same_energy i) (same_limits i) (same_places i))
+cert-same (cert.Farkas energy limits places) d rows h =
+    let e = needed key.Energy (fraction_of most_part (parts_text energy)) _ d h in
+    let l = needed key.Limits (option_and_then if_distinct (each (limit_in most_part) (items_of (map limit_data limits)))) _ d e.rest in
+    let p = needed key.Places (places_named (place_count places)) _ d l.rest in
+    let is = ok_is (cert.Farkas e.value l.value p.value) d p.rest in
+    let same_energy = fraction-same most_part energy e.value e.is in
+    let same_limits = limits-same limits l.value rows l.is in
+    let same_places = same_Some _ _ (sym p.is ∙ places-back places) in
+    sym is ∙ (λ i. cert.Farkas (same_energy i) (same_limits i) (same_places i))
+
+read-same : (c d : Cert Fraction) → RowsFit c → cert_read (cert_text c) ≡ Ok d → d ≡ c
+unfolding cert_read
+read-same c d rows h = cert-same c d rows (rw (is_utf8-from_IsUtf8 (cert_text c) (utf8-cert_text c rows), read-cert_text c rows) at h)
+
+pub law_of_migrated_texts : LawOfMigratedTexts
+law_of_migrated_texts c d rows h = ap cert_text (read-same c d rows h)

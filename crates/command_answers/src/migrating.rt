@@ -1,0 +1,44 @@
+//! Certificates that are written anew.
+
+ghost use Rattle.std.specs.Prelude.{◌≡◌, IfOk};
+ghost use Rattle.cert_format.specs.Certificates.{cert_at};
+ghost use Rattle.command_answers.specs.Inputs.{IsMigrated};
+ghost use Rattle.command_answers.specs.Migrating.{TellsMigration};
+ghost use Rattle.command_answers.specs.Status.{IsOfWork};
+ghost use Rattle.command_answers.specs.Tellings.{Tells, telling_of};
+
+use crate::status::Status;
+use crate::told::{Outputs, Told, refused};
+use cert_format::{Cert, to_json};
+use exact_fraction::Exact;
+use line_text::Text;
+use market_inputs::{InputStop, read_certificate};
+use market_model::Memory;
+use std::alloc::Global;
+
+/// What a certificate that was read comes to.
+fn migrated<N: Exact>(alloc: Global, certificate: &Cert<N>) -> Result<Told, Memory>
+    ensures status { IfOk result (λ told. IsOfWork told.status) }
+    ensures migrates { IfOk result (λ told. TellsMigration (cert_at N.value certificate.now) (telling_of told)) }
+{
+    let written = to_json(alloc, certificate)?;
+    let mut text = Text::new(alloc);
+    text.word(b"migrated\n")?;
+    Ok(Told {
+        status: Status::Done,
+        text: text.into_bytes(),
+        outputs: Outputs::certified(Some(written)),
+    })
+}
+
+/// What the whole bytes of a certificate come to, of whatever version, that is to be written anew.
+pub fn migrate_told(alloc: Global, certificate: &[u8]) -> Result<Told, Memory>
+    ensures status { IfOk result (λ told. IsOfWork told.status) }
+    ensures tells { IfOk result (λ told. Tells (IsMigrated certificate.now) TellsMigration (telling_of told)) }
+{
+    match read_certificate(alloc, certificate) {
+        Ok(read) => migrated(alloc, &read),
+        Err(InputStop::Refused(refusal)) => refused(alloc, &refusal),
+        Err(InputStop::Memory) => Err(Memory),
+    }
+}

@@ -1,0 +1,158 @@
+//! Markets that are cleared, with the rights to what their limits earn.
+
+ghost use Rattle.std.specs.Prelude.{◌≡◌, ◌×◌, [], All, IfErr, IfOk, ℕ, length};
+ghost use Rattle.fraction_theory.specs.Fraction.{Fraction};
+ghost use Rattle.market_tables.specs.Tables.{tables_lent};
+ghost use Rattle.market_inputs.specs.Stops.{IsToldAs};
+ghost use Rattle.market_model.specs.Market.{IsMarket};
+ghost use Rattle.market_model.specs.Rights.{IsTransmissionRight};
+ghost use Rattle.market_model.specs.Stops.{StopsBy};
+ghost use Rattle.market_model.specs.Valued.{total_at};
+ghost use Rattle.rights_test.specs.Fits.{IsFit, fit_at};
+ghost use Rattle.rights_test.specs.Paid.{payments_at, payments_of};
+ghost use Rattle.command_answers.specs.Inputs.{AreEntitled, rights_with};
+ghost use Rattle.command_answers.specs.Rights.{EntitlesTo, IsRightsRefusal, TellsFit, TellsRights, fit_status};
+ghost use Rattle.command_answers.specs.Status.{IsOfWork};
+ghost use Rattle.command_answers.specs.Tellings.{Tells, telling_of};
+
+use crate::clearing::{clear_status, cleared};
+use crate::rights_lines::rights_lines;
+use crate::status::Status;
+use crate::told::{Told, refused, uncertified};
+use exact_fraction::{Exact, Frac};
+use line_text::Text;
+use market_data::FactorPlaces;
+use market_inputs::{InputStop, clear_market, read_rights};
+use market_model::{Market, Memory, Outcome, Price, Stop, TransmissionRight};
+use market_tables::MarketTables;
+use net_case::PostRating;
+use report_text::report;
+use rights_test::{Fit, Payments, Rights, fit, pay};
+use std::alloc::Global;
+
+/// A market, and the rights to what its limits earn.
+#[derive(Drop)]
+pub(crate) struct Entitled {
+    pub market: Market,
+    pub rights: Rights,
+}
+
+/// What the files of a market and of rights stand for.
+fn rights_inputs(
+    alloc: Global,
+    bytes: &MarketTables<&[u8]>,
+    rating: PostRating,
+    places: FactorPlaces,
+    rights: &[u8],
+) -> Result<Entitled, InputStop>
+    ensures told { IsToldAs (AreEntitled rating places (tables_lent bytes.now) rights.now) (rights_with result) }
+    ensures kept { IfOk result (λ made. IsMarket made.market × All (IsTransmissionRight (length made.market.buses)) made.rights) }
+{
+    let market = clear_market(alloc, bytes, rating, places)?;
+    let rights = read_rights(alloc, &market, rights)?;
+    Ok(Entitled { market, rights })
+}
+
+/// The status of a fit.
+fn fit_status<N: Exact>(fit: &Fit<N>) -> Status
+    ensures status { result ≡ fit_status (fit_at N.value fit.now) }
+    ensures work { IsOfWork result }
+{
+    match fit {
+        Fit::Fits => Status::Done,
+        Fit::Breaks { .. } => Status::Refuted,
+    }
+}
+
+/// Whether rights fit, and what they are paid.
+#[derive(Drop)]
+struct Entitlement<N> {
+    fit: Fit<N>,
+    payments: Payments<N>,
+}
+
+/// What rights of a market come to at bus prices.
+fn entitlement_of<N: Exact>(
+    alloc: Global,
+    market: &Market,
+    rights: &[TransmissionRight],
+    prices: &[Price<N>],
+) -> Result<Entitlement<N>, Stop<N>>
+    requires prices { length prices.now ≡ length market.now.buses }
+    requires rights { All (IsTransmissionRight (length market.now.buses)) rights.now }
+    ensures fit { IfOk result (λ made. IsFit market.now rights.now (fit_at N.value made.fit)) }
+    ensures payments { IfOk result (λ made. payments_at N.value made.payments ≡ payments_of (total_at N.value prices.now) rights.now) }
+    ensures cause { IfErr result (StopsBy N.value (IsRightsRefusal market.now rights.now (total_at N.value prices.now) N.bound)) }
+{
+    let fit = fit(alloc, market, rights)?;
+    let payments = pay(alloc, rights, prices)?;
+    Ok(Entitlement { fit, payments })
+}
+
+/// What is told of rights behind the report of an answer with these bus prices.
+fn fit_told<N: Exact>(
+    alloc: Global,
+    market: &Market,
+    rights: &[TransmissionRight],
+    prices: &[Price<N>],
+    reported: &[u8],
+) -> Result<Told, Memory>
+    requires prices { length prices.now ≡ length market.now.buses }
+    requires rights { All (IsTransmissionRight (length market.now.buses)) rights.now }
+    ensures status { IfOk result (λ told. IsOfWork told.status) }
+    ensures tells { IfOk result (λ told. TellsFit N.bound market.now rights.now (total_at N.value prices.now) reported.now (telling_of told)) }
+{
+    let mut text = Text::new(alloc);
+    text.word(reported)?;
+    match entitlement_of(alloc, market, rights, prices) {
+        Ok(made) => {
+            rights_lines(&mut text, &made.fit, &made.payments)?;
+            Ok(uncertified(fit_status(&made.fit), text.into_bytes()))
+        }
+        Err(Stop::Passed(passed)) => {
+            let range = report(alloc, market, &Outcome::Range(passed))?;
+            text.word(range.as_slice())?;
+            Ok(uncertified(Status::Range, text.into_bytes()))
+        }
+        Err(Stop::Memory) => Err(Memory),
+    }
+}
+
+/// What clearing a market with rights comes to.
+fn rights_outcome<N: Exact>(
+    alloc: Global,
+    market: &Market,
+    rights: &[TransmissionRight],
+) -> Result<Told, Memory>
+    requires { All (IsTransmissionRight (length market.now.buses)) rights.now }
+    ensures status { IfOk result (λ told. IsOfWork told.status) }
+    ensures entitles { IfOk result (λ told. EntitlesTo N.bound market.now rights.now (telling_of told)) }
+{
+    let outcome = cleared::<N>(alloc, market)?;
+    let reported = report(alloc, market, &outcome)?;
+    match &outcome {
+        Outcome::Cleared(answer) => {
+            let prices = answer.prices.slice();
+            fit_told(alloc, market, rights, prices, reported.as_slice())
+        }
+        _ => Ok(uncertified(clear_status(&outcome), reported)),
+    }
+}
+
+/// What the whole bytes of the files of a market and of a table of rights come to.
+pub fn rights_told(
+    alloc: Global,
+    bytes: &MarketTables<&[u8]>,
+    rating: PostRating,
+    places: FactorPlaces,
+    rights: &[u8],
+) -> Result<Told, Memory>
+    ensures status { IfOk result (λ told. IsOfWork told.status) }
+    ensures tells { IfOk result (λ told. Tells (AreEntitled rating places (tables_lent bytes.now) rights.now) TellsRights (telling_of told)) }
+{
+    match rights_inputs(alloc, bytes, rating, places, rights) {
+        Ok(made) => rights_outcome::<Frac>(alloc, &made.market, made.rights.slice()),
+        Err(InputStop::Refused(refusal)) => refused(alloc, &refusal),
+        Err(InputStop::Memory) => Err(Memory),
+    }
+}

@@ -1,0 +1,126 @@
+-- The laws of runs on transmission rights, and of certificates that are written anew.
+use Rattle.std.specs.Prelude.{◌≡◌, ◌≢◌, ℕ, ◌<◌, List, ◌++◌, All, Option, Some, Ok, codes, length, map}
+use Rattle.std.proofs.Common.{refl, sym, subst, ap, ◌∙◌}
+use Rattle.fraction_theory.specs.Fraction.{Fraction}
+use Rattle.fraction_theory.specs.Order.{◌≤ℚ◌}
+use Rattle.outside_store.specs.Files.{Files}
+use Rattle.market_model.specs.declared.answered.Answer.{Answer}
+use Rattle.market_model.specs.declared.answered.Outcome.{Outcome}
+use Rattle.market_model.specs.declared.answered.Outcome.TheVariants as outcome
+use Rattle.market_model.specs.declared.answered.Price.{Price}
+use Rattle.market_model.specs.declared.participants.Parts.{Parts}
+use Rattle.market_model.specs.declared.participants.TransmissionRight.{TransmissionRight}
+use Rattle.market_model.specs.Dispatch.{places, zero}
+use Rattle.market_model.specs.Market.{IsMarket}
+use Rattle.market_model.specs.Optimality.{bus_price, price_by}
+use Rattle.market_model.specs.RightAnswers.{IsRight, dispatch_in, price_made}
+use Rattle.market_model.specs.Rights.{IsTransmissionRight}
+use Rattle.market_model.specs.Settlement.{surplus}
+use Rattle.market_model.specs.Valued.{total_at}
+use Rattle.market_model.proofs.FarkasLaw.{law_of_infeasibility}
+use Rattle.market_model.proofs.ListSteps.{map-map}
+use Rattle.market_model.proofs.PlaceLists.{filled_at}
+use Rattle.market_model.proofs.RightsLaw.{law_of_the_rights}
+use Rattle.market_system.specs.Outcomes.{IsRightOutcome}
+use Rattle.rights_test.specs.declared.right_parts.Fit.{Fit}
+use Rattle.rights_test.specs.declared.right_parts.Fit.TheVariants as fit
+use Rattle.rights_test.specs.Fits.{IsFit}
+use Rattle.rights_test.specs.Paid.{payments_of}
+use Rattle.rights_test.proofs.FitLemmas.{law_of_covered_payments, law_of_the_fit}
+use Rattle.report_text.specs.Reports.{report_text}
+use Rattle.cert_format.specs.Grammar.{cert_read}
+use Rattle.cert_format.specs.Written.{cert_text}
+use Rattle.cert_format.specs.declared.certificate.Cert.{Cert}
+use Rattle.cert_format.proofs.InverseLemmas.{law_of_migration}
+use Rattle.refusal_text.specs.declared.refusals.Input.TheVariants as input
+use Rattle.refusal_text.specs.declared.refusals.Refusal.TheVariants as refusal
+use Rattle.command_words.specs.Words.{AsksMigrate}
+use Rattle.command_words.proofs.WordsLemmas.{migrates-once}
+use Rattle.command_answers.specs.Clearing.{AreSidesWithin, most_size}
+use Rattle.command_answers.specs.Rights.{TellsFit, TellsOutcome, TellsRights, fitted, passed}
+use Rattle.command_answers.specs.Tellings.{Telling, certified}
+use Rattle.command_answers.specs.declared.status.Status.{Status}
+use Rattle.command_answers.specs.declared.status.Status.TheVariants as status
+use Rattle.command_answers.specs.declared.told.Outputs.{Outputs}
+use Rattle.sced.specs.Asked.{AsksHeld}
+use Rattle.sced.specs.Headline.{IsEntitled, LawOfMigrate, LawOfRights, clear_passes, nothing_qualifies, rights_break, rights_fit, rights_pass}
+use Rattle.sced.specs.Told.{AnswersTo, checked, cleared, entitled, made, migrated, named_bytes, named_outputs, pooled, refused, replayed, verified}
+use Rattle.sced.proofs.AskedLemmas.{migrate-told, no-other, not-refused, rights-told}
+use Rattle.sced.proofs.HeadlineLemmas.{kept-as, read-in, right-best}
+use Rattle.sced.proofs.RunLemmas.{printed}
+
+-- ---- rights
+-- the bus prices of a right answer are those of its duals
+prices-of : (m : Parts) (a : Answer Fraction) → IsRight m a → (i : ℕ) → i < length m.buses → total_at (λ x. x) a.prices i ≡ bus_price m a.duals i
+unfolding price_by
+prices-of m a right =
+    filled_at (bus_price m a.duals) (map (λ (p : Price Fraction). p.total) a.prices) (length m.buses) zero
+    (ap (λ (b : Answer Fraction). map (λ (p : Price Fraction). p.total) b.prices) right.made ∙ map-map (price_made m a.duals) (λ (p : Price Fraction). p.total) (places (length m.buses)))
+
+module _ (m : Parts) (rights : List TransmissionRight) (t : Telling) (text : List ℕ) (s : Status) (words : t.text ≡ text) (ends : t.status ≡ s) where
+  -- what is told, as the text and the status that were put
+  as-told : (e : Telling) → t ≡ e → IsEntitled m rights e.text e.status → IsEntitled m rights text s
+  as-told e is here =
+      subst (λ x. IsEntitled m rights x s) (sym (ap (λ (x : Telling). x.text) is) ∙ words) (subst (IsEntitled m rights e.text) (sym (ap (λ (x : Telling). x.status) is) ∙ ends) here)
+
+  module _ (market : IsMarket m) (held : All (IsTransmissionRight (length m.buses)) rights) where
+    -- rights that fit are paid no more than the surplus of the answer
+    covered : (a : Answer Fraction) → IsRight m a → IsFit m rights fit.Fits → (payments_of (total_at (λ x. x) a.prices) rights).total ≤ℚ a.money.surplus
+    unfolding surplus
+    covered a right is-fit =
+        let price = total_at (λ x. x) a.prices in
+        subst (λ z. (payments_of price rights).total ≤ℚ z) (sym (ap (λ (b : Answer Fraction). b.money.surplus) right.made))
+        (law_of_covered_payments law_of_the_rights m a.duals (dispatch_in a) price rights market right.feasible right.supported (prices-of m a right) held is-fit)
+
+    of-answer : (a : Answer Fraction) → IsRight m a → TellsFit most_size m rights (total_at (λ x. x) a.prices) (report_text m (outcome.Cleared a)) t → IsEntitled m rights text s
+    of-answer a right (fitted fit.Fits is-fit is) =
+        let best = right-best m a market right in
+        as-told _ is (rights_fit a best.0 best.1 ((law_of_the_fit m rights fit.Fits is-fit).0 refl) refl (covered a right is-fit))
+    of-answer a right (fitted (fit.Breaks row flow) is-fit is) =
+        let best = right-best m a market right in
+        let law = law_of_the_fit m rights (fit.Breaks row flow) is-fit in
+        as-told _ is (rights_break a row flow best.0 best.1 (λ feasible. other (law.1 feasible)) is-fit refl)
+      where
+        other : fit.Breaks row flow ≡ fit.Fits → ⊥
+        other bad = cc bad
+    of-answer a right (passed p pair within is) =
+        let best = right-best m a market right in
+        as-told _ is (rights_pass a p best.0 best.1 pair within refl)
+
+    of-outcome : (o : Outcome Fraction) → IsRightOutcome most_size m [] o → AreSidesWithin most_size o → TellsOutcome most_size m rights o t → IsEntitled m rights text s
+    of-outcome (outcome.Cleared a) right sides told = of-answer a right told
+    of-outcome (outcome.Infeasible f) right sides is = as-told _ is (nothing_qualifies f (λ x. law_of_infeasibility m f.duals x market right.shows) right refl)
+    of-outcome (outcome.Range p) right sides is = as-told _ is (clear_passes p right sides refl)
+
+pub law_of_rights : LawOfRights
+law_of_rights words files text s m rights prints asks =
+    let p = printed words files text s prints in
+    let tells = rights-told files words p.telling p.written (Ok (record { market = m; rights = rights })) p.answers asks in
+    of-outcome m rights p.telling text s p.text_is p.status_is tells.market tells.rights tells.entitles.outcome tells.entitles.right tells.entitles.sides tells.entitles.told
+
+-- ---- migrate
+-- what is written is the certificate, to the file that is named for it
+migrate-written : (files : Files) (words : List (List ℕ)) (t : Telling) (w : List (List ℕ × List ℕ)) (old out : List ℕ) → AsksMigrate words old out → AnswersTo (Some files) words t w
+    → w ≡ named_outputs (certified (Some out)) t.outputs
+migrate-written files words t _ old out asks (migrated old' out' asked told) = ap (λ f. named_outputs (certified (Some f)) t.outputs) (migrates-once words old' old out' out asked asks).1
+migrate-written files words t _ old out asks (refused nothing usage) = absurd (not-refused words _ asks.rows nothing asks.enters)
+migrate-written files words t _ old out asks (pooled case offers asked told) = absurd (no-other words (codes "pool") (codes "migrate") asked.rows asks.rows refl asked.enters asks.enters)
+migrate-written files words t _ old out asks (cleared names file asked told) = absurd (no-other words (codes "clear") (codes "migrate") asked.rows asks.rows refl asked.enters asks.enters)
+migrate-written files words t _ old out asks (replayed names edits file asked told) = absurd (no-other words (codes "replay") (codes "migrate") asked.rows asks.rows refl asked.enters asks.enters)
+migrate-written files words t _ old out asks (verified names edits certificate asked told) = absurd (no-other words (codes "verify") (codes "migrate") asked.rows asks.rows refl asked.enters asks.enters)
+migrate-written files words t _ old out asks (entitled names held asked told) = absurd (no-other words (codes "rights") (codes "migrate") asked.rows asks.rows refl asked.enters asks.enters)
+migrate-written files words t _ old out asks (checked names asked told) = absurd (no-other words (codes "check") (codes "migrate") asked.rows asks.rows refl asked.enters asks.enters)
+migrate-written files words t _ old out asks (made buses seed asked told) = absurd (no-other words (codes "make") (codes "migrate") asked.rows asks.rows refl asked.enters asks.enters)
+
+pub law_of_migrate : LawOfMigrate
+law_of_migrate words files later text s c run now asks =
+    let p = printed words files text s run in
+    let tells = migrate-told files words p.telling p.written (Ok c) p.answers asks in
+    let put : p.telling.outputs.certificate ≡ Some (cert_text c) = ap (λ (x : Telling). x.outputs.certificate) tells in
+    let written = migrate-written files words p.telling p.written asks.certificate asks.out asks.asks p.answers ∙ ap (λ b. named_bytes (Some asks.out) b []) put in
+    record {
+      done = sym p.status_is ∙ ap (λ (x : Telling). x.status) tells;
+      said = sym p.text_is ∙ ap (λ (x : Telling). x.text) tells;
+      written = kept-as files later asks.out (Some (cert_text c)) p.written run.after.files written now p.kept;
+      read = law_of_migration asks.stand.certificate c (read-in (refusal.TooLong input.Certificate) asks.stand.certificate c asks.stand.read);
+    }
