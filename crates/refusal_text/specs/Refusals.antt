@@ -148,10 +148,6 @@ key_name key.Limits = codes "limits"
 key_name key.Places = codes "places"
 key_name key.Extra = codes "extra"
 
--- a file that is too long, with the most bytes of a file
-abbrev pub too_long : List ℕ
-too_long = codes "TooLong " ++ codes "limit 33554432"
-
 abbrev pub input_name : Input → List ℕ
 input_name input.Case = codes "case "
 input_name input.Ptdf = codes "ptdf "
@@ -165,20 +161,39 @@ input_name input.Rights = codes "rights "
 input_name input.Edits = codes "edits "
 input_name input.Certificate = codes "certificate "
 
+-- which file it is
+abbrev pub file_name : Refusal → List ℕ
+file_name (refusal.TooLong i) = input_name i
+file_name (refusal.Case f) = codes "case "
+file_name (refusal.Network f) = codes "case "
+file_name (refusal.Split bus) = codes "case "
+file_name (refusal.Table i f) = input_name i
+file_name (refusal.Outages f) = codes "contingencies "
+file_name (refusal.UnitOutages f) = codes "unit-outages "
+file_name (refusal.Uncovered lack) = codes "factors "
+file_name (refusal.Offers f) = codes "offers "
+file_name (refusal.Rights f) = codes "rights "
+file_name (refusal.Edits f) = codes "edits "
+file_name (refusal.Certificate k) = codes "certificate "
+
+-- its fault; of a file that is too long, the most bytes of a file
+unfoldable pub fault_words : Refusal → List ℕ
+fault_words (refusal.TooLong i) = codes "TooLong limit 33554432"
+fault_words (refusal.Case f) = case_words f
+fault_words (refusal.Network f) = net_words f
+fault_words (refusal.Split bus) = codes "Split bus " ++ decimal bus
+fault_words (refusal.Table i f) = table_words f
+fault_words (refusal.Outages f) = outage_words f
+fault_words (refusal.UnitOutages f) = unit_outage_words f
+fault_words (refusal.Uncovered lack) = lack_words lack
+fault_words (refusal.Offers f) = offer_words f
+fault_words (refusal.Rights f) = rights_words f
+fault_words (refusal.Edits f) = step_words f
+fault_words (refusal.Certificate k) = codes "Key " ++ key_name k
+
 -- which file it is, and its fault
 unfoldable pub refusal_words : Refusal → List ℕ
-refusal_words (refusal.TooLong i) = input_name i ++ too_long
-refusal_words (refusal.Case f) = codes "case " ++ case_words f
-refusal_words (refusal.Network f) = codes "case " ++ net_words f
-refusal_words (refusal.Split bus) = codes "case " ++ codes "Split bus " ++ decimal bus
-refusal_words (refusal.Table i f) = input_name i ++ table_words f
-refusal_words (refusal.Outages f) = codes "contingencies " ++ outage_words f
-refusal_words (refusal.UnitOutages f) = codes "unit-outages " ++ unit_outage_words f
-refusal_words (refusal.Uncovered lack) = codes "factors " ++ lack_words lack
-refusal_words (refusal.Offers f) = codes "offers " ++ offer_words f
-refusal_words (refusal.Rights f) = codes "rights " ++ rights_words f
-refusal_words (refusal.Edits f) = codes "edits " ++ step_words f
-refusal_words (refusal.Certificate k) = codes "certificate Key " ++ key_name k
+refusal_words r = file_name r ++ fault_words r
 
 -- the line that refuses a file
 unfoldable pub refusal_line : Refusal → List ℕ

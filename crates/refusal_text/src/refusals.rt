@@ -2,7 +2,7 @@
 
 ghost use Rattle.std.specs.Prelude.{◌≡◌, ◌++◌, codes, decimal, IfOk};
 ghost use Rattle.line_text.specs.Decimals.{decimal_text};
-ghost use Rattle.refusal_text.specs.Refusals.{field_name, why_name, case_words, net_words, frame_words, table_words, side_text, outage_words, unit_outage_words, lack_words, offer_words, rights_words, step_words, key_name, input_name, refusal_words, refusal_line};
+ghost use Rattle.refusal_text.specs.Refusals.{field_name, why_name, case_words, net_words, frame_words, table_words, side_text, outage_words, unit_outage_words, lack_words, offer_words, rights_words, step_words, key_name, input_name, file_name, fault_words, refusal_words, refusal_line};
 
 use case_text::{CaseFault, Field};
 use cert_format::Key;
@@ -362,62 +362,54 @@ fn input_word(input: Input) -> &'static [u8]
     }
 }
 
+/// Which file is refused.
+fn file_word(refusal: &Refusal) -> &'static [u8]
+    ensures { result.now ≡ file_name refusal.now }
+{
+    match refusal {
+        Refusal::TooLong(input) | Refusal::Table(input, _) => input_word(*input),
+        Refusal::Case(_) | Refusal::Network(_) | Refusal::Split { bus: _ } => b"case ",
+        Refusal::Outages(_) => b"contingencies ",
+        Refusal::UnitOutages(_) => b"unit-outages ",
+        Refusal::Uncovered(_) => b"factors ",
+        Refusal::Offers(_) => b"offers ",
+        Refusal::Rights(_) => b"rights ",
+        Refusal::Edits(_) => b"edits ",
+        Refusal::Certificate(_) => b"certificate ",
+    }
+}
+
+/// Its fault.
+#[tactic(auto, using(std::proofs::Common::append_assoc), unfolding(crate::specs::Refusals::fault_words))]
+fn write_fault(text: &mut Text, refusal: &Refusal) -> Result<(), Memory>
+    ensures { IfOk result (λ _. text.new ≡ text.old ++ fault_words refusal.now) }
+{
+    match refusal {
+        Refusal::TooLong(_) => text.word(b"TooLong limit 33554432"),
+        Refusal::Case(fault) => write_case_fault(text, *fault),
+        Refusal::Network(fault) => write_net_fault(text, *fault),
+        Refusal::Split { bus } => numbered(text, b"Split bus ", *bus as usize),
+        Refusal::Table(_, fault) => write_table_fault(text, *fault),
+        Refusal::Outages(fault) => write_outage_fault(text, fault),
+        Refusal::UnitOutages(fault) => write_unit_outage_fault(text, *fault),
+        Refusal::Uncovered(lack) => write_lack(text, *lack),
+        Refusal::Offers(fault) => write_offer_fault(text, *fault),
+        Refusal::Rights(fault) => write_rights_fault(text, *fault),
+        Refusal::Edits(fault) => write_step_fault(text, *fault),
+        Refusal::Certificate(key) => {
+            text.word(b"Key ")?;
+            text.word(key_word(*key))
+        }
+    }
+}
+
 /// Which file is refused, and its fault.
 #[tactic(auto, using(std::proofs::Common::append_assoc), unfolding(crate::specs::Refusals::refusal_words))]
 fn write_refusal(text: &mut Text, refusal: &Refusal) -> Result<(), Memory>
     ensures { IfOk result (λ _. text.new ≡ text.old ++ refusal_words refusal.now) }
 {
-    match refusal {
-        Refusal::TooLong(input) => {
-            text.word(input_word(*input))?;
-            text.word(b"TooLong ")?;
-            text.word(b"limit 33554432")
-        }
-        Refusal::Case(fault) => {
-            text.word(b"case ")?;
-            write_case_fault(text, *fault)
-        }
-        Refusal::Network(fault) => {
-            text.word(b"case ")?;
-            write_net_fault(text, *fault)
-        }
-        Refusal::Split { bus } => {
-            text.word(b"case ")?;
-            numbered(text, b"Split bus ", *bus as usize)
-        }
-        Refusal::Table(input, fault) => {
-            text.word(input_word(*input))?;
-            write_table_fault(text, *fault)
-        }
-        Refusal::Outages(fault) => {
-            text.word(b"contingencies ")?;
-            write_outage_fault(text, fault)
-        }
-        Refusal::UnitOutages(fault) => {
-            text.word(b"unit-outages ")?;
-            write_unit_outage_fault(text, *fault)
-        }
-        Refusal::Uncovered(lack) => {
-            text.word(b"factors ")?;
-            write_lack(text, *lack)
-        }
-        Refusal::Offers(fault) => {
-            text.word(b"offers ")?;
-            write_offer_fault(text, *fault)
-        }
-        Refusal::Rights(fault) => {
-            text.word(b"rights ")?;
-            write_rights_fault(text, *fault)
-        }
-        Refusal::Edits(fault) => {
-            text.word(b"edits ")?;
-            write_step_fault(text, *fault)
-        }
-        Refusal::Certificate(key) => {
-            text.word(b"certificate Key ")?;
-            text.word(key_word(*key))
-        }
-    }
+    text.word(file_word(refusal))?;
+    write_fault(text, refusal)
 }
 
 /// The line that refuses a file.
