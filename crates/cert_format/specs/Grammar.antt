@@ -67,7 +67,7 @@ above_0 (Some n) = if n == 0 then None else Some n
 abbrev pub unit_at : Data → Option ℕ
 unit_at d = if is_none (get (codes "unit") d) then Some 0 else above_0 (in_32 (number_at (codes "unit") d))
 
--- and in a text of either version: the first names none, and has no member for it
+-- and in a text of either version: the first names none, so that a member for it is one too many
 abbrev pub unit_in : Version → Data → Option ℕ
 unit_in version.First d = Some 0
 unit_in version.Second d = unit_at d
