@@ -23,6 +23,7 @@ use Rattle.serde_json.proofs.OnLiterals.{serde_json_on_literals}
 use Rattle.cert_format.specs.declared.certificate.Cert.{Cert}
 use Rattle.cert_format.specs.declared.certificate.Cert.TheVariants as cert
 use Rattle.cert_format.specs.declared.certificate.Key.TheVariants as key
+use Rattle.cert_format.specs.declared.forms.Version.TheVariants as version
 use Rattle.cert_format.specs.Certificates.{CertFits, DualFits, Fits, NumbersFit, RowFits, RowsAreDistinct, cert_at, limits_of, most_part}
 use Rattle.cert_format.specs.FractionTexts.{fraction_of}
 use Rattle.cert_format.specs.Grammar.{cert_in, cert_read, each, farkas_in, fraction_in, limit_in, optimal_in, places_named}
@@ -188,15 +189,15 @@ blocks-back [] h = refl
 blocks-back (x ∷ xs) h = rw (fraction-back most_part x (h 0 x (omega arith)), blocks-back xs (λ k d lt. h (suc k) d (omega (arith, lt)))) refl
 
 unit-back : (branch outage : ℕ) (up down : Fraction) → branch < 2 ^ 32 → outage < 2 ^ 32 → Fits most_part up → Fits most_part down
-    → (unit : ℕ) → unit < 2 ^ 32 → limit_in most_part (limit_data (after_unit branch outage up down unit)) ≡ Some (after_unit branch outage up down unit)
+    → (unit : ℕ) → unit < 2 ^ 32 → limit_in most_part version.Second (limit_data (after_unit branch outage up down unit)) ≡ Some (after_unit branch outage up down unit)
 unfolding serde_json_on_literals limit_in
 unit-back branch outage up down b o hu hd zero u = rw (lt-ltb _ _ b, lt-ltb _ _ o, fraction-back most_part up hu, fraction-back most_part down hd) refl
 unit-back branch outage up down b o hu hd (suc unit) u = rw (not_0 unit, lt-ltb _ _ b, lt-ltb _ _ o, lt-ltb _ _ u, fraction-back most_part up hu, fraction-back most_part down hd, not_0 unit, not_0 unit) refl
 
-limit-back : (d : Dual Fraction) → DualFits most_part d → limit_in most_part (limit_data d) ≡ Some d
+limit-back : (d : Dual Fraction) → DualFits most_part d → limit_in most_part version.Second (limit_data d) ≡ Some d
 limit-back d h = unit-back d.row.branch d.row.outage d.up d.down h.row.branch h.row.outage h.up h.down d.row.unit h.row.unit
 
-limits-back : (ds : List (Dual Fraction)) → All (DualFits most_part) ds → each (limit_in most_part) (items_of (map limit_data ds)) ≡ Some ds
+limits-back : (ds : List (Dual Fraction)) → All (DualFits most_part) ds → each (limit_in most_part version.Second) (items_of (map limit_data ds)) ≡ Some ds
 unfolding each
 limits-back [] h = refl
 limits-back (d ∷ ds) h = rw (limit-back d (h 0 d (omega arith)), limits-back ds (λ k x lt. h (suc k) x (omega (arith, lt)))) refl

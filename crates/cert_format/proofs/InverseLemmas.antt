@@ -15,9 +15,10 @@ use Rattle.cert_format.specs.declared.certificate.Key.TheVariants as key
 use Rattle.cert_format.specs.declared.forms.Kind.{Kind}
 use Rattle.cert_format.specs.declared.forms.Kind.TheVariants as kind
 use Rattle.cert_format.specs.declared.forms.Version.{Version}
+use Rattle.cert_format.specs.declared.forms.Version.TheVariants as version
 use Rattle.cert_format.specs.Certificates.{CertFits, DualFits, Fits, NamesNoRowTwice, RowsAreDistinct, most_part}
 use Rattle.cert_format.specs.FractionTexts.{fraction_of}
-use Rattle.cert_format.specs.Grammar.{above_0, blocks_in, cert_in, cert_read, check, distinct, each, farkas_in, fraction_at, fraction_in, has_size, if_distinct, in_32, json_of, kind_in, limit_in, limits_in, member_count, members_with, need, number_at, of_kind, optimal_in, places_in, unit_at, version_in}
+use Rattle.cert_format.specs.Grammar.{above_0, blocks_in, cert_in, cert_read, check, distinct, each, farkas_in, fraction_at, fraction_in, has_size, if_distinct, in_32, json_of, kind_in, limit_in, limits_in, member_count, members_with, need, number_at, of_kind, optimal_in, places_in, unit_at, unit_in, version_in}
 use Rattle.cert_format.specs.Laws.{LawOfMigration}
 use Rattle.cert_format.proofs.CertLemmas.{reads-back}
 use Rattle.cert_format.proofs.FractionLemmas.{fraction_of-spells}
@@ -63,19 +64,23 @@ unit_at-fits d n h = by (is_none (get (codes "unit") d)) h
     by true is = let here : 0 ≡ n = cc in omega (arith, here)
     by false is = above_0-fits (in_32 (number_at (codes "unit") d)) n is (λ m. in_32-fits (number_at (codes "unit") d) m)
 
-limit_in-fits : (d : Data) (x : Dual Fraction) → limit_in most_part d ≡ Some x → DualFits most_part x
+unit_in-fits : (version : Version) (d : Data) (n : ℕ) → unit_in version d ≡ Some n → n < 2 ^ 32
+unit_in-fits version.First d n h = let here : 0 ≡ n = cc in omega (arith, here)
+unit_in-fits version.Second d n h = unit_at-fits d n h
+
+limit_in-fits : (version : Version) (d : Data) (x : Dual Fraction) → limit_in most_part version d ≡ Some x → DualFits most_part x
 unfolding limit_in
-limit_in-fits d x h =
+limit_in-fits version d x h =
     option_and_then_some _ (in_32 (number_at (codes "branch") d)) x h (λ branch e1 h1.
     option_and_then_some _ (in_32 (number_at (codes "outage") d)) x h1 (λ outage e2 h2.
-    option_and_then_some _ (unit_at d) x h2 (λ unit e3 h3.
+    option_and_then_some _ (unit_in version d) x h2 (λ unit e3 h3.
     option_and_then_some _ (fraction_at most_part (codes "up") d) x h3 (λ up e4 h4.
     option_and_then_some _ (fraction_at most_part (codes "down") d) x h4 (λ down e5 h5.
     subst (DualFits most_part) (cond_some (has_size (members_with unit) d) (record { row = record { branch = branch; outage = outage; unit = unit }; up = up; down = down }) x h5).1 (record {
       row = record {
         branch = in_32-fits (number_at (codes "branch") d) branch e1;
         outage = in_32-fits (number_at (codes "outage") d) outage e2;
-        unit = unit_at-fits d unit e3;
+        unit = unit_in-fits version d unit e3;
       };
       up = fraction_at-fits most_part (codes "up") d up e4;
       down = fraction_at-fits most_part (codes "down") d down e5;
@@ -95,33 +100,33 @@ each-all P read reads (item d ds) xs h =
 blocks_in-fit : (d : Data) (xs : List Fraction) → blocks_in most_part d ≡ Some xs → All (Fits most_part) xs
 blocks_in-fit d xs h = option_and_then_some (each (fraction_in most_part)) (option_and_then as_array (get (codes "blocks") d)) xs h (λ ds e f. each-all (Fits most_part) (fraction_in most_part) (fraction_in-fits most_part) ds xs f)
 
-limits_in-fit : (d : Data) (xs : List (Dual Fraction)) → limits_in most_part d ≡ Some xs → All (DualFits most_part) xs × NamesNoRowTwice xs
-limits_in-fit d xs h =
-    option_and_then_some if_distinct (option_and_then (each (limit_in most_part)) (option_and_then as_array (get (codes "limits") d))) xs h (λ ys e1 h1.
+limits_in-fit : (version : Version) (d : Data) (xs : List (Dual Fraction)) → limits_in most_part version d ≡ Some xs → All (DualFits most_part) xs × NamesNoRowTwice xs
+limits_in-fit version d xs h =
+    option_and_then_some if_distinct (option_and_then (each (limit_in most_part version)) (option_and_then as_array (get (codes "limits") d))) xs h (λ ys e1 h1.
     let p = cond_some (distinct ys) ys xs h1 in
-    option_and_then_some (each (limit_in most_part)) (option_and_then as_array (get (codes "limits") d)) ys e1 (λ ds e2 h2.
-    (subst (All (DualFits most_part)) p.1 (each-all (DualFits most_part) (limit_in most_part) limit_in-fits ds ys h2), subst NamesNoRowTwice p.1 (distinct-names ys p.0))))
+    option_and_then_some (each (limit_in most_part version)) (option_and_then as_array (get (codes "limits") d)) ys e1 (λ ds e2 h2.
+    (subst (All (DualFits most_part)) p.1 (each-all (DualFits most_part) (limit_in most_part version) (limit_in-fits version) ds ys h2), subst NamesNoRowTwice p.1 (distinct-names ys p.0))))
 
 -- ---- certificates
 optimal_in-fits : (version : Version) (energy : Fraction) (d : Data) (c : Cert Fraction) → Fits most_part energy → optimal_in most_part version energy d ≡ Ok c → CertFits c
 unfolding optimal_in
 optimal_in-fits version energy d c fits h =
     let blocks = needed key.Blocks (blocks_in most_part d) _ c h in
-    let limits = needed key.Limits (limits_in most_part d) _ c blocks.rest in
+    let limits = needed key.Limits (limits_in most_part version d) _ c blocks.rest in
     let places = needed key.Places (places_in version d) _ c limits.rest in
     let it = cert.Optimal blocks.value energy limits.value places.value in
     let is : it ≡ c = ok_is it c (checked key.Extra (has_size (member_count version kind.Optimal) d) (Ok it) c places.rest) in
-    let fit = limits_in-fit d limits.value limits.is in
+    let fit = limits_in-fit version d limits.value limits.is in
     subst CertFits is (record { numbers = (blocks_in-fit d blocks.value blocks.is, fits, fit.0); distinct = fit.1 })
 
 farkas_in-fits : (version : Version) (energy : Fraction) (d : Data) (c : Cert Fraction) → Fits most_part energy → farkas_in most_part version energy d ≡ Ok c → CertFits c
 unfolding farkas_in
 farkas_in-fits version energy d c fits h =
-    let limits = needed key.Limits (limits_in most_part d) _ c (checked key.Blocks (is_none (get (codes "blocks") d)) _ c h) in
+    let limits = needed key.Limits (limits_in most_part version d) _ c (checked key.Blocks (is_none (get (codes "blocks") d)) _ c h) in
     let places = needed key.Places (places_in version d) _ c limits.rest in
     let it = cert.Farkas energy limits.value places.value in
     let is : it ≡ c = ok_is it c (checked key.Extra (has_size (member_count version kind.Farkas) d) (Ok it) c places.rest) in
-    let fit = limits_in-fit d limits.value limits.is in
+    let fit = limits_in-fit version d limits.value limits.is in
     subst CertFits is (record { numbers = (fits, fit.0); distinct = fit.1 })
 
 of_kind-fits : (version : Version) (energy : Fraction) (d : Data) (k : Kind) (c : Cert Fraction) → Fits most_part energy → of_kind most_part version energy d k ≡ Ok c → CertFits c

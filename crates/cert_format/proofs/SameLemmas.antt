@@ -14,6 +14,7 @@ use Rattle.serde_json.proofs.OnLiterals.{serde_json_on_literals}
 use Rattle.cert_format.specs.declared.certificate.Cert.{Cert}
 use Rattle.cert_format.specs.declared.certificate.Cert.TheVariants as cert
 use Rattle.cert_format.specs.declared.certificate.Key.TheVariants as key
+use Rattle.cert_format.specs.declared.forms.Version.TheVariants as version
 use Rattle.cert_format.specs.Certificates.{Fits, RowFits, most_part}
 use Rattle.cert_format.specs.FractionTexts.{fraction_of}
 use Rattle.cert_format.specs.Grammar.{cert_in, cert_read, each, farkas_in, fraction_in, if_distinct, distinct, limit_in, members_with, optimal_in, places_named}
@@ -56,29 +57,29 @@ module _ (branch outage : ℕ) (up down : Fraction) (b : branch < 2 ^ 32) (o : o
       sym (cond_some sized (after_unit branch outage u d unit) y h2).1
       ∙ ap₂ (λ (v w : Fraction). after_unit branch outage v w unit) (fraction-same most_part up u e1) (fraction-same most_part down d e2)))
 
-  unit-same : (unit : ℕ) (y : Dual Fraction) → unit < 2 ^ 32 → limit_in most_part (limit_data (after_unit branch outage up down unit)) ≡ Some y → y ≡ after_unit branch outage up down unit
+  unit-same : (unit : ℕ) (y : Dual Fraction) → unit < 2 ^ 32 → limit_in most_part version.Second (limit_data (after_unit branch outage up down unit)) ≡ Some y → y ≡ after_unit branch outage up down unit
   unfolding serde_json_on_literals limit_in
   unit-same zero y u h = prices-same zero y true (rw (lt-ltb _ _ b, lt-ltb _ _ o) at h)
   unit-same (suc unit) y u h = prices-same (suc unit) y (5 == members_with (suc unit)) (rw (not_0 unit, lt-ltb _ _ b, lt-ltb _ _ o, lt-ltb _ _ u, not_0 unit) at h)
 
-limit-same : (d y : Dual Fraction) → RowFits d.row → limit_in most_part (limit_data d) ≡ Some y → y ≡ d
+limit-same : (d y : Dual Fraction) → RowFits d.row → limit_in most_part version.Second (limit_data d) ≡ Some y → y ≡ d
 limit-same d y row h = unit-same d.row.branch d.row.outage d.up d.down row.branch row.outage d.row.unit y row.unit h
 
 -- ---- certificates
 blocks-same : (xs ys : List Fraction) → each (fraction_in most_part) (items_of (map fraction_data xs)) ≡ Some ys → ys ≡ xs
 blocks-same xs ys h = each-same (λ x. Unit {0}) (fraction_in most_part) fraction_data (λ x y p e. fraction-same most_part x y e) xs ys (λ k x lt. tt) h
 
-limits-same : (ds es : List (Dual Fraction)) → All (λ d. RowFits d.row) ds → option_and_then if_distinct (each (limit_in most_part) (items_of (map limit_data ds))) ≡ Some es → es ≡ ds
+limits-same : (ds es : List (Dual Fraction)) → All (λ d. RowFits d.row) ds → option_and_then if_distinct (each (limit_in most_part version.Second) (items_of (map limit_data ds))) ≡ Some es → es ≡ ds
 limits-same ds es rows h =
-    option_and_then_some if_distinct (each (limit_in most_part) (items_of (map limit_data ds))) es h (λ ys e1 h1.
-    sym (cond_some (distinct ys) ys es h1).1 ∙ each-same (λ d. RowFits d.row) (limit_in most_part) limit_data limit-same ds ys rows e1)
+    option_and_then_some if_distinct (each (limit_in most_part version.Second) (items_of (map limit_data ds))) es h (λ ys e1 h1.
+    sym (cond_some (distinct ys) ys es h1).1 ∙ each-same (λ d. RowFits d.row) (limit_in most_part version.Second) limit_data limit-same ds ys rows e1)
 
 cert-same : (c d : Cert Fraction) → RowsFit c → cert_in most_part (cert_data c) ≡ Ok d → d ≡ c
 unfolding serde_json_on_literals cert_in optimal_in farkas_in
 cert-same (cert.Optimal blocks energy limits places) d rows h =
     let e = needed key.Energy (fraction_of most_part (parts_text energy)) _ d h in
     let b = needed key.Blocks (each (fraction_in most_part) (items_of (map fraction_data blocks))) _ d e.rest in
-    let l = needed key.Limits (option_and_then if_distinct (each (limit_in most_part) (items_of (map limit_data limits)))) _ d b.rest in
+    let l = needed key.Limits (option_and_then if_distinct (each (limit_in most_part version.Second) (items_of (map limit_data limits)))) _ d b.rest in
     let p = needed key.Places (places_named (place_count places)) _ d l.rest in
     let is = ok_is (cert.Optimal b.value e.value l.value p.value) d p.rest in
     let same_blocks = blocks-same blocks b.value b.is in
@@ -88,7 +89,7 @@ cert-same (cert.Optimal blocks energy limits places) d rows h =
     sym is ∙ (λ i. cert.Optimal (same_blocks i) (same_energy i) (same_limits i) (same_places i))
 cert-same (cert.Farkas energy limits places) d rows h =
     let e = needed key.Energy (fraction_of most_part (parts_text energy)) _ d h in
-    let l = needed key.Limits (option_and_then if_distinct (each (limit_in most_part) (items_of (map limit_data limits)))) _ d e.rest in
+    let l = needed key.Limits (option_and_then if_distinct (each (limit_in most_part version.Second) (items_of (map limit_data limits)))) _ d e.rest in
     let p = needed key.Places (places_named (place_count places)) _ d l.rest in
     let is = ok_is (cert.Farkas e.value l.value p.value) d p.rest in
     let same_energy = fraction-same most_part energy e.value e.is in

@@ -67,13 +67,18 @@ above_0 (Some n) = if n == 0 then None else Some n
 abbrev pub unit_at : Data → Option ℕ
 unit_at d = if is_none (get (codes "unit") d) then Some 0 else above_0 (in_32 (number_at (codes "unit") d))
 
+-- and in a text of either version: the first names none, so that a member for it is one too many
+abbrev pub unit_in : Version → Data → Option ℕ
+unit_in version.First d = Some 0
+unit_in version.Second d = unit_at d
+
 -- how many members the duals of a row have: the unit's is there where it is not 0
 abbrev pub members_with : ℕ → ℕ
 members_with unit = if unit == 0 then 4 else 5
 
 -- the duals of a row: branch, outage, unit where it is not 0, up and down, and nothing else
-unfoldable pub limit_in : ℕ → Data → Option (Dual Fraction)
-limit_in most d =
+unfoldable pub limit_in : ℕ → Version → Data → Option (Dual Fraction)
+limit_in most version d =
     option_and_then (λ branch.
     option_and_then (λ outage.
     option_and_then (λ unit.
@@ -82,7 +87,7 @@ limit_in most d =
     if has_size (members_with unit) d then Some (record { row = record { branch = branch; outage = outage; unit = unit }; up = up; down = down }) else None)
     (fraction_at most (codes "down") d))
     (fraction_at most (codes "up") d))
-    (unit_at d))
+    (unit_in version d))
     (in_32 (number_at (codes "outage") d)))
     (in_32 (number_at (codes "branch") d))
 
@@ -103,8 +108,8 @@ distinct (d ∷ ds) = not (list_any (is_of d.row) ds) && distinct ds
 abbrev pub if_distinct : List (Dual Fraction) → Option (List (Dual Fraction))
 if_distinct ds = if distinct ds then Some ds else None
 
-abbrev pub limits_in : ℕ → Data → Option (List (Dual Fraction))
-limits_in most d = option_and_then if_distinct (option_and_then (each (limit_in most)) (option_and_then as_array (get (codes "limits") d)))
+abbrev pub limits_in : ℕ → Version → Data → Option (List (Dual Fraction))
+limits_in most version d = option_and_then if_distinct (option_and_then (each (limit_in most version)) (option_and_then as_array (get (codes "limits") d)))
 
 -- ---- the parts of a certificate
 abbrev pub blocks_in : ℕ → Data → Option (List Fraction)
@@ -151,14 +156,14 @@ check k test r = if test then r else Err k
 unfoldable pub optimal_in : ℕ → Version → Fraction → Data → Result (Cert Fraction) Key
 optimal_in most version energy d =
     need key.Blocks (blocks_in most d) (λ blocks.
-    need key.Limits (limits_in most d) (λ limits.
+    need key.Limits (limits_in most version d) (λ limits.
     need key.Places (places_in version d) (λ places.
     check key.Extra (has_size (member_count version kind.Optimal) d) (Ok (cert.Optimal blocks energy limits places)))))
 
 unfoldable pub farkas_in : ℕ → Version → Fraction → Data → Result (Cert Fraction) Key
 farkas_in most version energy d =
     check key.Blocks (is_none (get (codes "blocks") d)) (
-    need key.Limits (limits_in most d) (λ limits.
+    need key.Limits (limits_in most version d) (λ limits.
     need key.Places (places_in version d) (λ places.
     check key.Extra (has_size (member_count version kind.Farkas) d) (Ok (cert.Farkas energy limits places)))))
 

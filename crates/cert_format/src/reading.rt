@@ -9,7 +9,7 @@ ghost use Rattle.cert_format.specs.declared.certificate.CertFault.TheVariants as
 ghost use Rattle.cert_format.specs.declared.certificate.Key.{Key};
 ghost use Rattle.cert_format.specs.declared.certificate.Key.TheVariants as key;
 ghost use Rattle.cert_format.specs.Certificates.{RowsAreDistinct, cert_at, name_of, same_triple};
-ghost use Rattle.cert_format.specs.Grammar.{Gives, blocks_in, cert_in, cert_read, each, farkas_in, fraction_at, fraction_in, if_distinct, in_32, limit_in, limits_in, members_with, need, number_at, optimal_in, unit_at};
+ghost use Rattle.cert_format.specs.Grammar.{Gives, blocks_in, cert_in, cert_read, each, farkas_in, fraction_at, fraction_in, if_distinct, in_32, limit_in, limits_in, members_with, need, number_at, optimal_in, unit_at, unit_in};
 
 use crate::forms::{Kind, Version, kind_in, member_count, places_in, version_in};
 use crate::fractions::fraction;
@@ -56,6 +56,16 @@ fn unit_at(value: &Value) -> Option<u32>
     }
 }
 
+/// The unit that is lost, in a text of either version: the first has no member for it, and names none.
+fn unit_in(version: Version, value: &Value) -> Option<u32>
+    ensures { result ≡ unit_in version (view value.now) }
+{
+    match version {
+        Version::First => Some(0),
+        Version::Second => unit_at(value),
+    }
+}
+
 /// How many members the duals of a row have: that of the unit is there where it is not 0.
 fn members_with(unit: u32) -> usize
     ensures { result ≡ members_with unit }
@@ -64,12 +74,12 @@ fn members_with(unit: u32) -> usize
 }
 
 /// The duals of a row.
-fn limit_in<N: Exact>(value: &Value) -> Option<Dual<N>>
-    ensures { option_map (dual_at N.value) result ≡ limit_in N.bound (view value.now) }
+fn limit_in<N: Exact>(version: Version, value: &Value) -> Option<Dual<N>>
+    ensures { option_map (dual_at N.value) result ≡ limit_in N.bound version (view value.now) }
 {
     let branch = row_at(value, "branch")?;
     let outage = row_at(value, "outage")?;
-    let unit = unit_at(value)?;
+    let unit = unit_in(version, value)?;
     let up = fraction_at(value, "up")?;
     let down = fraction_at(value, "down")?;
     if !has_size(value, members_with(unit)) {
@@ -120,14 +130,18 @@ fn add_row(rows: &mut IndexSet<(u32, u32, u32)>, row: RowId) -> Result<bool, Mem
 }
 
 /// Limits, of which no two are of one row.
-fn limits_of<N: Exact>(alloc: Global, values: &[Value]) -> Result<List<Dual<N>>, CertFault>
+fn limits_of<N: Exact>(
+    alloc: Global,
+    version: Version,
+    values: &[Value],
+) -> Result<List<Dual<N>>, CertFault>
     ensures { Gives (map (dual_at N.value)) result
-        (need key.Limits (option_and_then if_distinct (each (limit_in N.bound) (items_view values.now))) Ok) }
+        (need key.Limits (option_and_then if_distinct (each (limit_in N.bound version) (items_view values.now))) Ok) }
 {
     let mut rows = IndexSet::new(alloc);
     let mut limits = List::new(alloc);
     for value in values {
-        let Some(limit) = limit_in::<N>(value) else {
+        let Some(limit) = limit_in::<N>(version, value) else {
             return Err(CertFault::Key { key: Key::Limits });
         };
         let is_new = add_row(&mut rows, limit.row)?;
@@ -139,11 +153,15 @@ fn limits_of<N: Exact>(alloc: Global, values: &[Value]) -> Result<List<Dual<N>>,
     Ok(limits)
 }
 
-fn limits_in<N: Exact>(alloc: Global, value: &Value) -> Result<List<Dual<N>>, CertFault>
-    ensures { Gives (map (dual_at N.value)) result (need key.Limits (limits_in N.bound (view value.now)) Ok) }
+fn limits_in<N: Exact>(
+    alloc: Global,
+    version: Version,
+    value: &Value,
+) -> Result<List<Dual<N>>, CertFault>
+    ensures { Gives (map (dual_at N.value)) result (need key.Limits (limits_in N.bound version (view value.now)) Ok) }
 {
     match value.get("limits").and_then(Value::as_array) {
-        Some(values) => limits_of(alloc, values.as_slice()),
+        Some(values) => limits_of(alloc, version, values.as_slice()),
         None => Err(CertFault::Key { key: Key::Limits }),
     }
 }
@@ -158,7 +176,7 @@ fn optimal_in<N: Exact>(
     ensures { Gives (cert_at N.value) result (optimal_in N.bound version (N.value energy) (view value.now)) }
 {
     let blocks = blocks_in(alloc, value)?;
-    let limits = limits_in(alloc, value)?;
+    let limits = limits_in(alloc, version, value)?;
     let Some(places) = places_in(version, value) else {
         return Err(CertFault::Key { key: Key::Places });
     };
@@ -185,7 +203,7 @@ fn farkas_in<N: Exact>(
     if value.get("blocks").is_some() {
         return Err(CertFault::Key { key: Key::Blocks });
     }
-    let limits = limits_in(alloc, value)?;
+    let limits = limits_in(alloc, version, value)?;
     let Some(places) = places_in(version, value) else {
         return Err(CertFault::Key { key: Key::Places });
     };

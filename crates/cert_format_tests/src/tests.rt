@@ -16,7 +16,7 @@ const LOST: &str =
     r#"{"energy":"-1/1","kind":"farkas","limits":[{"branch":2,"down":"0/1","outage":0,"up":"2/1"},{"branch":2,"down":"0/1","outage":0,"unit":1,"up":"2/1"},{"branch":2,"down":"0/1","outage":0,"unit":4294967295,"up":"2/1"}],"places":6,"version":2}"#;
 
 /// Texts that are no certificates, each with the first part that is not in the grammar.
-static FAULTS: [(&str, Key); 32] = [
+static FAULTS: [(&str, Key); 33] = [
     ("{", Key::Json),
     ("[]", Key::Json),
     (r#"{"version":1.0}"#, Key::Version),
@@ -78,15 +78,19 @@ static FAULTS: [(&str, Key); 32] = [
         Key::Limits,
     ),
     (
-        r#"{"version":1,"kind":"farkas","energy":"1/2","limits":[{"branch":1,"outage":0,"unit":0,"up":"0/1","down":"0/1"}]}"#,
+        r#"{"version":2,"kind":"farkas","energy":"1/2","limits":[{"branch":1,"outage":0,"unit":0,"up":"0/1","down":"0/1"}]}"#,
         Key::Limits,
     ),
     (
-        r#"{"version":1,"kind":"farkas","energy":"1/2","limits":[{"branch":1,"outage":0,"unit":4294967296,"up":"0/1","down":"0/1"}]}"#,
+        r#"{"version":2,"kind":"farkas","energy":"1/2","limits":[{"branch":1,"outage":0,"unit":4294967296,"up":"0/1","down":"0/1"}]}"#,
         Key::Limits,
     ),
     (
-        r#"{"version":1,"kind":"farkas","energy":"1/2","limits":[{"branch":1,"outage":0,"unit":3,"up":"0/1","down":"0/1"},{"branch":1,"outage":0,"unit":3,"up":"1/1","down":"0/1"}]}"#,
+        r#"{"version":2,"kind":"farkas","energy":"1/2","limits":[{"branch":1,"outage":0,"unit":3,"up":"0/1","down":"0/1"},{"branch":1,"outage":0,"unit":3,"up":"1/1","down":"0/1"}]}"#,
+        Key::Limits,
+    ),
+    (
+        r#"{"version":1,"kind":"farkas","energy":"1/2","limits":[{"branch":1,"outage":0,"unit":3,"up":"0/1","down":"0/1"}]}"#,
         Key::Limits,
     ),
     (

@@ -25,7 +25,7 @@ returns-in_err-limits g c =
     let d = view c.args.value.now in
     let lacking : is_none (get (codes "blocks") d) ≡ true = none-of c.get.result (λ v. view v.now) (get (codes "blocks") d) false c.get.ensures (sym c.is_some.ensures ∙ c.if-is_some.false) in
     let given : c.from_residual.result ≡ Err c.in_err-limits.field-0.0 = search rules in
-    rw (given, lacking) (fails-further key.Limits (limits_in most d) (λ limits. need key.Places (places_in c.args.version d) (λ places. check key.Extra (has_size (member_count c.args.version kind.Farkas) d) (Ok (cert.Farkas (g.N.Exact.value c.args.energy) limits places))))
+    rw (given, lacking) (fails-further key.Limits (limits_in most c.args.version d) (λ limits. need key.Places (places_in c.args.version d) (λ places. check key.Extra (has_size (member_count c.args.version kind.Farkas) d) (Ok (cert.Farkas (g.N.Exact.value c.args.energy) limits places))))
     (map (dual_at g.N.Exact.value)) (cert_at g.N.Exact.value) c.in_err-limits.field-0.0 c.in_err-limits.ensures)
 
 pub returns-in_default : goal.returns-in_default
@@ -34,7 +34,7 @@ returns-in_default g c =
     let most = g.N.Exact.bound in
     let d = view c.args.value.now in
     let lacking : is_none (get (codes "blocks") d) ≡ true = none-of c.get.result (λ v. view v.now) (get (codes "blocks") d) false c.get.ensures (sym c.is_some.ensures ∙ c.if-is_some.false) in
-    let limits = need-some key.Limits (limits_in most d) (map (dual_at g.N.Exact.value) c.in_ok-limits.limits) c.in_ok-limits.ensures in
+    let limits = need-some key.Limits (limits_in most c.args.version d) (map (dual_at g.N.Exact.value) c.in_ok-limits.limits) c.in_ok-limits.ensures in
     let places = sym c.places_in.ensures ∙ c.in_default.is in
     rw (lacking, limits, places) refl
 
@@ -44,7 +44,7 @@ returns-then-not-has_size g c =
     let most = g.N.Exact.bound in
     let d = view c.args.value.now in
     let lacking : is_none (get (codes "blocks") d) ≡ true = none-of c.get.result (λ v. view v.now) (get (codes "blocks") d) false c.get.ensures (sym c.is_some.ensures ∙ c.if-is_some.false) in
-    let limits = need-some key.Limits (limits_in most d) (map (dual_at g.N.Exact.value) c.in_ok-limits.limits) c.in_ok-limits.ensures in
+    let limits = need-some key.Limits (limits_in most c.args.version d) (map (dual_at g.N.Exact.value) c.in_ok-limits.limits) c.in_ok-limits.ensures in
     let places = sym c.places_in.ensures ∙ c.in-Some.is in
     let size = ap (λ n. has_size n d) (sym c.member_count.ensures) ∙ sym c.has_size.ensures ∙ c.if-not-has_size.true in
     rw (lacking, limits, places, size) refl
@@ -55,7 +55,7 @@ returns g c =
     let most = g.N.Exact.bound in
     let d = view c.args.value.now in
     let lacking : is_none (get (codes "blocks") d) ≡ true = none-of c.get.result (λ v. view v.now) (get (codes "blocks") d) false c.get.ensures (sym c.is_some.ensures ∙ c.if-is_some.false) in
-    let limits = need-some key.Limits (limits_in most d) (map (dual_at g.N.Exact.value) c.in_ok-limits.limits) c.in_ok-limits.ensures in
+    let limits = need-some key.Limits (limits_in most c.args.version d) (map (dual_at g.N.Exact.value) c.in_ok-limits.limits) c.in_ok-limits.ensures in
     let places = sym c.places_in.ensures ∙ c.in-Some.is in
     let size = ap (λ n. has_size n d) (sym c.member_count.ensures) ∙ sym c.has_size.ensures ∙ c.if-not-has_size.false in
     rw (lacking, limits, places, size) refl

@@ -22,7 +22,7 @@ unfolding limit_in
 returns-in_err-unit g c =
     let branch = sym c.row_at.ensures ∙ c.in_ok-branch.was in
     let outage = sym c.row_at-2.ensures ∙ c.in_ok-outage.was in
-    let unit = sym c.unit_at.ensures ∙ c.in_err-unit.was in
+    let unit = sym c.unit_in.ensures ∙ c.in_err-unit.was in
     rw (c.from_residual-in_err-unit.ensures, branch, outage, unit) refl
 
 pub returns-in_err-up : goal.returns-in_err-up
@@ -30,7 +30,7 @@ unfolding limit_in
 returns-in_err-up g c =
     let branch = sym c.row_at.ensures ∙ c.in_ok-branch.was in
     let outage = sym c.row_at-2.ensures ∙ c.in_ok-outage.was in
-    let unit = sym c.unit_at.ensures ∙ c.in_ok-unit.was in
+    let unit = sym c.unit_in.ensures ∙ c.in_ok-unit.was in
     let up = sym c.fraction_at.ensures ∙ ap (option_map g.N.Exact.value) c.in_err-up.was in
     rw (c.from_residual-in_err-up.ensures, branch, outage, unit, up) refl
 
@@ -39,7 +39,7 @@ unfolding limit_in
 returns-in_err-down g c =
     let branch = sym c.row_at.ensures ∙ c.in_ok-branch.was in
     let outage = sym c.row_at-2.ensures ∙ c.in_ok-outage.was in
-    let unit = sym c.unit_at.ensures ∙ c.in_ok-unit.was in
+    let unit = sym c.unit_in.ensures ∙ c.in_ok-unit.was in
     let up = sym c.fraction_at.ensures ∙ ap (option_map g.N.Exact.value) c.in_ok-up.was in
     let down = sym c.fraction_at-2.ensures ∙ ap (option_map g.N.Exact.value) c.in_err-down.was in
     rw (c.from_residual-in_err-down.ensures, branch, outage, unit, up, down) refl
@@ -49,7 +49,7 @@ unfolding limit_in
 returns-then-not-has_size g c =
     let branch = sym c.row_at.ensures ∙ c.in_ok-branch.was in
     let outage = sym c.row_at-2.ensures ∙ c.in_ok-outage.was in
-    let unit = sym c.unit_at.ensures ∙ c.in_ok-unit.was in
+    let unit = sym c.unit_in.ensures ∙ c.in_ok-unit.was in
     let up = sym c.fraction_at.ensures ∙ ap (option_map g.N.Exact.value) c.in_ok-up.was in
     let down = sym c.fraction_at-2.ensures ∙ ap (option_map g.N.Exact.value) c.in_ok-down.was in
     let size = ap (λ n. has_size n (view c.args.value.now)) (sym c.members_with.ensures) ∙ sym c.has_size.ensures ∙ c.if-not-has_size.true in
@@ -60,7 +60,7 @@ unfolding limit_in
 returns g c =
     let branch = sym c.row_at.ensures ∙ c.in_ok-branch.was in
     let outage = sym c.row_at-2.ensures ∙ c.in_ok-outage.was in
-    let unit = sym c.unit_at.ensures ∙ c.in_ok-unit.was in
+    let unit = sym c.unit_in.ensures ∙ c.in_ok-unit.was in
     let up = sym c.fraction_at.ensures ∙ ap (option_map g.N.Exact.value) c.in_ok-up.was in
     let down = sym c.fraction_at-2.ensures ∙ ap (option_map g.N.Exact.value) c.in_ok-down.was in
     let size = ap (λ n. has_size n (view c.args.value.now)) (sym c.members_with.ensures) ∙ sym c.has_size.ensures ∙ c.if-not-has_size.false in

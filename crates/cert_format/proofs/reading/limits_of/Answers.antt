@@ -11,35 +11,35 @@ use Rattle.cert_format.proofs.reading.limits_of.Goals as goal
 
 pub loop-value-init : goal.loop-value-init
 loop-value-init g c = record {
-  read = rw c.new-limits.ensures (rest-start (limit_in g.N.Exact.bound) c.args.values.now);
+  read = rw c.new-limits.ensures (rest-start (limit_in g.N.Exact.bound c.args.version) c.args.values.now);
   rows = rw c.new-limits.ensures c.new-rows.ensures.empty;
   once = rw c.new-limits.ensures refl;
 }
 
 pub returns-in_default : goal.returns-in_default
 returns-in_default g c =
-    let here : limit_in g.N.Exact.bound (view (get_or c.args.values.now c.loop-value.value-index c.value-item.result)) ≡ None =
-    ap (λ v. limit_in g.N.Exact.bound (view v)) (sym c.value-item.is) ∙ sym c.limit_in.ensures ∙ ap (option_map (dual_at g.N.Exact.value)) c.in_default.is in
+    let here : limit_in g.N.Exact.bound c.args.version (view (get_or c.args.values.now c.loop-value.value-index c.value-item.result)) ≡ None =
+    ap (λ v. limit_in g.N.Exact.bound c.args.version (view v)) (sym c.value-item.is) ∙ sym c.limit_in.ensures ∙ ap (option_map (dual_at g.N.Exact.value)) c.in_default.is in
     let none = c.loop-value.invariant.read
-    ∙ rest-none (limit_in g.N.Exact.bound) (map (dual_at g.N.Exact.value) c.loop-value.limits) c.args.values.now c.loop-value.value-index c.value-item.result c.loop-value-test.true here in
+    ∙ rest-none (limit_in g.N.Exact.bound c.args.version) (map (dual_at g.N.Exact.value) c.loop-value.limits) c.args.values.now c.loop-value.value-index c.value-item.result c.loop-value-test.true here in
     ap (λ o. need key.Limits (option_and_then if_distinct o) (λ xs. Ok xs)) none
 
 pub returns-then-not-is_new : goal.returns-then-not-is_new
 returns-then-not-is_new g c =
-    let here : limit_in g.N.Exact.bound (view (get_or c.args.values.now c.loop-value.value-index c.value-item.result)) ≡ Some (dual_at g.N.Exact.value c.in-Some.limit) =
-    ap (λ v. limit_in g.N.Exact.bound (view v)) (sym c.value-item.is) ∙ sym c.limit_in.ensures ∙ ap (option_map (dual_at g.N.Exact.value)) c.in-Some.is in
+    let here : limit_in g.N.Exact.bound c.args.version (view (get_or c.args.values.now c.loop-value.value-index c.value-item.result)) ≡ Some (dual_at g.N.Exact.value c.in-Some.limit) =
+    ap (λ v. limit_in g.N.Exact.bound c.args.version (view v)) (sym c.value-item.is) ∙ sym c.limit_in.ensures ∙ ap (option_map (dual_at g.N.Exact.value)) c.in-Some.is in
     let read = c.loop-value.invariant.read
-    ∙ rest-step (limit_in g.N.Exact.bound) (map (dual_at g.N.Exact.value) c.loop-value.limits) c.args.values.now c.loop-value.value-index c.value-item.result (dual_at g.N.Exact.value c.in-Some.limit) c.loop-value-test.true here in
+    ∙ rest-step (limit_in g.N.Exact.bound c.args.version) (map (dual_at g.N.Exact.value) c.loop-value.limits) c.args.values.now c.loop-value.value-index c.value-item.result (dual_at g.N.Exact.value c.in-Some.limit) c.loop-value-test.true here in
     let there = sym (test_is g.N.Exact.value c.loop-value.limits c.in-Some.limit c.loop-value.rows.keys c.loop-value.invariant.rows) ∙ not-false _ (sym c.in_ok-is_new.ensures.is_new ∙ c.if-not-is_new.true) in
     ap (λ o. need key.Limits (option_and_then if_distinct o) (λ xs. Ok xs)) read
-    ∙ ap (λ o. need key.Limits o (λ xs. Ok xs)) (repeated (map (dual_at g.N.Exact.value) c.loop-value.limits) (dual_at g.N.Exact.value c.in-Some.limit) (left_of (limit_in g.N.Exact.bound) c.args.values.now (c.loop-value.value-index + 1)) there)
+    ∙ ap (λ o. need key.Limits o (λ xs. Ok xs)) (repeated (map (dual_at g.N.Exact.value) c.loop-value.limits) (dual_at g.N.Exact.value c.in-Some.limit) (left_of (limit_in g.N.Exact.bound c.args.version) c.args.values.now (c.loop-value.value-index + 1)) there)
 
 pub loop-value-preserved : goal.loop-value-preserved
 loop-value-preserved g c =
-    let here : limit_in g.N.Exact.bound (view (get_or c.args.values.now c.loop-value.value-index c.value-item.result)) ≡ Some (dual_at g.N.Exact.value c.in-Some.limit) =
-    ap (λ v. limit_in g.N.Exact.bound (view v)) (sym c.value-item.is) ∙ sym c.limit_in.ensures ∙ ap (option_map (dual_at g.N.Exact.value)) c.in-Some.is in
+    let here : limit_in g.N.Exact.bound c.args.version (view (get_or c.args.values.now c.loop-value.value-index c.value-item.result)) ≡ Some (dual_at g.N.Exact.value c.in-Some.limit) =
+    ap (λ v. limit_in g.N.Exact.bound c.args.version (view v)) (sym c.value-item.is) ∙ sym c.limit_in.ensures ∙ ap (option_map (dual_at g.N.Exact.value)) c.in-Some.is in
     let read = c.loop-value.invariant.read
-    ∙ rest-step (limit_in g.N.Exact.bound) (map (dual_at g.N.Exact.value) c.loop-value.limits) c.args.values.now c.loop-value.value-index c.value-item.result (dual_at g.N.Exact.value c.in-Some.limit) c.loop-value-test.true here in
+    ∙ rest-step (limit_in g.N.Exact.bound c.args.version) (map (dual_at g.N.Exact.value) c.loop-value.limits) c.args.values.now c.loop-value.value-index c.value-item.result (dual_at g.N.Exact.value c.in-Some.limit) c.loop-value-test.true here in
     let fresh = not-true _ (sym c.in_ok-is_new.ensures.is_new ∙ c.if-not-is_new.false) in
     let pushed = c.in_ok-push.ensures in
     let seen = seen-push g.N.Exact.value c.loop-value.limits c.in-Some.limit c.loop-value.rows.keys c.loop-value.invariant.rows fresh c.push.new.self pushed in
@@ -52,5 +52,5 @@ loop-value-preserved g c =
 pub returns : goal.returns
 returns g c =
     let all = c.loop-value.invariant.read
-    ∙ rest-end (limit_in g.N.Exact.bound) (map (dual_at g.N.Exact.value) c.loop-value.limits) c.args.values.now c.loop-value.value-index c.loop-value-test.false in
+    ∙ rest-end (limit_in g.N.Exact.bound c.args.version) (map (dual_at g.N.Exact.value) c.loop-value.limits) c.args.values.now c.loop-value.value-index c.loop-value-test.false in
     ap (λ o. need key.Limits (option_and_then if_distinct o) (λ xs. Ok xs)) all ∙ rw c.loop-value.invariant.once refl
