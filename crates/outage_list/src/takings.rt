@@ -8,7 +8,7 @@ ghost use Rattle.outage_list.specs.Takings.{IsTaking, are_gen_rows, are_live, is
 
 use crate::UnitOutageFault;
 use csv_table::Table;
-use market_data::{SHARE_PLACES, MOST_SHARE};
+use market_data::{MOST_SHARE, SHARE_PLACES};
 use net_case::Network;
 use plain_list::List;
 use record_reading::{FrameFault, Why};

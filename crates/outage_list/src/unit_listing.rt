@@ -10,7 +10,7 @@ ghost use Rattle.outage_list.specs.UnitListing.{PicksUpAll, is_uneven, listed_by
 use crate::UnitOutageFault;
 use crate::takings::{Taking, takings_of};
 use csv_table::read_table;
-use market_data::{SHARE_ONE, MOST_PICKUPS};
+use market_data::{MOST_PICKUPS, SHARE_ONE};
 use market_model::Pickup;
 use net_case::Network;
 use plain_list::{List, Memory};
