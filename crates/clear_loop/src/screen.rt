@@ -8,7 +8,7 @@ ghost use Rattle.limit_screen.specs.Screening.{IsScreenRefusal};
 ghost use Rattle.clear_loop.specs.Rounds.{IsScreened};
 
 use exact_fraction::Exact;
-use limit_screen::{flows_made, worst_row};
+use limit_screen::{flows_made, whole_parts, worst_row_by_parts};
 use market_model::{Market, Row, Stop};
 use std::alloc::Global;
 
@@ -35,7 +35,8 @@ pub(crate) fn screened_at<N: Exact>(
 {
     let _lines = market.lines();
     let by_place = flows_made(alloc, market, dispatch)?;
-    match worst_row(market, &by_place, taken)? {
+    let parts = whole_parts(alloc, market, &by_place)?;
+    match worst_row_by_parts(market, &by_place, &parts, taken)? {
         Some(row) => Ok(Screened::Broken(row)),
         None => Ok(Screened::Within(by_place)),
     }

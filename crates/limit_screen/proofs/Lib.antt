@@ -1,2 +1,5 @@
+pub mod BoundLemmas
+pub mod Casts
+pub mod PartLemmas
 pub mod ScreenLemmas
 pub mod TakenLemmas

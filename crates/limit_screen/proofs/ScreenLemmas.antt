@@ -1,8 +1,8 @@
 -- The worst of some rows, with one row more.
-use Rattle.std.specs.Prelude.{◌≡◌, ◌⊎◌, ℕ, ◌+◌, ◌-◌, ◌<◌, ◌≤◌, pos, List, [], ◌∷◌, ◌++◌, map, length, All, Option, Some, None, Contains, refl}
+use Rattle.std.specs.Prelude.{◌≡◌, ◌⊎◌, ℕ, ℤ, ◌+◌, ◌-◌, ◌<◌, ◌≤◌, pos, List, [], ◌∷◌, ◌++◌, map, length, All, Option, Some, None, Contains, refl}
 use Rattle.std.specs.List.{slice_get}
 use Rattle.std.specs.Ordering.{MatchOrdering}
-use Rattle.std.proofs.Common.{zero, suc, arith, inl, inr, ap, ap₂, sym, subst, ◌∙◌, get_or, drop, take, Ordering, Less, Equal, Greater}
+use Rattle.std.proofs.Common.{zero, suc, arith, inl, inr, ap, sym, subst, ◌∙◌, get_or, drop, take, Ordering, Less, Equal, Greater}
 use Rattle.std.proofs.lemmas.List.{length-append, get_or_append_left, get_or-append_right, get_or-drop, drop-map, take-map, take_rest}
 use Rattle.std.proofs.Math.Seq.{take-append_seam}
 use Rattle.std.proofs.lemmas.List.FromFn.{length-map-range_with_len, get_or-map-range_with_len}
@@ -32,6 +32,7 @@ use Rattle.limit_rows.proofs.FlowSteps.{flow_terms-same}
 use Rattle.market_model.proofs.RowMembers.{at_places}
 use Rattle.limit_screen.specs.declared.screening.RowOverrun.{RowOverrun}
 use Rattle.market_model.specs.Market.{IsMarket}
+use Rattle.limit_screen.specs.Bounds.{IsLeastOf}
 use Rattle.limit_screen.specs.Flows.{carried_at, flows_at, LawOfRowFlows}
 use Rattle.limit_screen.specs.Screening.{AllKeep, IsWorstOf}
 
@@ -52,11 +53,11 @@ from_below : (x y : Fraction) → (x -ℚ y) ≤ℚ whole (pos 0) → x ≤ℚ y
 from_below x y h = by_le1 (x ∷ y ∷ []) (at 0) (at 1) pone (padd (at 0) (pneg (at 1))) pnil NonNeg-one h refl
 
 -- ---- one row more
-slice_get-seam : (xs : List Row) (x : Row) → slice_get (xs ++ x ∷ []) (length xs) ≡ Some x
+pub slice_get-seam : {X : Type 0} (xs : List X) (x : X) → slice_get (xs ++ x ∷ []) (length xs) ≡ Some x
 slice_get-seam [] x = refl
 slice_get-seam (y ∷ xs) x = slice_get-seam xs x
 
-slice_get-left : (xs ys : List Row) (i : ℕ) → i < length xs → slice_get (xs ++ ys) i ≡ slice_get xs i
+pub slice_get-left : {X : Type 0} (xs ys : List X) (i : ℕ) → i < length xs → slice_get (xs ++ ys) i ≡ slice_get xs i
 slice_get-left [] ys i h = absurd (Prim.omega (arith, h))
 slice_get-left (x ∷ xs) ys zero h = refl
 slice_get-left (x ∷ xs) ys (suc i) h = slice_get-left xs ys i (Prim.omega (arith, h))
@@ -164,8 +165,16 @@ module _ {N : Type 0} (value : N → Fraction) (m : Parts) (taken : List Row) (f
   -- one that keeps what it may be changes nothing
   pub kept : (worst : Option (RowOverrun N)) → IsWorstOf value m taken f rs worst → Keeps m taken r (f r) → IsWorstOf value m taken f (rs ++ r ∷ []) worst
   kept None before keeps = All-append (λ s. Keeps m taken s (f s)) rs (r ∷ []) before (All-one (λ s. Keeps m taken s (f s)) r keeps)
-  kept (Some b) ((place, worst), is) keeps =
-      ((place, old_worst (λ s. IsBeyond m taken s (f s)) (λ s. overrun m s (f s)) rs r place b.row worst (λ beyond. absurd (keeps_not_beyond m taken r (f r) keeps beyond))), is)
+  kept (Some b) ((place, worst), is, low) keeps =
+      ((place, old_worst (λ s. IsBeyond m taken s (f s)) (λ s. overrun m s (f s)) rs r place b.row worst (λ beyond. absurd (keeps_not_beyond m taken r (f r) keeps beyond))), is, low)
+
+  -- one whose overrun is not above a number that is not above that of the worst changes nothing
+  pub no_worse : (worst : Option (RowOverrun N)) (most : ℤ) → IsMarket m → IsLeastOf worst most → IsWorstOf value m taken f rs worst → overrun m r (f r) ≤ℚ whole most → IsWorstOf value m taken f (rs ++ r ∷ []) worst
+  no_worse None most market is before less = kept None before (keeps_limit m taken r (f r) market (subst (λ n. overrun m r (f r) ≤ℚ whole n) is less))
+  no_worse (Some b) most market is ((place, worst), same, low) less =
+      let under : whole b.least ≤ℚ overrun m b.row (f b.row) = subst (λ t. whole b.least ≤ℚ t) same low in
+      let most_under : overrun m r (f r) ≤ℚ whole b.least = subst (λ n. overrun m r (f r) ≤ℚ whole n) is less in
+      ((place, old_worst (λ s. IsBeyond m taken s (f s)) (λ s. overrun m s (f s)) rs r place b.row worst (λ _. ≤ℚ_trans (overrun m r (f r)) (whole b.least) (overrun m b.row (f b.row)) most_under under)), same, low)
 
 -- ---- the flows of a dispatch
 module _ (m : Parts) (x : Dispatch) (fs : List Fraction) (puts : fs ≡ flows_at m x) where

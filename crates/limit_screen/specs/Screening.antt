@@ -1,6 +1,7 @@
 -- Which limit is passed by the most, where so much is carried.
 use Rattle.std.specs.Prelude.{◌≡◌, ℕ, List, Option, Some, None, map, All, Contains}
-use Rattle.fraction_theory.specs.Fraction.{Fraction}
+use Rattle.fraction_theory.specs.Fraction.{Fraction, whole}
+use Rattle.fraction_theory.specs.Order.{◌≤ℚ◌}
 use Rattle.exact_fraction.specs.declared.Passed.{Passed}
 use Rattle.market_model.specs.declared.answered.RowId.{RowId}
 use Rattle.market_model.specs.declared.participants.Parts.{Parts}
@@ -37,8 +38,9 @@ AreTaken m taken (Names given) = AreNamesOf m taken given.now
 abbrev pub IsScreenRefusal : Parts → Carried → ℕ → Passed Fraction → Type 0
 IsScreenRefusal m c bound p = (r : Row) × Contains (rows m) r × IsFlowRefusal m c r bound p
 
--- the worst of some rows with its overrun, the first of several, or none where all of them keep what they may be
+-- the worst of some rows with its overrun and a whole number that is not above this, the first of several, or none where all of them keep
+-- what they may be
 abbrev pub IsWorstOf : {N : Type 0} → (N → Fraction) → Parts → List Row → (Row → Fraction) → List Row → Option (RowOverrun N) → Type 0
 IsWorstOf value m taken f rs None = All (λ s. Keeps m taken s (f s)) rs
 IsWorstOf value m taken f rs (Some b) =
-    ((place : ℕ) × IsFirstMost (λ s. IsBeyond m taken s (f s)) (λ s. overrun m s (f s)) rs place b.row) × (value b.overrun ≡ overrun m b.row (f b.row))
+    ((place : ℕ) × IsFirstMost (λ s. IsBeyond m taken s (f s)) (λ s. overrun m s (f s)) rs place b.row) × (value b.overrun ≡ overrun m b.row (f b.row)) × (whole b.least ≤ℚ value b.overrun)

@@ -1,6 +1,6 @@
 //! Which limit flows pass by the most.
 
-ghost use Rattle.std.specs.Prelude.{◌≡◌, ◌+◌, ◌≤ℤ◌, ℤ, pos, List, [], ◌∷◌, ◌++◌, length, map, Contains, IfOk, IfErr, MatchBool, MatchOption};
+ghost use Rattle.std.specs.Prelude.{◌≡◌, ◌+◌, ◌≤ℤ◌, ℤ, pos, List, [], ◌∷◌, ◌++◌, length, map, Contains, IfOk, IfErr, MatchBool, MatchOption, IsTrue};
 ghost use Rattle.fraction_theory.specs.Fraction.{Fraction, ◌-ℚ◌, whole};
 ghost use Rattle.fraction_theory.specs.Order.{◌<ℚ◌, ◌≤ℚ◌};
 ghost use Rattle.fraction_theory.specs.Signs.{abs_ℚ};
@@ -9,11 +9,13 @@ ghost use Rattle.market_model.specs.Dispatch.{zero};
 ghost use Rattle.market_model.specs.Overrun.{IsBeyond, Keeps, overrun as overrun_of};
 ghost use Rattle.market_model.specs.declared.limits.Row.{Row};
 ghost use Rattle.market_model.specs.declared.participants.Parts.{Parts};
-ghost use Rattle.market_model.specs.LimitRows.{flow_by, rows};
+ghost use Rattle.market_model.specs.LimitRows.{Carried, flow_by, rows};
 ghost use Rattle.market_model.specs.SumTables.{IsFlowRefusal};
+ghost use Rattle.limit_screen.specs.Bounds.{AreWholeParts, IsLeastOf};
 ghost use Rattle.limit_screen.specs.Flows.{carried_at};
 ghost use Rattle.limit_screen.specs.Screening.{AllKeep, AreNamesOf, AreTaken, IsScreenRefusal, IsWorstBy, IsWorstNamed, IsWorstOf};
 
+use crate::bounds::{is_within, near_flow};
 use crate::flowing::carried_flows;
 use crate::taking::{Taken, is_taken};
 use exact_fraction::{Exact, Passed, exact_difference, size};
@@ -27,6 +29,8 @@ struct RowOverrun<N> {
     row: Row,
     /// By how much, in 10^-9 MW.
     overrun: N,
+    /// A whole number of 10^-9 MW that is not above that.
+    least: i64,
 }
 
 /// By how much a flow passes a limit; nothing where it doesn't. That is never too large: its parts are no greater than those of the flow.
@@ -56,17 +60,31 @@ fn keeps_excess<N: Exact>(market: &Market, taken: Taken<'_>, row: Row, overrun: 
     }
 }
 
+/// The whole part of an overrun, and 0 where 64 bits do not hold that.
+fn least_of<N: Exact>(overrun: N) -> i64
+    requires { zero <ℚ N.value overrun }
+    ensures { whole result ≤ℚ N.value overrun }
+{
+    overrun.floor().unwrap_or(0)
+}
+
 /// The worse of two rows, and the first where they are as bad.
 fn worse<N: Exact>(worst: Option<RowOverrun<N>>, row: Row, overrun: N) -> Option<RowOverrun<N>>
+    requires { zero <ℚ N.value overrun }
     ensures { (m : Parts) (g : List Row) (f : Row → Fraction) (rs : List Row) → IsWorstOf N.value m g f rs worst → IsBeyond m g row (f row) → N.value overrun ≡ overrun_of m row (f row)
         → IsWorstOf N.value m g f (rs ++ row ∷ []) result }
 {
+    let found = RowOverrun {
+        row,
+        overrun,
+        least: least_of(overrun),
+    };
     match worst {
         Some(broken) => match overrun.order(broken.overrun) {
-            Ordering::Greater => Some(RowOverrun { row, overrun }),
+            Ordering::Greater => Some(found),
             Ordering::Less | Ordering::Equal => Some(broken),
         },
-        None => Some(RowOverrun { row, overrun }),
+        None => Some(found),
     }
 }
 
@@ -98,20 +116,68 @@ fn with_row<N: Exact>(
     }
 }
 
+/// The whole number that is told of the overrun of the worst row so far; 0 where there is none.
+fn least_overrun<N: Exact>(worst: Option<RowOverrun<N>>) -> i64
+    ensures { IsLeastOf worst result }
+{
+    match worst {
+        Some(broken) => broken.least,
+        None => 0,
+    }
+}
+
+/// Whether whole parts of what is carried tell that a row passes its limit by no more than this, in 10^-9 MW.
+fn is_told_within(market: &Market, parts: &[Option<i64>], row: Row, most: i64) -> bool
+    requires { Contains (rows market.now) row }
+    ensures { (c : Carried) → AreWholeParts market.now c parts.now → IsTrue result → overrun_of market.now row (flow_by market.now c row) ≤ℚ whole most }
+{
+    let _lines = market.lines();
+    match near_flow(market, parts, row) {
+        Some(flow) => is_within(flow, limit_at(market, row), most),
+        None => false,
+    }
+}
+
+/// The worst with one row more, which is passed over where whole parts tell that it is no worse.
+fn with_row_by_parts<N: Exact>(
+    market: &Market,
+    flows: &[N],
+    parts: &[Option<i64>],
+    taken: Taken<'_>,
+    row: Row,
+    worst: Option<RowOverrun<N>>,
+) -> Result<Option<RowOverrun<N>>, Passed<N>>
+    requires flows { length flows.now ≡ length market.now.buses + length market.now.lines + length market.now.unit_outages }
+    requires parts { AreWholeParts market.now (carried_at market.now (map N.value flows.now)) parts.now }
+    requires row { Contains (rows market.now) row }
+    ensures worst { (g rs : List Row) → AreTaken market.now g taken.entry → IsWorstOf N.value market.now g (flow_by market.now (carried_at market.now (map N.value flows.now))) rs worst
+        → IfOk result (IsWorstOf N.value market.now g (flow_by market.now (carried_at market.now (map N.value flows.now))) (rs ++ row ∷ [])) }
+    ensures cause { IfErr result (λ passed. IsFlowRefusal market.now (carried_at market.now (map N.value flows.now)) row N.bound (passed_at N.value passed)) }
+{
+    let _lines = market.lines();
+    if is_told_within(market, parts, row, least_overrun(worst)) {
+        Ok(worst)
+    } else {
+        with_row(market, flows, taken, row, worst)
+    }
+}
+
 /// The worst of all rows.
 fn worst_taken<N: Exact>(
     market: &Market,
     flows: &[N],
+    parts: &[Option<i64>],
     taken: Taken<'_>,
 ) -> Result<Option<Row>, Passed<N>>
-    requires { length flows.now ≡ length market.now.buses + length market.now.lines + length market.now.unit_outages }
+    requires parts { AreWholeParts market.now (carried_at market.now (map N.value flows.now)) parts.now }
+    requires flows { length flows.now ≡ length market.now.buses + length market.now.lines + length market.now.unit_outages }
     ensures worst { (g : List Row) → AreTaken market.now g taken.entry → IfOk result (λ worst. MatchOption worst (AllKeep market.now g (carried_at market.now (map N.value flows.now)))
         (IsWorstBy market.now g (carried_at market.now (map N.value flows.now)))) }
     ensures cause { IfErr result (λ passed. IsScreenRefusal market.now (carried_at market.now (map N.value flows.now)) N.bound (passed_at N.value passed)) }
 {
     let mut worst = None;
     for row in rows(market) {
-        worst = with_row(market, flows, taken, row, worst)?;
+        worst = with_row_by_parts(market, flows, parts, taken, row, worst)?;
     }
     match worst {
         Some(broken) => Ok(Some(broken.row)),
@@ -131,7 +197,22 @@ pub fn worst_row<N: Exact>(
     ensures worst { IfOk result (λ worst. MatchOption worst (AllKeep market.now taken.now (carried_at market.now (map N.value flows.now))) (IsWorstBy market.now taken.now (carried_at market.now (map N.value flows.now)))) }
     ensures cause { IfErr result (λ passed. IsScreenRefusal market.now (carried_at market.now (map N.value flows.now)) N.bound (passed_at N.value passed)) }
 {
-    worst_taken(market, flows, Taken::Rows(taken))
+    worst_taken(market, flows, &[], Taken::Rows(taken))
+}
+
+/// The same by the whole parts of what is carried too, as `whole_parts` gives them: by these most rows that keep their limits are told.
+pub fn worst_row_by_parts<N: Exact>(
+    market: &Market,
+    flows: &[N],
+    parts: &[Option<i64>],
+    taken: &[Row],
+) -> Result<Option<Row>, Passed<N>>
+    requires flows { length flows.now ≡ length market.now.buses + length market.now.lines + length market.now.unit_outages }
+    requires parts { AreWholeParts market.now (carried_at market.now (map N.value flows.now)) parts.now }
+    ensures worst { IfOk result (λ worst. MatchOption worst (AllKeep market.now taken.now (carried_at market.now (map N.value flows.now))) (IsWorstBy market.now taken.now (carried_at market.now (map N.value flows.now)))) }
+    ensures cause { IfErr result (λ passed. IsScreenRefusal market.now (carried_at market.now (map N.value flows.now)) N.bound (passed_at N.value passed)) }
+{
+    worst_taken(market, flows, parts, Taken::Rows(taken))
 }
 
 /// The same by names.
@@ -147,7 +228,7 @@ pub fn worst<N: Exact>(
     ensures cause { IfErr result (λ passed. IsScreenRefusal market.now (carried_at market.now (map N.value flows.now)) N.bound (passed_at N.value passed)) }
 {
     let _lines = market.lines();
-    match worst_taken(market, flows, Taken::Names(taken))? {
+    match worst_taken(market, flows, &[], Taken::Names(taken))? {
         Some(row) => Ok(Some(name_at(market, row))),
         None => Ok(None),
     }

@@ -21,19 +21,27 @@ returns-in_err-by_place-clause-cause g c =
     rw given
     (on_passed_weaker c.in_err-by_place.field-0.0 (λ p. IsFlowsRefusal c.args.market.now (dispatch_of value c.args.dispatch.now) g.N.Exact.bound (passed_at value p)) _ (λ p refused. inl refused) c.in_err-by_place.ensures.cause)
 
-pub worst_row-requires : goal.worst_row-requires
-worst_row-requires g c =
+pub whole_parts-requires : goal.whole_parts-requires
+whole_parts-requires g c =
     let value = g.N.Exact.value in
     let m = c.args.market.now in
     let x = dispatch_of value c.args.dispatch.now in
     let fs : map value c.deref.result.now ≡ flows_at m x = ap (map value) c.deref.ensures.value ∙ c.in_ok-by_place.ensures.flows in
     sym (length-map c.deref.result.now value) ∙ flow_count m x (map value c.deref.result.now) fs
 
+pub worst_row_by_parts-requires-clause-flows : goal.worst_row_by_parts-requires-clause-flows
+worst_row_by_parts-requires-clause-flows g c =
+    let value = g.N.Exact.value in
+    let m = c.args.market.now in
+    let x = dispatch_of value c.args.dispatch.now in
+    let fs : map value c.deref-2.result.now ≡ flows_at m x = ap (map value) c.deref-2.ensures.value ∙ c.in_ok-by_place.ensures.flows in
+    sym (length-map c.deref-2.result.now value) ∙ flow_count m x (map value c.deref-2.result.now) fs
+
 pub returns-in_err-row-clause-cause : goal.returns-in_err-row-clause-cause
 returns-in_err-row-clause-cause g c =
     let value = g.N.Exact.value in
     let m = c.args.market.now in
-    let fs : map value c.deref.result.now ≡ flows_at m (dispatch_of value c.args.dispatch.now) = ap (map value) c.deref.ensures.value ∙ c.in_ok-by_place.ensures.flows in
+    let fs : map value c.deref-2.result.now ≡ flows_at m (dispatch_of value c.args.dispatch.now) = ap (map value) c.deref-2.ensures.value ∙ c.in_ok-by_place.ensures.flows in
     let p = err_from_is_err_and c.from_residual-in_err-row.result c.from_residual-in_err-row.ensures.1 in
     let given : c.from_residual-in_err-row.result ≡ Err (stop.Passed c.in_err-row.field-0.0) = p.1 ∙ ap Err p.2 in
     rw given (inr (subst (λ (ys : List Fraction). IsScreenRefusal m (carried_at m ys) g.N.Exact.bound (passed_at value c.in_err-row.field-0.0)) fs c.in_err-row.ensures.cause))
@@ -43,19 +51,19 @@ returns-in-Some-clause-screened g c =
     let value = g.N.Exact.value in
     let m = c.args.market.now in
     let x = dispatch_of value c.args.dispatch.now in
-    let fs : map value c.deref.result.now ≡ flows_at m x = ap (map value) c.deref.ensures.value ∙ c.in_ok-by_place.ensures.flows in
-    let f = carried_at m (map value c.deref.result.now) in
+    let fs : map value c.deref-2.result.now ≡ flows_at m x = ap (map value) c.deref-2.ensures.value ∙ c.in_ok-by_place.ensures.flows in
+    let f = carried_at m (map value c.deref-2.result.now) in
     let g = c.args.taken.now in
     let worst = subst (λ (o : Option Row). MatchOption o (AllKeep m g f) (IsWorstBy m g f)) c.in-Some.is c.in_ok-row.ensures.worst in
-    (worst.0, worst_at m c.lines-lines.ensures.market g x (map value c.deref.result.now) fs worst.0 c.in-Some.row worst.1)
+    (worst.0, worst_at m c.lines-lines.ensures.market g x (map value c.deref-2.result.now) fs worst.0 c.in-Some.row worst.1)
 
 pub returns-in-None-clause-screened : goal.returns-in-None-clause-screened
 returns-in-None-clause-screened g c =
     let value = g.N.Exact.value in
     let m = c.args.market.now in
     let x = dispatch_of value c.args.dispatch.now in
-    let fs : map value c.deref.result.now ≡ flows_at m x = ap (map value) c.deref.ensures.value ∙ c.in_ok-by_place.ensures.flows in
-    let f = carried_at m (map value c.deref.result.now) in
+    let fs : map value c.deref-2.result.now ≡ flows_at m x = ap (map value) c.deref-2.ensures.value ∙ c.in_ok-by_place.ensures.flows in
+    let f = carried_at m (map value c.deref-2.result.now) in
     let g = c.args.taken.now in
     let keep = subst (λ (o : Option Row). MatchOption o (AllKeep m g f) (IsWorstBy m g f)) c.in-None.is c.in_ok-row.ensures.worst in
-    (all_kept m c.lines-lines.ensures.market g x (map value c.deref.result.now) fs keep, ap (map value) (sym c.deref.ensures.value) ∙ fs)
+    (all_kept m c.lines-lines.ensures.market g x (map value c.deref-2.result.now) fs keep, ap (map value) (sym c.deref-2.ensures.value) ∙ fs)
