@@ -1,7 +1,12 @@
 -- What the certificates that are written say of their markets.
 use Rattle.std.specs.Prelude.{◌≡◌, ◌⊎◌, ◌++◌, ◌≤◌, [], ◌∷◌, ℕ, List, All, Some, None, Ok, codes, length, option_and_then}
 use Rattle.fraction_theory.specs.Fraction.{Fraction}
+use Rattle.exact_fraction.specs.declared.Passed.{Passed}
+use Rattle.market_model.specs.declared.answered.Answer.{Answer}
+use Rattle.market_model.specs.declared.answered.Farkas.{Farkas}
+use Rattle.market_model.specs.declared.answered.Outcome.TheVariants as outcome
 use Rattle.market_model.specs.declared.participants.Parts.{Parts}
+use Rattle.market_model.specs.declared.participants.TransmissionRight.{TransmissionRight}
 use Rattle.cert_format.specs.declared.certificate.Cert.{Cert}
 use Rattle.cert_format.specs.Certificates.{cert_of_outcome}
 use Rattle.cert_format.specs.Grammar.{cert_read}
@@ -16,11 +21,17 @@ use Rattle.market_inputs.specs.Files.{most_file, sized}
 use Rattle.market_inputs.specs.Replaying.{steps_in}
 use Rattle.market_data.specs.declared.scales.FactorPlaces.{FactorPlaces}
 use Rattle.net_case.specs.declared.live_parts.PostRating.{PostRating}
+use Rattle.report_text.specs.ReportLaws.{FitsReport}
+use Rattle.report_text.specs.Reports.{range_text, report_text}
+use Rattle.rights_test.specs.declared.right_parts.Fit.{Fit}
+use Rattle.rights_test.specs.declared.right_parts.Payments.{Payments}
 use Rattle.refusal_text.specs.declared.refusals.Input.TheVariants as input
 use Rattle.refusal_text.specs.declared.refusals.Refusal.TheVariants as refusal
 use Rattle.command_answers.specs.Clearing.{TellsClear}
 use Rattle.command_answers.specs.Inputs.{IsCertified, IsLimited, MarketSteps}
 use Rattle.command_answers.specs.Replaying.{TellsReplay, last_clear}
+use Rattle.command_answers.specs.Rights.{EntitlesTo}
+use Rattle.command_answers.specs.RightsLines.{rights_lines}
 use Rattle.command_answers.specs.Tellings.{Telling, Tells, uncertified}
 use Rattle.command_answers.specs.Verifying.{TellsVerdict}
 use Rattle.command_answers.specs.declared.status.Status.TheVariants as status
@@ -69,3 +80,36 @@ abbrev pub LawOfTheSameFiles : Type 0
 LawOfTheSameFiles =
     (rating : PostRating) (places : FactorPlaces) (files : MarketTexts) (edits text : List ℕ) (clear verify : Telling) → Tells (IsLimited rating places files) TellsClear clear → clear.outputs.certificate ≡ Some text → length text ≤ most_file
     → steps_in (sized (refusal.TooLong input.Edits) edits) ≡ Ok [] → Tells (IsCertified rating places files edits text) TellsVerdict verify → IsYesOrRange verify
+
+-- ---- what is told of rights
+-- What `rights` prints of a market: an answer with whether the rights fit and what they are paid; an answer with two numbers that became too
+-- large there; or what is no answer, and nothing of rights.
+pub data RightsReport : Type 0 where
+  paid : Answer Fraction → Fit Fraction → Payments Fraction → RightsReport
+  unpaid : Answer Fraction → Passed Fraction → RightsReport
+  infeasible : Farkas Fraction → RightsReport
+  range : Passed Fraction → RightsReport
+
+-- its text
+abbrev pub rights_report_text : Parts → RightsReport → List ℕ
+rights_report_text m (paid a f p) = report_text m (outcome.Cleared a) ++ rights_lines f p
+rights_report_text m (unpaid a p) = report_text m (outcome.Cleared a) ++ range_text p
+rights_report_text m (infeasible f) = report_text m (outcome.Infeasible f)
+rights_report_text m (range p) = report_text m (outcome.Range p)
+
+-- its answer, where there is one, fits the market's report; nothing is asked of the fit and the payments
+abbrev pub FitsRightsReport : Parts → RightsReport → Type 0
+FitsRightsReport m (paid a f p) = FitsReport m a
+FitsRightsReport m (unpaid a p) = FitsReport m a
+FitsRightsReport m (infeasible f) = Unit {0}
+FitsRightsReport m (range p) = Unit {0}
+
+-- two of these that fit a market and have one text are of the same kind with the same contents
+abbrev pub LawOfTheRightsText : Type 0
+LawOfTheRightsText = (m : Parts) (r s : RightsReport) → FitsRightsReport m r → FitsRightsReport m s → rights_report_text m r ≡ rights_report_text m s → r ≡ s
+
+-- what is told of one market with two lists of rights is of one outcome and has one status where it has one text
+abbrev pub LawOfTheRightsTelling : Type 0
+LawOfTheRightsTelling =
+    (bound : ℕ) (m : Parts) (rights others : List TransmissionRight) (t u : Telling) (x : EntitlesTo bound m rights t) (y : EntitlesTo bound m others u)
+    → t.text ≡ u.text → (x.outcome ≡ y.outcome) × (t ≡ u)

@@ -1,6 +1,6 @@
 //! Laws of what commands come to, each the contract of a function that does nothing.
 
-ghost use Rattle.command_answers.specs.Laws.{LawOfTheReplay, LawOfTheRoundTrip, LawOfTheSameFiles, LawOfYes};
+ghost use Rattle.command_answers.specs.Laws.{LawOfTheReplay, LawOfTheRightsTelling, LawOfTheRightsText, LawOfTheRoundTrip, LawOfTheSameFiles, LawOfYes};
 
 /// What a clear of a market writes is read back as the certificate of what it came to, which is true of the market: the verdict on it is yes.
 pub fn certificates_come_back()
@@ -21,4 +21,15 @@ pub fn certificates_that_come_back_hold()
 /// are too large.
 pub fn the_same_files_say_yes()
     ensures { LawOfTheSameFiles }
+{}
+
+/// What is printed of a market and of rights has one reading: two of these texts that are equal tell of one answer, one fit and one list of
+/// payments, or of the same two numbers that became too large, behind that answer or alone, or of the same duals that no dispatch is feasible.
+pub fn rights_text_has_one_reading()
+    ensures { LawOfTheRightsText }
+{}
+
+/// Two runs over one market, with whatever rights, that print one text came to the same outcome and status.
+pub fn rights_text_tells_the_outcome()
+    ensures { LawOfTheRightsTelling }
 {}

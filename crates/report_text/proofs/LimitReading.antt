@@ -47,7 +47,7 @@ is_zero : (n : ℕ) → (n == 0) ≡ true → n ≡ 0
 is_zero n e = Prim.grind (arith, nat_tests)
 
 -- another word than `lost` comes next
-abbrev Next : List ℕ → Type 0
+abbrev pub Next : List ℕ → Type 0
 Next [] = ⊥
 Next (c ∷ us) = c ≢ 108
 
@@ -85,7 +85,8 @@ words_apart false false d f j k l n us vs p q r s g h e =
 same_row : (a b : RowId) → a.branch ≡ b.branch → a.outage ≡ b.outage → a.unit ≡ b.unit → a ≡ b
 same_row a b e f g = λ i. record { branch = e i; outage = f i; unit = g i }
 
-rows_apart : (a b : RowId) (us vs : List ℕ) → Next us → Next vs → row_text a ++ 32 ∷ us ≡ row_text b ++ 32 ∷ vs → (a ≡ b) × (us ≡ vs)
+-- the name of a limit, a blank and what comes after it
+pub rows_apart : (a b : RowId) (us vs : List ℕ) → Next us → Next vs → row_text a ++ 32 ∷ us ≡ row_text b ++ 32 ∷ vs → (a ≡ b) × (us ≡ vs)
 unfolding row_text
 rows_apart a b us vs g h e =
     let behind = λ (r : RowId) (ts : List ℕ). words (r.outage == 0) (r.unit == 0) r.outage r.unit ts in
