@@ -1,5 +1,6 @@
 pub mod IfOkLemmas
 pub mod ReplayLemmas
+pub mod RightsLemmas
 pub mod RightsReading
 pub mod RingLemmas
 pub mod RoundTripLemmas

@@ -1,6 +1,6 @@
 //! Markets that are cleared, with the rights to what their limits earn.
 
-ghost use Rattle.std.specs.Prelude.{◌≡◌, ◌×◌, [], All, IfErr, IfOk, ℕ, length};
+ghost use Rattle.std.specs.Prelude.{◌≡◌, [], All, IfErr, IfOk, ℕ, length};
 ghost use Rattle.fraction_theory.specs.Fraction.{Fraction};
 ghost use Rattle.market_tables.specs.Tables.{tables_lent};
 ghost use Rattle.market_inputs.specs.Stops.{IsToldAs};

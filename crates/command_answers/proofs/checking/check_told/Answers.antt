@@ -9,5 +9,5 @@ use Rattle.command_answers.proofs.checking.check_told.Goals as goal
 pub returns-in-Err-Refused-clause-tells : goal.returns-in-Err-Refused-clause-tells
 returns-in-Err-Refused-clause-tells c =
     if_ok-map _ _ c.refused.result
-    (λ told is. refused-tells (IsCheck (grid_lent c.args.bytes.now)) TellsCheck c.in-Err-Refused.field-0 c.in-Err-Refused.refusal (telling_of told) c.in-Err-Refused.field-0-is c.in-Err-Refused.ensures.told is)
+    (λ told is. refused-tells (IsCheck c.args.places (grid_lent c.args.bytes.now)) TellsCheck c.in-Err-Refused.field-0 c.in-Err-Refused.refusal (telling_of told) c.in-Err-Refused.field-0-is c.in-Err-Refused.ensures.told is)
     c.refused.ensures.telling
