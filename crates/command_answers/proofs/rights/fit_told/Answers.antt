@@ -1,14 +1,11 @@
-use Rattle.std.proofs.Common.{◌≡◌, ◌++◌, ◌∙◌, ap, refl, subst}
+use Rattle.std.proofs.Common.{◌++◌, ◌∙◌, ap, refl, subst}
 use Rattle.market_model.specs.Stops.{StopsBy}
 use Rattle.market_model.specs.Valued.{passed_at, total_at}
 use Rattle.rights_test.specs.Fits.{fit_at}
-use Rattle.rights_test.specs.Paid.{payments_at, payments_of}
-use Rattle.report_text.specs.Reports.{range_text}
-use Rattle.command_answers.specs.declared.status.Status.TheVariants as status
+use Rattle.rights_test.specs.Paid.{payments_of}
 use Rattle.command_answers.specs.Clearing.{ArePassedWithin}
 use Rattle.command_answers.specs.Rights.{IsRightsRefusal, fitted, passed}
 use Rattle.command_answers.specs.RightsLines.{rights_lines}
-use Rattle.command_answers.specs.Tellings.{telling_of, uncertified}
 use Rattle.command_answers.proofs.RightsLemmas.{grown, told-as}
 use Rattle.command_answers.proofs.rights.fit_told.Goals as goal
 

@@ -1,7 +1,5 @@
-use Rattle.std.proofs.Common.{List, ◌≡◌, ◌++◌, ◌+◌, ◌∙◌, ap, arith, length, map}
-use Rattle.std.specs.List.{flat_map}
+use Rattle.std.proofs.Common.{◌≡◌, ◌++◌, ◌+◌, ◌∙◌, ap, arith, length, map}
 use Rattle.std.proofs.lemmas.List.{length-map}
-use Rattle.market_model.specs.Dispatch.{places}
 use Rattle.market_model.proofs.PlaceLists.{put_read}
 use Rattle.report_text.proofs.ReportLemmas.{lines_more}
 use Rattle.command_answers.specs.RightsLines.{payment_at, payment_text}

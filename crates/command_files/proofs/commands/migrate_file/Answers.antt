@@ -1,4 +1,3 @@
-use Rattle.std.proofs.Common.{subst}
 use Rattle.outside_store.specs.Files.{Reads}
 use Rattle.command_answers.specs.Tellings.{telling_of}
 use Rattle.command_files.proofs.FileLemmas.{file-migrate}

@@ -1,4 +1,4 @@
-use Rattle.std.proofs.Common.{◌≡◌, ◌∙◌, ℕ, List, Err, Ok, inr, rules, subst}
+use Rattle.std.proofs.Common.{◌≡◌, ◌∙◌, ℕ, Err, Ok, inr, rules, subst}
 use Rattle.std.specs.Prelude.{MatchResult, option_map, vec_items}
 use Rattle.edit_table.specs.EditTable.{header as edit_header}
 use Rattle.market_tables.specs.Tables.{map_tables}
