@@ -81,7 +81,7 @@ rights-files-once files names rights a b h k =
 
 migrated-file-once : (files : Files) (certificate : List ℕ) → OfOne (IsMigratedFile files certificate)
 migrated-file-once files certificate a b h k =
-    sym h.read ∙ sym (subst (λ text. IsCertificate text b) (same-bytes k.certificate h.certificate (files certificate) k.certificate_is h.certificate_is) k.read) ∙ refl
+    sym h.read ∙ subst (λ text. IsCertificate text b) (same-bytes k.certificate h.certificate (files certificate) k.certificate_is h.certificate_is) k.read
 
 -- what is told is told of what the files stand for, or of their first fault
 told-of : {A : Type 0} (stand : Result A Refusal → Type 0) (right : A → Telling → Type 0) (r : Result A Refusal) (t : Telling) → OfOne stand → stand r → Tells stand right t → ComesTo right r t
@@ -204,6 +204,8 @@ module _ (files : Files) (words : List (List ℕ)) (t : Telling) where
   check-told _ r (cleared names file asked told) asks = absurd (no-other words (codes "clear") (codes "check") asked.rows asks.asks.rows refl asked.enters asks.asks.enters)
   check-told _ r (replayed names edits file asked told) asks = absurd (no-other words (codes "replay") (codes "check") asked.rows asks.asks.rows refl asked.enters asks.asks.enters)
   check-told _ r (verified names edits certificate asked told) asks = absurd (no-other words (codes "verify") (codes "check") asked.rows asks.asks.rows refl asked.enters asks.asks.enters)
+  check-told _ r (entitled names held asked told) asks = absurd (no-other words (codes "rights") (codes "check") asked.rows asks.asks.rows refl asked.enters asks.asks.enters)
+  check-told _ r (migrated old out asked told) asks = absurd (no-other words (codes "migrate") (codes "check") asked.rows asks.asks.rows refl asked.enters asks.asks.enters)
   check-told _ r (made buses seed asked told) asks = absurd (no-other words (codes "make") (codes "check") asked.rows asks.asks.rows refl asked.enters asks.asks.enters)
   check-told _ r (checked names asked told) asks =
       let here : AreCheckFiles files names r = subst (λ (n : CheckNames). AreCheckFiles files n r) (checks-once words asks.names names asks.asks asked) asks.stand in

@@ -214,6 +214,8 @@ module _ (files : Files) (name : List ℕ) where
     told-check names' _ (cleared names file asked tells) asks named = absurd (no-other words (codes "clear") (codes "check") asked.rows asks.rows refl asked.enters asks.enters)
     told-check names' _ (replayed names edits file asked tells) asks named = absurd (no-other words (codes "replay") (codes "check") asked.rows asks.rows refl asked.enters asks.enters)
     told-check names' _ (verified names edits certificate asked tells) asks named = absurd (no-other words (codes "verify") (codes "check") asked.rows asks.rows refl asked.enters asks.enters)
+    told-check names' _ (entitled names held asked tells) asks named = absurd (no-other words (codes "rights") (codes "check") asked.rows asks.rows refl asked.enters asks.enters)
+    told-check names' _ (migrated old out asked tells) asks named = absurd (no-other words (codes "migrate") (codes "check") asked.rows asks.rows refl asked.enters asks.enters)
     told-check names' _ (checked names asked tells) asks named = check-there names tells.stands (subst (λ n. IsCheckFile n name) (sym (checks-once words names names' asked asks)) named)
     told-check names' _ (made buses seed asked makes) asks named = absurd (no-other words (codes "make") (codes "check") asked.rows asks.rows refl asked.enters asks.enters)
 

@@ -1,5 +1,5 @@
 -- The laws of runs on transmission rights, and of certificates that are written anew.
-use Rattle.std.specs.Prelude.{◌≡◌, ◌≢◌, ℕ, ◌<◌, List, ◌++◌, All, Option, Some, Ok, codes, length, map}
+use Rattle.std.specs.Prelude.{◌≡◌, ℕ, ◌<◌, List, [], All, Some, Ok, codes, length, map}
 use Rattle.std.proofs.Common.{refl, sym, subst, ap, ◌∙◌}
 use Rattle.fraction_theory.specs.Fraction.{Fraction}
 use Rattle.fraction_theory.specs.Order.{◌≤ℚ◌}
@@ -20,29 +20,23 @@ use Rattle.market_model.specs.Valued.{total_at}
 use Rattle.market_model.proofs.FarkasLaw.{law_of_infeasibility}
 use Rattle.market_model.proofs.ListSteps.{map-map}
 use Rattle.market_model.proofs.PlaceLists.{filled_at}
-use Rattle.market_model.proofs.RightsLaw.{law_of_the_rights}
 use Rattle.market_system.specs.Outcomes.{IsRightOutcome}
-use Rattle.rights_test.specs.declared.right_parts.Fit.{Fit}
 use Rattle.rights_test.specs.declared.right_parts.Fit.TheVariants as fit
 use Rattle.rights_test.specs.Fits.{IsFit}
 use Rattle.rights_test.specs.Paid.{payments_of}
-use Rattle.rights_test.proofs.FitLemmas.{law_of_covered_payments, law_of_the_fit}
+use Rattle.rights_test.specs.RightsLaws.{LawOfCoveredPayments}
+use Rattle.rights_test.proofs.FitLemmas.{law_of_the_fit}
 use Rattle.report_text.specs.Reports.{report_text}
-use Rattle.cert_format.specs.Grammar.{cert_read}
 use Rattle.cert_format.specs.Written.{cert_text}
-use Rattle.cert_format.specs.declared.certificate.Cert.{Cert}
 use Rattle.cert_format.proofs.InverseLemmas.{law_of_migration}
 use Rattle.refusal_text.specs.declared.refusals.Input.TheVariants as input
 use Rattle.refusal_text.specs.declared.refusals.Refusal.TheVariants as refusal
 use Rattle.command_words.specs.Words.{AsksMigrate}
 use Rattle.command_words.proofs.WordsLemmas.{migrates-once}
 use Rattle.command_answers.specs.Clearing.{AreSidesWithin, most_size}
-use Rattle.command_answers.specs.Rights.{TellsFit, TellsOutcome, TellsRights, fitted, passed}
+use Rattle.command_answers.specs.Rights.{TellsFit, TellsOutcome, fitted, passed}
 use Rattle.command_answers.specs.Tellings.{Telling, certified}
 use Rattle.command_answers.specs.declared.status.Status.{Status}
-use Rattle.command_answers.specs.declared.status.Status.TheVariants as status
-use Rattle.command_answers.specs.declared.told.Outputs.{Outputs}
-use Rattle.sced.specs.Asked.{AsksHeld}
 use Rattle.sced.specs.Headline.{IsEntitled, LawOfMigrate, LawOfRights, clear_passes, nothing_qualifies, rights_break, rights_fit, rights_pass}
 use Rattle.sced.specs.Told.{AnswersTo, checked, cleared, entitled, made, migrated, named_bytes, named_outputs, pooled, refused, replayed, verified}
 use Rattle.sced.proofs.AskedLemmas.{migrate-told, no-other, not-refused, rights-told}
@@ -63,14 +57,14 @@ module _ (m : Parts) (rights : List TransmissionRight) (t : Telling) (text : Lis
   as-told e is here =
       subst (λ x. IsEntitled m rights x s) (sym (ap (λ (x : Telling). x.text) is) ∙ words) (subst (IsEntitled m rights e.text) (sym (ap (λ (x : Telling). x.status) is) ∙ ends) here)
 
-  module _ (market : IsMarket m) (held : All (IsTransmissionRight (length m.buses)) rights) where
+  module _ (law_of_payments : LawOfCoveredPayments) (market : IsMarket m) (held : All (IsTransmissionRight (length m.buses)) rights) where
     -- rights that fit are paid no more than the surplus of the answer
     covered : (a : Answer Fraction) → IsRight m a → IsFit m rights fit.Fits → (payments_of (total_at (λ x. x) a.prices) rights).total ≤ℚ a.money.surplus
     unfolding surplus
     covered a right is-fit =
         let price = total_at (λ x. x) a.prices in
         subst (λ z. (payments_of price rights).total ≤ℚ z) (sym (ap (λ (b : Answer Fraction). b.money.surplus) right.made))
-        (law_of_covered_payments law_of_the_rights m a.duals (dispatch_in a) price rights market right.feasible right.supported (prices-of m a right) held is-fit)
+        (law_of_payments m a.duals (dispatch_in a) price rights market right.feasible right.supported (prices-of m a right) held is-fit)
 
     of-answer : (a : Answer Fraction) → IsRight m a → TellsFit most_size m rights (total_at (λ x. x) a.prices) (report_text m (outcome.Cleared a)) t → IsEntitled m rights text s
     of-answer a right (fitted fit.Fits is-fit is) =
@@ -92,11 +86,11 @@ module _ (m : Parts) (rights : List TransmissionRight) (t : Telling) (text : Lis
     of-outcome (outcome.Infeasible f) right sides is = as-told _ is (nothing_qualifies f (λ x. law_of_infeasibility m f.duals x market right.shows) right refl)
     of-outcome (outcome.Range p) right sides is = as-told _ is (clear_passes p right sides refl)
 
-pub law_of_rights : LawOfRights
-law_of_rights words files text s m rights prints asks =
+pub law_of_rights : LawOfCoveredPayments → LawOfRights
+law_of_rights law_of_payments words files text s m rights prints asks =
     let p = printed words files text s prints in
     let tells = rights-told files words p.telling p.written (Ok (record { market = m; rights = rights })) p.answers asks in
-    of-outcome m rights p.telling text s p.text_is p.status_is tells.market tells.rights tells.entitles.outcome tells.entitles.right tells.entitles.sides tells.entitles.told
+    of-outcome m rights p.telling text s p.text_is p.status_is law_of_payments tells.market tells.rights tells.entitles.outcome tells.entitles.right tells.entitles.sides tells.entitles.told
 
 -- ---- migrate
 -- what is written is the certificate, to the file that is named for it

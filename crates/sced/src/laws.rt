@@ -3,6 +3,8 @@
 
 ghost use Rattle.sced.specs.Headline.{LawOfAnswered, LawOfAsked, LawOfCauses, LawOfCertificate, LawOfCheck, LawOfCleared, LawOfComplete, LawOfCutShort, LawOfFaults, LawOfInfeasible, LawOfLastCertificate, LawOfMake, LawOfMigrate, LawOfMissing, LawOfOutside, LawOfRange, LawOfReplay, LawOfRights, LawOfRoundTrip, LawOfVerify};
 
+use rights_test::laws::payments_are_covered;
+
 /// A run that puts a text was asked for nothing that the program does, for work on what the files stand for, for a ring, or on files with
 /// a first fault.
 pub fn asked()
@@ -63,7 +65,9 @@ pub fn round_trip()
 /// what each right is paid by the printed bus prices; where they fit, they are paid no more than the surplus.
 pub fn rights()
     ensures { LawOfRights }
-{}
+{
+    payments_are_covered();
+}
 
 /// A certificate of any version that is read is written in the version of today, and is read back as the same certificate.
 pub fn migrate()
