@@ -12,7 +12,8 @@ use Rattle.market_model.specs.Dispatch.{Dispatch, zero, places, balance}
 use Rattle.market_model.specs.declared.limits.Row.{Row}
 use Rattle.market_model.specs.LimitRows.{rows, limit, picked_up, row_flow, row_offset, row_factor}
 use Rattle.market_model.specs.Optimality.{Feasible, Supports, up_of, down_of, welfare}
-use Rattle.market_model.specs.Settlement.{rent, surplus}
+use Rattle.market_model.specs.Reserves.{offer_places, reserve_need}
+use Rattle.market_model.specs.Settlement.{pay_of_reserve, rent, surplus}
 use Rattle.market_model.specs.Infeasibility.{ShowsInfeasible}
 use Rattle.market_model.specs.declared.participants.TransmissionRight.{TransmissionRight}
 use Rattle.market_model.specs.Rights.{IsTransmissionRight, AreFeasibleTogether, paid_to_rights}
@@ -47,6 +48,11 @@ LawOfTheFlows = (m : Parts) (p lost : ℕ → Fraction) (r : Row)
 abbrev pub LawOfTheRights : Type 0
 LawOfTheRights = (m : Parts) (d : Duals Fraction) (x : Dispatch) (rights : List TransmissionRight) → IsMarket m → Feasible m x → Supports m x d
     → All (IsTransmissionRight (length m.buses)) rights → AreFeasibleTogether m rights → paid_to_rights m d rights ≤ℚ surplus m x d
+
+-- where duals support a feasible dispatch, reserve is paid its price for what is needed
+abbrev pub LawOfTheReserve : Type 0
+LawOfTheReserve = (m : Parts) (d : Duals Fraction) (x : Dispatch) → IsMarket m → Feasible m x → Supports m x d
+    → sum_by (λ n. (pay_of_reserve x d n).paid) (offer_places m) ≡ d.reserve *ℚ reserve_need m
 
 -- where duals show that nothing is feasible, no dispatch is (Farkas)
 abbrev pub LawOfInfeasibility : Type 0

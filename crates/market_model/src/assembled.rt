@@ -26,13 +26,13 @@ impl Model for Market {
     ghost use Rattle.market_model.specs.declared.participants.Parts.{Parts};
     ghost use Rattle.market_model.specs.Factors.{factor_in, IsTable};
     ghost use Rattle.market_model.specs.LostLines.{AreLostLines};
-    ghost use Rattle.market_model.specs.Market.{IsMarket};
+    ghost use Rattle.market_model.specs.Market.{IsEnergyMarket};
 
     ghost Value = { Parts };
 
     ghost view = { λ m. m.parts };
 
-    ghost invariant = { λ m. IsMarket m.parts × IsTable (length m.parts.lines) (length m.parts.buses) (factor_in m.parts.shift) m.shift.items × AreLostLines m.parts m.lost m.index.items m.loss.items };
+    ghost invariant = { λ m. IsEnergyMarket m.parts × IsTable (length m.parts.lines) (length m.parts.buses) (factor_in m.parts.shift) m.shift.items × AreLostLines m.parts m.lost m.index.items m.loss.items };
 }
 
 impl Market {
@@ -43,12 +43,14 @@ impl Market {
     ghost use Rattle.market_model.specs.Factors.{factor_in};
     ghost use Rattle.market_model.specs.LimitRows.{limit_of, lost_lines, place_of_line};
     ghost use Rattle.market_model.specs.Market.{IsMarket};
+    ghost use Rattle.market_model.specs.Reserves.{no_reserve};
     ghost use Rattle.market_model.specs.Stairs.{stair_in, offered, room_of};
 
     /// The live buses, in the order in which they were given.
     pub fn buses(&self) -> &List<Bus>
         ensures list { result.now ≡ self.now.buses }
         ensures market { IsMarket self.now }
+        ensures energy_alone { self.now.reserve ≡ no_reserve }
     {
         &self.parts.buses
     }
@@ -57,6 +59,7 @@ impl Market {
     pub fn units(&self) -> &List<Unit>
         ensures list { result.now ≡ self.now.units }
         ensures market { IsMarket self.now }
+        ensures energy_alone { self.now.reserve ≡ no_reserve }
     {
         &self.parts.units
     }
@@ -65,6 +68,7 @@ impl Market {
     pub fn blocks(&self) -> &List<Block>
         ensures list { result.now ≡ self.now.blocks }
         ensures market { IsMarket self.now }
+        ensures energy_alone { self.now.reserve ≡ no_reserve }
     {
         &self.parts.blocks
     }
@@ -73,6 +77,7 @@ impl Market {
     pub fn lines(&self) -> &List<Line>
         ensures list { result.now ≡ self.now.lines }
         ensures market { IsMarket self.now }
+        ensures energy_alone { self.now.reserve ≡ no_reserve }
     {
         &self.parts.lines
     }
@@ -81,6 +86,7 @@ impl Market {
     pub fn outages(&self) -> &List<u32>
         ensures list { result.now ≡ self.now.outages }
         ensures market { IsMarket self.now }
+        ensures energy_alone { self.now.reserve ≡ no_reserve }
     {
         &self.parts.outages
     }
@@ -89,6 +95,7 @@ impl Market {
     pub fn lost_lines(&self) -> &List<usize>
         ensures list { result.now ≡ lost_lines self.now }
         ensures market { IsMarket self.now }
+        ensures energy_alone { self.now.reserve ≡ no_reserve }
     {
         &self.lost
     }
@@ -97,6 +104,7 @@ impl Market {
     pub fn unit_outages(&self) -> &List<usize>
         ensures list { result.now ≡ self.now.unit_outages }
         ensures market { IsMarket self.now }
+        ensures energy_alone { self.now.reserve ≡ no_reserve }
     {
         &self.parts.unit_outages
     }
@@ -105,6 +113,7 @@ impl Market {
     pub fn pickups(&self) -> &List<Pickup>
         ensures list { result.now ≡ self.now.pickups }
         ensures market { IsMarket self.now }
+        ensures energy_alone { self.now.reserve ≡ no_reserve }
     {
         &self.parts.pickups
     }
@@ -196,7 +205,7 @@ impl Market {
 
 ghost use Rattle.std.specs.Prelude.{◌≡◌, IfOk};
 ghost use Rattle.market_model.specs.Changes.{line_with};
-ghost use Rattle.market_model.specs.Market.{IsMarket};
+ghost use Rattle.market_model.specs.Market.{IsEnergyMarket};
 
 /// A line with another limit.
 fn limited(line: Line, post: bool, mw: i64) -> Line
@@ -217,7 +226,7 @@ fn limited(line: Line, post: bool, mw: i64) -> Line
 
 /// The market of these parts. They are dropped where memory is refused.
 pub fn assemble(alloc: Global, parts: Parts) -> Result<Market, Memory>
-    requires { IsMarket parts }
+    requires { IsEnergyMarket parts }
     ensures { IfOk result (λ m. m ≡ parts) }
 {
     let lines = parts.lines.len();
