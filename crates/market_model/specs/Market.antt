@@ -103,8 +103,3 @@ pub record IsMarket (parts : Parts) : Type 0 where
   pub loss : AreTableFactors (length parts.lines) (length parts.lines) parts.loss
   pub unit_outages : AreUnitOutages (length parts.units) parts.unit_outages parts.pickups
   pub reserve : IsReserve (length parts.units) parts.reserve
-
--- a market of energy alone
-pub record IsEnergyMarket (parts : Parts) : Type 0 where
-  pub market : IsMarket parts
-  pub energy_alone : parts.reserve ≡ no_reserve

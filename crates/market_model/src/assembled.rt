@@ -7,7 +7,7 @@ use plain_list::{List, Memory};
 use std::alloc::Global;
 use std::marker::Model;
 
-/// The market of one interval.
+/// The market of one interval. It is of energy alone for now: no reserve is cleared.
 #[derive(Drop, Debug)]
 pub struct Market {
     parts: Parts,
@@ -22,17 +22,18 @@ pub struct Market {
 }
 
 impl Model for Market {
-    ghost use Rattle.std.specs.Prelude.{length};
+    ghost use Rattle.std.specs.Prelude.{◌≡◌, length};
     ghost use Rattle.market_model.specs.declared.participants.Parts.{Parts};
     ghost use Rattle.market_model.specs.Factors.{factor_in, IsTable};
     ghost use Rattle.market_model.specs.LostLines.{AreLostLines};
-    ghost use Rattle.market_model.specs.Market.{IsEnergyMarket};
+    ghost use Rattle.market_model.specs.Market.{IsMarket};
+    ghost use Rattle.market_model.specs.Reserves.{no_reserve};
 
     ghost Value = { Parts };
 
     ghost view = { λ m. m.parts };
 
-    ghost invariant = { λ m. IsEnergyMarket m.parts × IsTable (length m.parts.lines) (length m.parts.buses) (factor_in m.parts.shift) m.shift.items × AreLostLines m.parts m.lost m.index.items m.loss.items };
+    ghost invariant = { λ m. IsMarket m.parts × IsTable (length m.parts.lines) (length m.parts.buses) (factor_in m.parts.shift) m.shift.items × AreLostLines m.parts m.lost m.index.items m.loss.items × (m.parts.reserve ≡ no_reserve) };
 }
 
 impl Market {
@@ -205,7 +206,8 @@ impl Market {
 
 ghost use Rattle.std.specs.Prelude.{◌≡◌, IfOk};
 ghost use Rattle.market_model.specs.Changes.{line_with};
-ghost use Rattle.market_model.specs.Market.{IsEnergyMarket};
+ghost use Rattle.market_model.specs.Market.{IsMarket};
+ghost use Rattle.market_model.specs.Reserves.{no_reserve};
 
 /// A line with another limit.
 fn limited(line: Line, post: bool, mw: i64) -> Line
@@ -226,7 +228,8 @@ fn limited(line: Line, post: bool, mw: i64) -> Line
 
 /// The market of these parts. They are dropped where memory is refused.
 pub fn assemble(alloc: Global, parts: Parts) -> Result<Market, Memory>
-    requires { IsEnergyMarket parts }
+    requires market { IsMarket parts }
+    requires energy_alone { parts.reserve ≡ no_reserve }
     ensures { IfOk result (λ m. m ≡ parts) }
 {
     let lines = parts.lines.len();
