@@ -1,5 +1,6 @@
 mod BalanceSteps
 pub mod ChangeLemmas
+pub mod EnergyAlone
 pub mod Excesses
 pub mod FarkasLaw
 mod FarkasRows
