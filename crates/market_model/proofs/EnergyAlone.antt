@@ -129,10 +129,7 @@ module _ (m : Parts) (alone : m.reserve ≡ no_reserve) where
   no_cost x = ap (λ (ns : List ℕ). map (λ n. Product (neg_ℚ (reserve_price m n)) (reserved x n)) ns) no_places
 
   pub welfare_alone : (g : List Row) (x : Dispatch) → welfare_terms_for m g x ≡ value_terms m x ++ penalty_terms m g x
-  welfare_alone g x =
-      let none : welfare_terms_for m g x ≡ value_terms m x ++ (penalty_terms m g x ++ []) = ap (λ (ts : List Term). value_terms m x ++ (penalty_terms m g x ++ ts)) (no_cost x) in
-      let plain : value_terms m x ++ (penalty_terms m g x ++ []) ≡ value_terms m x ++ penalty_terms m g x = ap (λ (ts : List Term). value_terms m x ++ ts) (append-nil (penalty_terms m g x)) in
-      none ∙ plain
+  welfare_alone g x = ap (λ (ts : List Term). value_terms m x ++ penalty_terms m g x ++ ts) (no_cost x) ∙ append-nil (value_terms m x ++ penalty_terms m g x)
 
   pub nothing_left : (d : Duals Fraction) → reserve_left_terms m d ≡ []
   nothing_left d =
@@ -145,7 +142,5 @@ module _ (m : Parts) (alone : m.reserve ≡ no_reserve) where
 
   pub farkas_terms_alone : (d : Duals Fraction) → farkas_terms m d ≡ nothing_terms m d ++ map (block_most m d) (places (length m.blocks))
   farkas_terms_alone d =
-      let blocks : List Term = map (block_most m d) (places (length m.blocks)) in
-      let none : farkas_terms m d ≡ nothing_terms m d ++ (blocks ++ []) = ap (λ (ns : List ℕ). nothing_terms m d ++ (blocks ++ map (offer_most m d) ns)) no_places in
-      let plain : nothing_terms m d ++ (blocks ++ []) ≡ nothing_terms m d ++ blocks = ap (λ (ts : List Term). nothing_terms m d ++ ts) (append-nil blocks) in
-      none ∙ plain
+      ap (λ (ns : List ℕ). nothing_terms m d ++ map (block_most m d) (places (length m.blocks)) ++ map (offer_most m d) ns) no_places
+      ∙ append-nil (nothing_terms m d ++ map (block_most m d) (places (length m.blocks)))
