@@ -19,6 +19,8 @@ pub mod PutInSteps
 pub mod RightFits
 mod RightsCases
 mod RightsLaw
+mod ReserveLaw
+pub mod ReserveSums
 pub mod RowLaws
 pub mod RowMembers
 pub mod Rows
