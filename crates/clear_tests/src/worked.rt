@@ -11,10 +11,7 @@ ghost use Rattle.offer_book.specs.Edits.{number_of};
 use clear_loop::Clearer;
 use exact_fraction::Exact;
 use market_data::{FactorPlaces, MW_ONE, PRICE_ONE};
-use market_model::{
-    Answer, Block, Bus, Factor, Line, List, Market, Memory, Parts, Price, RowId, Side, Unit,
-    assemble,
-};
+use market_model::{Answer, Block, Bus, Factor, Line, List, Market, Memory, Parts, Price, Reserve, RowId, Side, Unit, assemble};
 use offer_book::Edit;
 use std::alloc::Global;
 use std::cmp::Ordering;
@@ -169,6 +166,7 @@ pub(crate) fn soft(alloc: Global, price: i64, excess: i64) -> Result<Market, Mem
         unit_outages: List::new(alloc),
         pickups: List::new(alloc),
         places: FactorPlaces::Six,
+        reserve: Reserve::none(alloc),
     };
     assemble(alloc, parts)
 }

@@ -93,7 +93,12 @@ fn duals_by<N: Exact>(
             Variable::Under(_) => {}
         }
     }
-    Ok(Duals { energy, limits })
+    Ok(Duals {
+        energy,
+        limits,
+        reserve: datum(0),
+        rooms: List::new(alloc),
+    })
 }
 
 /// The reduced prices noted, by rank.

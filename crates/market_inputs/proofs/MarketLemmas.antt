@@ -144,4 +144,5 @@ clear-market places network tables lost offered offsets penalties net may units 
       shift = rw count (factors_by-are (λ branch bus. factor_at tables.shift.entries (branch.row, bus.number)) network.buses network.branches small_shift);
       loss = rw count (factors_by-are (λ branch other. factor_at tables.loss.entries (branch.row, other.row)) network.branches network.branches small_loss);
       unit_outages = lost-units network offered lost given units;
+      reserve = is_no_reserve (length offered.units);
     }

@@ -18,7 +18,7 @@ use crate::tables::{
 };
 use factor_tables::{Offsets, Penalties};
 use market_data::FactorPlaces;
-use market_model::{Market, Memory, Parts, assemble};
+use market_model::{Market, Memory, Parts, Reserve, assemble};
 use market_tables::MarketTables;
 use net_case::{Network, PostRating};
 use outage_list::UnitOutages;
@@ -39,7 +39,7 @@ fn limited_parts(
     requires outages { MayBeLost network tables.outages }
     requires lost { MayLoseUnits network lost }
     requires offered { AreOffered network offered }
-    ensures kept { IfOk result IsMarket }
+    ensures kept { IfOk result (λ parts. IsMarket parts × (parts.reserve ≡ no_reserve)) }
     ensures is { IfOk result (λ parts. parts ≡ market_of places network tables lost offered offsets.now penalties.now) }
 {
     let branches = network.branches().slice();
@@ -57,6 +57,7 @@ fn limited_parts(
         loss,
         unit_outages: lost.lost,
         pickups: lost.pickups,
+        reserve: Reserve::none(alloc),
     })
 }
 

@@ -228,8 +228,7 @@ fn limited(line: Line, post: bool, mw: i64) -> Line
 
 /// The market of these parts. They are dropped where memory is refused.
 pub fn assemble(alloc: Global, parts: Parts) -> Result<Market, Memory>
-    requires market { IsMarket parts }
-    requires energy_alone { parts.reserve ≡ no_reserve }
+    requires { IsMarket parts × (parts.reserve ≡ no_reserve) }
     ensures { IfOk result (λ m. m ≡ parts) }
 {
     let lines = parts.lines.len();

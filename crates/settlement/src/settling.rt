@@ -71,6 +71,7 @@ pub fn settle_flows<N: Exact>(
         loads,
         rents,
         surplus,
+        reserve: List::new(alloc),
     })
 }
 
