@@ -22,6 +22,7 @@ use Rattle.market_model.specs.Infeasibility.{block_most, farkas_terms, limit_ter
 use Rattle.market_model.specs.LimitRows.{rows, flow, most_flow, row_id}
 use Rattle.market_model.specs.Optimality.{AreWithin, FeasibleFor, Taken, BlockSupported, Gains, IsOneSided, Loses, NeedSupported, ProperDuals, RowSupported, Supports, energy_worth, named_rooms, named_rows, names_room, penalty_terms, price, room_price, room_price_in, unit_price, value_terms, welfare_terms_for}
 use Rattle.market_model.specs.Reserves.{no_reserve, offer_places, offers_among, reserve, reserve_cost_terms, reserve_need, reserve_price, reserve_units, reserved_term, room}
+use Rattle.market_model.specs.Settlement.{pay_of_reserve}
 
 -- no unit offers reserve
 none_offer : (us : List ℕ) → filter (λ u. offers_among [] u) us ≡ []
@@ -144,3 +145,6 @@ module _ (m : Parts) (alone : m.reserve ≡ no_reserve) where
   farkas_terms_alone d =
       ap (λ (ns : List ℕ). nothing_terms m d ++ map (block_most m d) (places (length m.blocks)) ++ map (offer_most m d) ns) no_places
       ∙ append-nil (nothing_terms m d ++ map (block_most m d) (places (length m.blocks)))
+
+  pub no_pays : (x : Dispatch) (d : Duals Fraction) → map (pay_of_reserve x d) (offer_places m) ≡ []
+  no_pays x d = ap (λ (ns : List ℕ). map (pay_of_reserve x d) ns) no_places
