@@ -16,11 +16,12 @@ pub mod PlaceLists
 pub mod PlaceSums
 pub mod PlainMarkets
 pub mod PutInSteps
+mod ReserveCases
+mod ReserveLaw
+pub mod ReserveSums
 pub mod RightFits
 mod RightsCases
 mod RightsLaw
-mod ReserveLaw
-pub mod ReserveSums
 pub mod RowLaws
 pub mod RowMembers
 pub mod Rows

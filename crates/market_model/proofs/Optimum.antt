@@ -53,7 +53,7 @@ welfare-by_parts m x market =
     of_row true penalty excess hard = neg_times ring_ℚ penalty excess
     of_row false penalty excess hard = by_ring1 ring_ℚ (penalty ∷ excess ∷ []) pnil (pneg (at 0 ⊗ at 1)) (at 1) (at 0) pnil (hard refl) refl
 
--- what a block that takes z adds: its value, and what it raises at the price at its bus
+-- what a block that takes z adds: its value, and what it raises at the worth of its unit's energy
 abbrev pub gain : Side → Fraction → Fraction → Fraction → Fraction
 gain side price worth z = neg_ℚ (signed_by_side side price) *ℚ z +ℚ worth *ℚ signed_by_side side z
 
@@ -78,7 +78,7 @@ pub gains-by_blocks : (m : Parts) (d : Duals Fraction) (x : Dispatch)
     → sum_by (λ j. gain (block_at m j).side (price m j) (energy_worth m d (block_at m j).unit) (accepted x j)) (places (length m.blocks)) ≡ value_of_blocks m x +ℚ energy_made m d x
 gains-by_blocks m d x = sum_by-plus (λ j. block_value m j *ℚ accepted x j) (λ j. energy_worth m d (block_at m j).unit *ℚ raised_by m x j) (places (length m.blocks))
 
--- among all dispatches within bounds a supported one has the greatest of these
+-- of these a supported dispatch has the greatest among all within bounds
 greatest_of_blocks : (m : Parts) (d : Duals Fraction) (x y : Dispatch) → Supports m x d → Feasible m y → (value_of_blocks m y +ℚ energy_made m d y) ≤ℚ (value_of_blocks m x +ℚ energy_made m d x)
 greatest_of_blocks m d x y s fy =
     subst₂ ◌≤ℚ◌ (gains-by_blocks m d y) (gains-by_blocks m d x)
