@@ -17,12 +17,13 @@ use Rattle.market_model.specs.declared.answered.Dual.{Dual}
 use Rattle.market_model.specs.declared.answered.Duals.{Duals}
 use Rattle.market_model.specs.declared.answered.RoomDual.{RoomDual}
 use Rattle.market_model.specs.declared.limits.Row.{Row}
-use Rattle.market_model.specs.Dispatch.{Dispatch, IsDispatch, zero, places, unit_at, block_at, accepted, quantity, reserved, balance, empty}
+use Rattle.market_model.specs.Dispatch.{Dispatch, IsDispatch, zero, places, unit_at, block_at, accepted, quantity, reserved, balance, dispatch_by, dispatch_with, empty}
 use Rattle.market_model.specs.Infeasibility.{block_most, farkas_terms, limit_terms, nothing_terms, offer_most, reserve_left_terms}
 use Rattle.market_model.specs.LimitRows.{rows, flow, most_flow, row_id}
 use Rattle.market_model.specs.Optimality.{AreWithin, FeasibleFor, Taken, BlockSupported, Gains, IsOneSided, Loses, NeedSupported, ProperDuals, RowSupported, Supports, energy_worth, named_rooms, named_rows, names_room, penalty_terms, price, room_price, room_price_in, unit_price, value_terms, welfare_terms_for}
 use Rattle.market_model.specs.Reserves.{no_reserve, offer_places, offers_among, reserve, reserve_cost_terms, reserve_need, reserve_price, reserve_units, reserved_term, room}
 use Rattle.market_model.specs.Settlement.{pay_of_reserve}
+use Rattle.market_model.specs.Valued.{energy_duals}
 
 -- no unit offers reserve
 none_offer : (us : List ℕ) → filter (λ u. offers_among [] u) us ≡ []
@@ -148,3 +149,20 @@ module _ (m : Parts) (alone : m.reserve ≡ no_reserve) where
 
   pub no_pays : (x : Dispatch) (d : Duals Fraction) → map (pay_of_reserve x d) (offer_places m) ≡ []
   no_pays x d = ap (λ (ns : List ℕ). map (pay_of_reserve x d) ns) no_places
+
+  -- ---- what a dispatch and duals are then
+  nothing_listed : (xs : List Fraction) → length xs ≡ 0 → xs ≡ []
+  nothing_listed [] e = refl
+  nothing_listed (x ∷ xs) e = absurd (Prim.omega (arith, e))
+
+  none_named : (ds : List (RoomDual Fraction)) → map (λ e. e.unit) ds ≡ [] → ds ≡ []
+  none_named [] e = refl
+  none_named (x ∷ xs) e = absurd Prim.cc
+
+  pub dispatch_alone : (x : Dispatch) → IsDispatch m x → x ≡ dispatch_by x.blocks
+  dispatch_alone x is = ap (dispatch_with x.blocks) (nothing_listed x.reserve (is.reserve_count ∙ ap length no_offers))
+
+  pub duals_alone : (d : Duals Fraction) → ProperDuals m d → d ≡ energy_duals d.energy d.limits
+  duals_alone d proper =
+      let none : d.rooms ≡ [] = none_named d.rooms (proper.rooms_named ∙ ap (λ (us : List ℕ). map (λ u. (unit_at m u).row) us) (no_named_rooms d)) in
+      λ i. record { energy = d.energy; limits = d.limits; reserve = proper.energy_alone not_listed i; rooms = none i }
