@@ -1,5 +1,5 @@
 -- The answer of a dispatch and duals is right.
-use Rattle.std.specs.Prelude.{◌≡◌, pos, List, length, map}
+use Rattle.std.specs.Prelude.{◌≡◌, pos, List, [], length, map}
 use Rattle.std.proofs.Common.{ap, sym, ◌∙◌}
 use Rattle.std.proofs.lemmas.List.{length-map}
 use Rattle.std.proofs.lemmas.List.FromFn.{length-map-range_with_len}
@@ -34,12 +34,12 @@ pub right_answer : {N : Type 0} (value : N → Fraction) (m : Parts) (ds : List 
     → LawOfRightMoney → IsMarket m → Feasible m (dispatch_of value ds) → Supports m (dispatch_of value ds) (duals_at value d) → ProperDuals m (duals_at value d)
     → map (price_at value) ps ≡ map (price_made m (duals_at value d)) (places (length m.buses)) → value w ≡ welfare m (dispatch_of value ds)
     → money_at value money ≡ settlement_at m (dispatch_of value ds) (total_at value ps) (duals_at value d)
-    → IsRight m (answer_at value (record { dispatch = ds; duals = d; prices = ps; welfare = w; money = money }))
+    → IsRight m (answer_at value (record { dispatch = ds; reserve = []; duals = d; prices = ps; welfare = w; money = money }))
 right_answer value m ds d ps w money law market feasible supported proper made worth settled =
     let right = settled ∙ law m (dispatch_of value ds) (total_at value ps) (duals_at value d) market (prices_of value m (duals_at value d) ps made) in
     record {
       feasible = feasible;
       supported = supported;
       proper = proper;
-      made = λ i. record { dispatch = map value ds; duals = duals_at value d; prices = made i; welfare = worth i; money = right i };
+      made = λ i. record { dispatch = map value ds; reserve = []; duals = duals_at value d; prices = made i; welfare = worth i; money = right i };
     }

@@ -4,6 +4,7 @@ use Rattle.market_model.specs.Valued.{duals_at}
 use Rattle.std.specs.Prelude.{Contains}
 use Rattle.market_model.specs.Dispatch.{Dispatch}
 use Rattle.market_model.specs.LimitRows.{rows}
+use Rattle.market_model.specs.Optimality.{rows_alone}
 use Rattle.market_system.specs.Growth.{BestFor, Broken, PricesOnly}
 use Rattle.market_system.proofs.GrowthLaws.{growth_none}
 use Rattle.market_model.specs.PutIn.{dispatch_of}
@@ -116,7 +117,7 @@ screened_broken g c =
 
 broken_row : (g : Over) (c : In-Broken g) → let m = c.args.market.now in let rs = c.args.hand.taken.rows in
     IsFound g.N.Exact.value m rs (found.Best c.in-Best.dict c.slice-3.result.now)
-    → Contains (rows m) c.in-Broken.row × (¬ (Contains rs c.in-Broken.row)) × ((x : Dispatch) × BestFor m rs x × Broken m x c.in-Broken.row)
+    → Contains (rows m) c.in-Broken.row × (¬ (Contains rs c.in-Broken.row)) × ((x : Dispatch) × BestFor m (rows_alone rs) x × Broken m x c.in-Broken.row)
 broken_row g c best =
     let m = c.args.market.now in
     let rs = c.args.hand.taken.rows in
