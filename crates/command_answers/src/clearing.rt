@@ -4,6 +4,7 @@ ghost use Rattle.std.specs.Prelude.{◌≡◌, [], IfOk};
 ghost use Rattle.market_tables.specs.Tables.{tables_lent};
 ghost use Rattle.market_model.specs.Fitting.{FitsOutcome};
 ghost use Rattle.market_model.specs.Market.{IsMarket};
+ghost use Rattle.market_model.specs.Reserves.{no_reserve};
 ghost use Rattle.market_model.specs.Valued.{outcome_at};
 ghost use Rattle.market_system.specs.Outcomes.{IsRightOutcome};
 ghost use Rattle.command_answers.specs.Clearing.{AreSidesWithin, ClearsTo, TellsClear, status_of};
@@ -29,7 +30,9 @@ pub(crate) fn cleared<N: Exact>(alloc: Global, market: &Market) -> Result<Outcom
     ensures fits { IfOk result (FitsOutcome market.now) }
     ensures right { IfOk result (λ outcome. IsRightOutcome N.bound market.now [] (outcome_at N.value outcome)) }
     ensures sides { IfOk result (λ outcome. AreSidesWithin N.bound (outcome_at N.value outcome)) }
+    ensures energy_alone { market.now.reserve ≡ no_reserve }
 {
+    let _lines = market.lines();
     let mut clearer = Clearer::new(market);
     outcome(clearer.clear(alloc, market))
 }

@@ -10,6 +10,7 @@ ghost use Rattle.edit_table.specs.EditTable.{IsStep};
 ghost use Rattle.market_tables.specs.Tables.{tables_lent};
 ghost use Rattle.market_inputs.specs.Stops.{IsToldAs};
 ghost use Rattle.market_model.specs.Market.{IsMarket};
+ghost use Rattle.market_model.specs.Reserves.{no_reserve};
 ghost use Rattle.command_answers.specs.Inputs.{IsCertified, certificate_with};
 ghost use Rattle.command_answers.specs.Status.{IsOfWork};
 ghost use Rattle.command_answers.specs.Tellings.{Tells, telling_of};
@@ -95,7 +96,9 @@ fn verdict_told<N: Exact>(
     requires { RowsAreDistinct (cert_at N.value certificate.now) }
     ensures status { IfOk result (λ told. IsOfWork told.status) }
     ensures verifies { IfOk result (λ told. VerifiesTo N.bound market.now (cert_at N.value certificate.now) (telling_of told)) }
+    ensures energy_alone { market.now.reserve ≡ no_reserve }
 {
+    let _lines = market.lines();
     match verify(alloc, market, certificate) {
         Ok(verdict) => {
             let text = verdict_text(alloc, verdict)?;

@@ -18,6 +18,8 @@ use Rattle.market_model.specs.declared.answered.Duals.{Duals}
 use Rattle.market_model.specs.declared.answered.RoomDual.{RoomDual}
 use Rattle.market_model.specs.declared.limits.Row.{Row}
 use Rattle.market_model.specs.Dispatch.{Dispatch, IsDispatch, zero, places, unit_at, block_at, accepted, quantity, reserved, balance, dispatch_by, dispatch_with, empty}
+use Rattle.market_model.specs.Frame.{SameFrame}
+use Rattle.market_model.specs.Market.{IsMarket}
 use Rattle.market_model.specs.Infeasibility.{block_most, farkas_terms, limit_terms, nothing_terms, offer_most, reserve_left_terms}
 use Rattle.market_model.specs.LimitRows.{rows, flow, most_flow, row_id}
 use Rattle.market_model.specs.Optimality.{AreWithin, FeasibleFor, Taken, BlockSupported, Gains, IsOneSided, Loses, NeedSupported, ProperDuals, RowSupported, Supports, energy_worth, named_rooms, named_rows, names_room, penalty_terms, price, room_price, room_price_in, unit_price, value_terms, welfare_terms_for}
@@ -166,3 +168,7 @@ module _ (m : Parts) (alone : m.reserve ≡ no_reserve) where
   duals_alone d proper =
       let none : d.rooms ≡ [] = none_named d.rooms (proper.rooms_named ∙ ap (λ (us : List ℕ). map (λ u. (unit_at m u).row) us) (no_named_rooms d)) in
       λ i. record { energy = d.energy; limits = d.limits; reserve = proper.energy_alone not_listed i; rooms = none i }
+
+-- edits leave a market of energy alone one
+pub alone_in_frame : (m n : Parts) → SameFrame m n → m.reserve ≡ no_reserve → IsMarket n → n.reserve ≡ no_reserve
+alone_in_frame m n same alone market = market.reserve.unlisted (sym (ap (λ (p : Parts). p.reserve.listed) same) ∙ ap (λ (r : Reserve). r.listed) alone)

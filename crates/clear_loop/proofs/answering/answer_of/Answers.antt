@@ -75,7 +75,7 @@ returns-clause-right g c =
     let rows = c.requires.solved.0 in
     let solved = c.requires.solved.1.solved in
     let kept = c.requires.solved.1.kept in
-    right_answer value m c.args.dispatch c.args.duals c.in_ok-prices.prices c.in_ok-welfare.welfare c.in_ok-money.money law_of_right_money market
+    right_answer value m c.args.dispatch c.new.result c.args.duals c.in_ok-prices.prices c.in_ok-welfare.welfare c.in_ok-money.money c.new.ensures law_of_right_money market
     (kept_feasible m market c.lines-lines.ensures.energy_alone rows x (best_for m rows x d market solved) kept) (supports m rows x d market solved kept) (proper m rows x d market solved) c.in_ok-prices.ensures.prices
     (c.in_ok-welfare.ensures.worth ∙ ap (λ xs. welfare m (dispatch_of value xs)) c.slice.ensures)
     (subst (λ xs. money_at value c.in_ok-money.money ≡ settlement_at m (dispatch_of value xs) (total_at value c.in_ok-prices.prices) d) c.slice-2.ensures

@@ -123,9 +123,10 @@ broken_row g c best =
     let rs = c.args.hand.taken.rows in
     let x = dispatch_of g.N.Exact.value c.slice-3.result.now in
     let market = c.lines-lines.ensures.market in
+    let alone = c.lines-lines.ensures.energy_alone in
     let best_x = best_for m rs x (choice_duals m rs (choice_of c.in-Best.dict)) market best.2 in
     let worst = screened_broken g c in
-    (worst_inside m market rs x worst.0 c.in-Broken.row worst.1, worst_new m market rs x worst.0 c.in-Broken.row worst.1 best_x, (x, best_x, worst_broken m market rs x worst.0 c.in-Broken.row worst.1))
+    (worst_inside m market alone rs x worst.0 c.in-Broken.row worst.1, worst_new m market alone rs x worst.0 c.in-Broken.row worst.1 best_x, (x, best_x, worst_broken m market alone rs x worst.0 c.in-Broken.row worst.1))
 
 pub with_row-requires-clause-holds : goal.with_row-requires-clause-holds
 with_row-requires-clause-holds g c = (found_best g (goal.at.with_row-requires-clause-holds g c).After-slice-3).0.holds
