@@ -143,8 +143,8 @@ law_of_the_replay r t text (market, replays) is = by_last r t text replays (last
 -- ---- of verifying
 pub law_of_yes : LawOfYes
 unfolding verdict_line
-law_of_yes m text c t certifies (market, judged is) = inl (is ∙ ap (λ why. uncertified (verdict_status why) (verdict_line why)) (yes_none (first_reason m c) certifies.yes))
-law_of_yes m text c t certifies (market, passed p stop within is) = inr (ap (λ (s : Telling). s.status) is)
+law_of_yes m text c t certifies (market, judged is, alone) = inl (is ∙ ap (λ why. uncertified (verdict_status why) (verdict_line why)) (yes_none (first_reason m c) certifies.yes))
+law_of_yes m text c t certifies (market, passed p stop within is, alone) = inr (ap (λ (s : Telling). s.status) is)
 
 -- ---- with the same files
 -- a text that is no longer than a file may be is read as its certificate

@@ -5,27 +5,16 @@ use Rattle.market_system.specs.SolvedLaws.{LawOfTheSystem, LawOfThePoints, LawOf
 use Rattle.limit_rows.proofs.ApartLemmas.{names_apart}
 use Rattle.market_system.proofs.DualLists.{rows_apart}
 use Rattle.market_system.proofs.GrowthLaws.{beyond_is_new, growth_none, growth_more, growth_again, growth_rows, rows_few}
-use Rattle.market_system.proofs.MarketPoints.{is_system_of, point_of, point_meets, point_within, point_welfare, point-block, dispatch_feasible, dispatch_welfare}
+use Rattle.market_system.proofs.MarketPoints.{is_system_of, points_are}
 use Rattle.market_system.proofs.SolvedMarkets.{solved_best, solved_proper, solved_supports, reduced-block}
 use Rattle.market_system.proofs.StuckMarkets.{stuck_bound, stuck_shows, stuck_proper, stuck_of_choice}
 use Rattle.market_system.proofs.VariableLaws.{from_places}
 
 pub law_of_the_system : LawOfTheSystem
-law_of_the_system m g market = is_system_of m (rows_apart m (names_apart m market)) g
+law_of_the_system m t market = is_system_of m (rows_apart m (names_apart m market)) t
 
 pub law_of_the_points : LawOfThePoints
-law_of_the_points m g market are =
-    let apart = rows_apart m (names_apart m market) in
-    record {
-      point = λ x f. (
-        point_of m apart g market x,
-        point_meets m apart g market x,
-        point_within m apart g market x f,
-        point_welfare m apart g market are x,
-        λ j c. point-block m apart g market x j (from_places (length m.blocks) j c),
-      );
-      dispatch = λ v meets within. (dispatch_feasible m apart g market v meets are.rows within, dispatch_welfare m apart g market v meets are within);
-    }
+law_of_the_points m t market are = points_are m (rows_apart m (names_apart m market)) t market are
 
 pub law_of_the_solved : LawOfTheSolved
 law_of_the_solved m g h market are choice solved =

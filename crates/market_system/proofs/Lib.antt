@@ -12,6 +12,7 @@ mod ModestNumbers
 pub mod ModestClears
 pub mod PairCases
 mod RangeRows
+pub mod RoomBounds
 pub mod RowOrder
 pub mod RowSums
 pub mod SoftRows

@@ -6,7 +6,7 @@
 -- Wollenberg; the form is own.
 use Rattle.std.specs.Prelude.{◌≡◌, ℕ, ◌+◌, ◌*◌, ◌<◌, pos, Bool, true, false, List, [], ◌∷◌, ◌++◌, ◌==◌, ◌&&◌, ◌||◌, if◌then◌else◌, length, map, filter, Contains}
 use Rattle.std.specs.List.{flat_map, position_or_len}
-use Rattle.fraction_theory.specs.Fraction.{Fraction, whole, neg_ℚ, ◌-ℚ◌}
+use Rattle.fraction_theory.specs.Fraction.{Fraction, whole, neg_ℚ, ◌+ℚ◌, ◌-ℚ◌}
 use Rattle.fraction_theory.specs.Signs.{part_above, sign_of}
 use Rattle.fraction_theory.specs.Sums.{sum_by}
 use Rattle.fraction_theory.specs.declared.Sign.{Sign}

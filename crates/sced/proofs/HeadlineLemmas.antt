@@ -463,12 +463,12 @@ module _ (words : List (List ℕ)) (files : Files) (text : List ℕ) (s : Status
         inr (record { market = r.market; steps = r.steps; asks = asks; place = here.0; edit = edit.0; stands = edit.1; fault = here.1; refused = edit.2 })
 
     of-verdict : (v : MarketCertificate) → TellsVerdict v p.telling → Why
-    of-verdict v (market, judged is) = verdict-status (first_reason v.market v.certificate) (sym (ap (λ (t : Telling). t.status) is) ∙ bad)
+    of-verdict v (market, judged is, alone) = verdict-status (first_reason v.market v.certificate) (sym (ap (λ (t : Telling). t.status) is) ∙ bad)
       where
         verdict-status : (r : Option Reason) → verdict_status r ≡ status.Refused → Why
         verdict-status None wrong = cc wrong
         verdict-status (Some why) wrong = cc wrong
-    of-verdict v (market, passed q pair within is) = absurd (range-refused (sym (ap (λ (t : Telling). t.status) is) ∙ bad))
+    of-verdict v (market, passed q pair within is, alone) = absurd (range-refused (sym (ap (λ (t : Telling). t.status) is) ∙ bad))
       where
         range-refused : status.Range ≡ status.Refused → ⊥
         range-refused wrong = cc wrong
