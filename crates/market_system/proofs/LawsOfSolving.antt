@@ -40,7 +40,7 @@ law_of_the_stuck m g h b above market all choice stuck =
 
 pub law_of_growth : LawOfGrowth
 law_of_growth m = record {
-  beyond_is_new = λ g x r best beyond. beyond_is_new m g x r best.feasible beyond;
+  beyond_is_new = λ t x r best beyond. beyond_is_new m t x r best.feasible beyond;
   none = growth_none m;
   more = growth_more m;
   again = growth_again m;

@@ -1,6 +1,6 @@
 -- The numbers of a market at a choice of its system, each of a kind. Money is of none: only its sums may stand in a pair.
 -- Source: own; the sums are those of the dispatch, of the prices and of the settlement.
-use Rattle.std.specs.Prelude.{◌≡◌, ℕ, ◌<◌, List, length, Option, Some, None, ◌⊎◌}
+use Rattle.std.specs.Prelude.{◌≡◌, false, ℕ, ◌<◌, List, length, Option, Some, None, ◌⊎◌}
 use Rattle.std.specs.List.{Contains}
 use Rattle.fraction_theory.specs.Fraction.{Fraction, whole, neg_ℚ}
 use Rattle.fraction_theory.specs.Sums.{Term, prefix}
@@ -32,7 +32,7 @@ IsInjecting m g h x = (x ≡ empty m) ⊎ ((x ≡ choice_dispatch m g h) × Best
 
 -- duals that show that nothing is feasible, by one basic variable of the choice: the price of energy and those of limits are, up to sign,
 -- what shows it, a limit has one on one side at most, and rows that were not taken have none; the prices of reserve and of rooms are likewise,
--- or 0
+-- or 0, and without reserve its price is 0
 pub record IsFarkasOf (m : Parts) (g : Taken) (h : Choice) (d : Duals Fraction) : Type 0 where
   pub shows : ShowsInfeasible m d
   pub basic : ℕ
@@ -44,6 +44,7 @@ pub record IsFarkasOf (m : Parts) (g : Taken) (h : Choice) (d : Duals Fraction) 
   pub reserve : (d.reserve ≡ zero) ⊎ SameSize d.reserve (multiplier h basic (need_name m))
   pub rooms : (u : ℕ) → Contains g.rooms u → (room_price m d u ≡ zero) ⊎ SameSize (room_price m d u) (multiplier h basic (room_name m u))
   pub no_other_rooms : (u : ℕ) → ¬ (Contains g.rooms u) → room_price m d u ≡ zero
+  pub energy_alone : m.reserve.listed ≡ false → d.reserve ≡ zero
 
 -- The sums that may be added up at a choice: each with the kind of its first terms, its terms in order, and when it counts. What has no kind
 -- may stand in a pair only where it is added up.
