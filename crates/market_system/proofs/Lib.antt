@@ -1,5 +1,6 @@
 mod AnswerTests
 pub mod BlockChoices
+pub mod Clamps
 pub mod Completeness
 pub mod DualLists
 pub mod FrameLaws
