@@ -19,7 +19,7 @@ use Rattle.market_model.specs.Market.{IsMarket}
 use Rattle.market_model.specs.Dispatch.{Dispatch, places, block_at, offer_at, signed_by_side, accepted, quantity, reserved, reserve_quantity, raised_by, balance, output, demand}
 use Rattle.market_model.specs.Optimality.{Feasible, Supports, Gains, Loses, price, block_value, value_terms, penalty_terms, welfare_for, welfare, net_shadow_price, bus_price, unit_price, energy_worth, reserve_worth}
 use Rattle.market_model.specs.Overrun.{excess}
-use Rattle.market_model.specs.Reserves.{offer_places, reserve, reserve_cost_terms, reserve_need, reserve_price}
+use Rattle.market_model.specs.Reserves.{offer_places, reserve, reserve_cost_terms, reserve_need, offer_price}
 use Rattle.market_model.specs.Settlement.{surplus}
 use Rattle.market_model.specs.Laws.{LawOfTheOptimum, LawOfTheSurplus, LawOfItsSign, LawOfNoLimits}
 use Rattle.market_model.proofs.RowLaws.{row_prices, row_penalties, priced-by_rows, row_prices-rents, row_prices-most, rents-sign}
@@ -92,23 +92,23 @@ greatest_of_blocks m d x y s fy =
 
 -- an offer of reserve gains as a block that sells: what is accepted at the worth of its unit's reserve, less what it costs
 pub gains-by_offers : (m : Parts) (d : Duals Fraction) (x : Dispatch)
-    → sum_by (λ n. gain Sell (reserve_price m n) (reserve_worth m d (offer_at m n).unit) (reserved x n)) (offer_places m) ≡ reserve_made m d x -ℚ cost_of_reserve m x
+    → sum_by (λ n. gain Sell (offer_price m n) (reserve_worth m d (offer_at m n).unit) (reserved x n)) (offer_places m) ≡ reserve_made m d x -ℚ cost_of_reserve m x
 gains-by_offers m d x =
-    sum_by-same (λ n. gain Sell (reserve_price m n) (reserve_worth m d (offer_at m n).unit) (reserved x n)) (λ n. reserve_worth m d (offer_at m n).unit *ℚ reserved x n -ℚ reserve_price m n *ℚ reserved x n)
+    sum_by-same (λ n. gain Sell (offer_price m n) (reserve_worth m d (offer_at m n).unit) (reserved x n)) (λ n. reserve_worth m d (offer_at m n).unit *ℚ reserved x n -ℚ offer_price m n *ℚ reserved x n)
     (offer_places m)
-    (λ n. by_ring ring_ℚ (reserve_price m n ∷ reserve_worth m d (offer_at m n).unit ∷ reserved x n ∷ []) (pneg (at 0) ⊗ at 2 ⊕ at 1 ⊗ at 2) (at 1 ⊗ at 2 ⊕ pneg (at 0 ⊗ at 2)) refl)
-    ∙ sum_by-minus (λ n. reserve_worth m d (offer_at m n).unit *ℚ reserved x n) (λ n. reserve_price m n *ℚ reserved x n) (offer_places m)
+    (λ n. by_ring ring_ℚ (offer_price m n ∷ reserve_worth m d (offer_at m n).unit ∷ reserved x n ∷ []) (pneg (at 0) ⊗ at 2 ⊕ at 1 ⊗ at 2) (at 1 ⊗ at 2 ⊕ pneg (at 0 ⊗ at 2)) refl)
+    ∙ sum_by-minus (λ n. reserve_worth m d (offer_at m n).unit *ℚ reserved x n) (λ n. offer_price m n *ℚ reserved x n) (offer_places m)
 
 greatest_of_offers : (m : Parts) (d : Duals Fraction) (x y : Dispatch) → Supports m x d → Feasible m y → (reserve_made m d y -ℚ cost_of_reserve m y) ≤ℚ (reserve_made m d x -ℚ cost_of_reserve m x)
 greatest_of_offers m d x y s fy =
     subst₂ ◌≤ℚ◌ (gains-by_offers m d y) (gains-by_offers m d x)
     (sum_by-≤ (λ n. of_offer y n) (λ n. of_offer x n) (offer_places m)
     (places_all (λ n. of_offer y n ≤ℚ of_offer x n) (length m.reserve.offers)
-    (λ n lt. supported_gains Sell (reserve_price m n) (reserve_worth m d (offer_at m n).unit) (reserved x n) (reserve_quantity m n) (reserved y n)
+    (λ n lt. supported_gains Sell (offer_price m n) (reserve_worth m d (offer_at m n).unit) (reserved x n) (reserve_quantity m n) (reserved y n)
     (s.offers n lt).full (s.offers n lt).empty (fy.blocks.reserve_above n lt) (fy.blocks.reserve_within n lt))))
   where
     of_offer : Dispatch → ℕ → Fraction
-    of_offer t n = gain Sell (reserve_price m n) (reserve_worth m d (offer_at m n).unit) (reserved t n)
+    of_offer t n = gain Sell (offer_price m n) (reserve_worth m d (offer_at m n).unit) (reserved t n)
 
 -- of reserve at its price, less what is used of rooms, a supported dispatch makes the least
 least_of_reserve : (m : Parts) (d : Duals Fraction) (x y : Dispatch) → Supports m x d → Feasible m y → (d.reserve *ℚ reserve m x -ℚ rooms_taken m d x) ≤ℚ (d.reserve *ℚ reserve m y -ℚ rooms_taken m d y)

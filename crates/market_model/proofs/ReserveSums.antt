@@ -14,7 +14,7 @@ use Rattle.market_model.specs.declared.participants.Parts.{Parts}
 use Rattle.market_model.specs.declared.answered.Duals.{Duals}
 use Rattle.market_model.specs.Market.{IsMarket, IsReserveOffer}
 use Rattle.market_model.specs.Dispatch.{Dispatch, zero, places, block_at, offer_at, unit_at, raised_by, reserved, blocks_of, block_term}
-use Rattle.market_model.specs.Reserves.{offer_places, offers_of, offers_reserve, reserve, reserve_cost_terms, reserve_need, reserve_price, reserve_units, reserved_term, room, room_used}
+use Rattle.market_model.specs.Reserves.{offer_places, offers_of, offers_reserve, reserve, reserve_cost_terms, reserve_need, offer_price, reserve_units, reserved_term, room, room_used}
 use Rattle.market_model.specs.Optimality.{Feasible, NeedSupported, RoomSupported, energy_worth, reserve_worth, room_price, room_price_in, unit_price}
 use Rattle.market_model.proofs.PlaceSums.{places_all, gather_times}
 use Rattle.market_model.proofs.MarketSums.{block_unit-in, sum_by-minus, sum_by-neg}
@@ -39,13 +39,13 @@ room_used-by_parts m x u =
 
 -- what the accepted reserve costs
 abbrev pub cost_of_reserve : Parts → Dispatch → Fraction
-cost_of_reserve m x = sum_by (λ n. reserve_price m n *ℚ reserved x n) (offer_places m)
+cost_of_reserve m x = sum_by (λ n. offer_price m n *ℚ reserved x n) (offer_places m)
 
 pub reserve_cost-by_offers : (m : Parts) (x : Dispatch) → total (reserve_cost_terms m x) ≡ neg_ℚ (cost_of_reserve m x)
 reserve_cost-by_offers m x =
-    total-Product (λ n. neg_ℚ (reserve_price m n)) (reserved x) (offer_places m)
-    ∙ sum_by-same (λ n. neg_ℚ (reserve_price m n) *ℚ reserved x n) (λ n. neg_ℚ (reserve_price m n *ℚ reserved x n)) (offer_places m) (λ n. neg_times ring_ℚ (reserve_price m n) (reserved x n))
-    ∙ sum_by-neg (λ n. reserve_price m n *ℚ reserved x n) (offer_places m)
+    total-Product (λ n. neg_ℚ (offer_price m n)) (reserved x) (offer_places m)
+    ∙ sum_by-same (λ n. neg_ℚ (offer_price m n) *ℚ reserved x n) (λ n. neg_ℚ (offer_price m n *ℚ reserved x n)) (offer_places m) (λ n. neg_times ring_ℚ (offer_price m n) (reserved x n))
+    ∙ sum_by-neg (λ n. offer_price m n *ℚ reserved x n) (offer_places m)
 
 -- ---- at duals
 -- a unit that offers no reserve has a room of price 0

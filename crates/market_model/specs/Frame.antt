@@ -1,5 +1,5 @@
 -- The frame of a market: what no edit changes. It is the factors with how many places each may have, the places and sides of blocks, the units with their fixed parts, the outages,
--- the offsets, which limits there are with their penalties and excesses, and the offers of reserve.
+-- the offsets, which limits there are with their penalties and excesses, and whether there is reserve, with its offers.
 -- Source: own.
 use Rattle.std.specs.Prelude.{◌≡◌, pos, map, option_map}
 use Rattle.market_data.specs.declared.participants.Bus.{Bus}

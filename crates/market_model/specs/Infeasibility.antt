@@ -30,7 +30,7 @@ offer_weight m d n = reserve_worth m d (offer_at m n).unit
 abbrev pub limit_terms : Parts → Duals Fraction → Row → List Term
 limit_terms m d r = Product (up_of m d r) (most_flow m r -ℚ flow m (empty m) r) ∷ Product (down_of m d r) (most_flow m r +ℚ flow m (empty m) r) ∷ []
 
--- where reserve is cleared, what no reserve leaves of the need at its price, which is below 0, and whole rooms at theirs
+-- the need of a market with reserve, at the price of reserve and counted down, and whole rooms at their prices
 abbrev pub reserve_left_terms : Parts → Duals Fraction → List Term
 reserve_left_terms m d = (if m.reserve.listed then Product d.reserve (neg_ℚ (reserve_need m)) ∷ [] else []) ++ map (λ u. Product (room_price m d u) (room m u)) (reserve_units m)
 

@@ -23,7 +23,7 @@ use Rattle.market_model.specs.Overrun.{Within}
 abbrev pub LawOfTheOptimum : Type 0
 LawOfTheOptimum = (m : Parts) (d : Duals Fraction) (x y : Dispatch) → IsMarket m → Feasible m x → Supports m x d → Feasible m y → welfare m y ≤ℚ welfare m x
 
--- where duals support a feasible dispatch, loads pay what units are paid and what limits earn
+-- where duals support a feasible dispatch, loads pay what units are paid for energy and what limits earn
 abbrev pub LawOfTheSurplus : Type 0
 LawOfTheSurplus = (m : Parts) (d : Duals Fraction) (x : Dispatch) → IsMarket m → Feasible m x → Supports m x d → surplus m x d ≡ sum_by (rent m x d) (rows m)
 
@@ -31,7 +31,7 @@ LawOfTheSurplus = (m : Parts) (d : Duals Fraction) (x : Dispatch) → IsMarket m
 abbrev pub HasOffsetsWithin : Parts → Duals Fraction → Type 0
 HasOffsetsWithin m d = (r : Row) → Contains (rows m) r → (zero <ℚ up_of m d r) ⊎ (zero <ℚ down_of m d r) → Within (limit m r) (row_offset m r)
 
--- and then nothing is short
+-- and then nothing is short for energy
 abbrev pub LawOfItsSign : Type 0
 LawOfItsSign = (m : Parts) (d : Duals Fraction) (x : Dispatch) → IsMarket m → Feasible m x → Supports m x d → HasOffsetsWithin m d → zero ≤ℚ surplus m x d
 

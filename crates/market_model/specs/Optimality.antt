@@ -1,8 +1,8 @@
 -- Feasible dispatches, their welfare, and the duals that support one.
 -- Schweppe, Caramanis, Tabors and Bohn, Spot Pricing of Electricity: a bus price is the price of energy less what the
--- limits take. A unit's own price is that at its bus, less what the limits after its loss take. A seller whose offer is below it
--- sells all, one whose offer is above it nothing, and a buyer the other way. Where a unit's room binds, what a MW of it is worth for reserve is
--- taken from the worth of both, its energy and its reserve.
+-- limits take. A unit's own price is that at its bus, less what the limits after its loss take. The price of its room is taken from what a MW
+-- of it is worth, as energy at its own price and as reserve at that of reserve. A seller whose offer is below the worth of its energy sells all,
+-- one whose offer is above it nothing, and a buyer the other way.
 use Rattle.std.specs.Prelude.{◌≡◌, ◌⊎◌, ◌==◌, ◌&&◌, ◌||◌, ℕ, ◌<◌, Bool, false, List, [], ◌∷◌, ◌++◌, length, map, filter, All, Contains, if◌then◌else◌}
 use Rattle.fraction_theory.specs.Fraction.{Fraction, whole, neg_ℚ, ◌+ℚ◌, ◌-ℚ◌}
 use Rattle.fraction_theory.specs.Order.{◌<ℚ◌, ◌≤ℚ◌}
@@ -18,7 +18,7 @@ use Rattle.market_model.specs.Dispatch.{Dispatch, IsDispatch, zero, places, bloc
 use Rattle.market_model.specs.declared.limits.Row.{Row}
 use Rattle.market_model.specs.LimitRows.{rows, row_id, limit, loses, most_flow, penalty, is_soft, row_factor, row_pickup, flow}
 use Rattle.market_model.specs.Overrun.{excess, Within}
-use Rattle.market_model.specs.Reserves.{offers_reserve, reserve, reserve_cost_terms, reserve_need, reserve_price, reserve_units, room, room_used}
+use Rattle.market_model.specs.Reserves.{offers_reserve, reserve, reserve_cost_terms, reserve_need, offer_price, reserve_units, room, room_used}
 
 -- the flow f of each of these rows is at most so much on either side
 abbrev pub AreWithin : List Row → (Row → Fraction) → (Row → Fraction) → Type 0
@@ -132,7 +132,7 @@ pub record IsOneSided (d : Dual Fraction) : Type 0 where
   pub one : ((zero <ℚ d.up) × (d.down ≡ zero)) ⊎ ((d.up ≡ zero) × (zero <ℚ d.down))
 
 -- The duals of an answer name rows of the market in its order, none twice, each with one price, and units that offer reserve likewise, each
--- with a price above 0. Where no reserve is cleared, it has no price.
+-- with a price above 0. Where the market has no reserve, its price is 0.
 pub record ProperDuals (m : Parts) (d : Duals Fraction) : Type 0 where
   pub named : map (λ e. e.row) d.limits ≡ map (row_id m) (named_rows m d)
   pub one_sided : All IsOneSided d.limits
@@ -211,8 +211,8 @@ pub record BlockSupported (m : Parts) (x : Dispatch) (d : Duals Fraction) (j : �
 
 -- and so for an offer of reserve
 pub record OfferSupported (m : Parts) (x : Dispatch) (d : Duals Fraction) (n : ℕ) : Type 0 where
-  pub full : reserve_price m n <ℚ reserve_worth m d (offer_at m n).unit → reserved x n ≡ reserve_quantity m n
-  pub empty : reserve_worth m d (offer_at m n).unit <ℚ reserve_price m n → reserved x n ≡ zero
+  pub full : offer_price m n <ℚ reserve_worth m d (offer_at m n).unit → reserved x n ≡ reserve_quantity m n
+  pub empty : reserve_worth m d (offer_at m n).unit <ℚ offer_price m n → reserved x n ≡ zero
 
 -- the price of reserve is at least 0, and above 0 only where no more is accepted than is needed
 pub record NeedSupported (m : Parts) (x : Dispatch) (d : Duals Fraction) : Type 0 where

@@ -8,7 +8,7 @@ use Rattle.market_model.specs.declared.participants.Reserve.{Reserve}
 use Rattle.market_model.specs.declared.participants.ReserveOffer.{ReserveOffer}
 use Rattle.market_model.specs.Dispatch.{Dispatch, places, offer_at, unit_at, blocks_of, block_term, reserved}
 
--- none is offered and none is needed: a market of energy alone
+-- that of a market of energy alone: it is not listed, none is offered and none is needed
 abbrev pub no_reserve : Reserve
 no_reserve = record { listed = false; offers = []; need = pos 0 }
 
@@ -16,8 +16,8 @@ no_reserve = record { listed = false; offers = []; need = pos 0 }
 abbrev pub reserve_need : Parts → Fraction
 reserve_need m = whole m.reserve.need
 
-abbrev pub reserve_price : Parts → ℕ → Fraction
-reserve_price m n = whole (offer_at m n).price
+abbrev pub offer_price : Parts → ℕ → Fraction
+offer_price m n = whole (offer_at m n).price
 
 -- the offers, by place
 abbrev pub offer_places : Parts → List ℕ
@@ -31,7 +31,7 @@ offers_among (o ∷ os) u = (o.unit == u) || offers_among os u
 abbrev pub offers_reserve : Parts → ℕ → Bool
 offers_reserve m u = offers_among m.reserve.offers u
 
--- the units that do, in the order of the units: each has room for its energy and its reserve together
+-- the units that do, in the order of the units
 abbrev pub reserve_units : Parts → List ℕ
 reserve_units m = filter (offers_reserve m) (places (length m.units))
 
@@ -63,4 +63,4 @@ room m u = whole (unit_at m u).up
 
 -- what the accepted reserve costs
 abbrev pub reserve_cost_terms : Parts → Dispatch → List Term
-reserve_cost_terms m x = map (λ n. Product (neg_ℚ (reserve_price m n)) (reserved x n)) (offer_places m)
+reserve_cost_terms m x = map (λ n. Product (neg_ℚ (offer_price m n)) (reserved x n)) (offer_places m)

@@ -15,7 +15,7 @@ use Rattle.market_model.specs.LimitRows.{Carried, carried, flow_by, limit, row_o
 use Rattle.market_model.specs.Overrun.{excess_by}
 
 -- ---- at prices by bus, and the prices of rows
--- what a unit is paid: its own price for its output
+-- what a unit is paid for energy: its own price for its output
 abbrev pub unit_term : Parts → Dispatch → (ℕ → Fraction) → Duals Fraction → ℕ → Term
 unit_term m x price d u = Product (own_price m d price u) (output m x u)
 
@@ -51,7 +51,7 @@ abbrev pub pay_of_reserve : Dispatch → Duals Fraction → ℕ → ReservePay F
 pay_of_reserve x d n = record { mw = reserved x n; paid = term_value (reserve_term x d n) }
 
 -- ---- at the prices of duals
--- what a unit is paid for its output
+-- what a unit is paid for energy
 unfoldable pub paid : Parts → Dispatch → Duals Fraction → ℕ → Fraction
 paid m x d u = (pay_of_unit m x (bus_price m d) d u).paid
 

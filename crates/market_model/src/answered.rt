@@ -29,7 +29,7 @@ pub struct RoomDual<N> {
     pub price: N,
 }
 
-/// The price of energy and of each limit that has one, and with reserve its price and that of each unit's room that has one.
+/// The price of energy and of each limit that has one; and the price of reserve, and of each room that has one.
 #[derive(Drop, Debug)]
 pub struct Duals<N> {
     pub energy: N,
@@ -46,7 +46,7 @@ pub struct Price<N> {
     pub total: N,
 }
 
-/// A unit's output and what it is paid.
+/// A unit's output and what it is paid for it.
 #[derive(Clone, Copy, Debug)]
 pub struct UnitPay<N> {
     pub mw: N,
@@ -77,7 +77,7 @@ pub struct Rent<N> {
     pub rent: N,
 }
 
-/// The settlement: an entry for each live unit, each live bus and each limit with a dual.
+/// The settlement: an entry for each live unit, each lost one, each live bus, each limit with a dual and each offer of reserve.
 #[derive(Drop, Debug)]
 pub struct Money<N> {
     pub units: List<UnitPay<N>>,

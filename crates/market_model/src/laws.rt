@@ -6,8 +6,8 @@ pub fn supported_is_best()
     ensures { LawOfTheOptimum }
 {}
 
-/// Where duals support a feasible dispatch, what loads pay beyond what units are paid is what the
-/// limits earn.
+/// Where duals support a feasible dispatch, what loads pay beyond what units are paid for energy is
+/// what the limits earn.
 pub fn surplus_is_rents()
     ensures { LawOfTheSurplus }
 {}

@@ -102,7 +102,7 @@ pub struct ReserveOffer {
 /// Spinning reserve: what units offer of it, and how much is needed.
 #[derive(Drop, Debug)]
 pub struct Reserve {
-    /// Whether it is cleared together with energy.
+    /// Whether it is cleared together with energy; where not, none is offered or needed.
     pub listed: bool,
     pub offers: List<ReserveOffer>,
     /// In 10^-9 MW.

@@ -27,7 +27,7 @@ use Rattle.market_model.specs.Infeasibility.{IsFarkas, farkas_bound}
 use Rattle.market_model.specs.declared.limits.Row.{Row}
 use Rattle.market_model.specs.LimitRows.{rows, row_id, limit, penalty, flow, most_flow}
 use Rattle.market_model.specs.Optimality.{BlockSupported, Feasible, Gains, IsOneSided, Loses, OfferSupported, ProperDuals, RoomSupported, RowSupported, SideSupported, Supports, down_of, energy_worth, named_rooms, named_rows, price, reserve_worth, room_price, same_id, up_of}
-use Rattle.market_model.specs.Reserves.{offer_places, reserve, reserve_need, reserve_price, reserve_units, room, room_used}
+use Rattle.market_model.specs.Reserves.{offer_places, reserve, reserve_need, offer_price, reserve_units, room, room_used}
 use Rattle.market_model.specs.RightAnswers.{IsRight, answer_of, dispatch_in}
 use Rattle.market_system.proofs.LawsOfSolving.{law_of_the_answer}
 use Rattle.market_system.proofs.VariableLaws.{in_places}
@@ -213,13 +213,13 @@ is_row_supported-true m x d r e =
     record { up = parts.0; down = parts.1 }
 
 abbrev is_offer_supported : Parts → Dispatch → Duals Fraction → ℕ → Bool
-is_offer_supported m x d n = (same (reserved x n) (reserve_quantity m n) || at_most (reserve_worth m d (offer_at m n).unit) (reserve_price m n))
-    && (same (reserved x n) zero || at_most (reserve_price m n) (reserve_worth m d (offer_at m n).unit))
+is_offer_supported m x d n = (same (reserved x n) (reserve_quantity m n) || at_most (reserve_worth m d (offer_at m n).unit) (offer_price m n))
+    && (same (reserved x n) zero || at_most (offer_price m n) (reserve_worth m d (offer_at m n).unit))
 
 is_offer_supported-true : (m : Parts) (x : Dispatch) (d : Duals Fraction) (n : ℕ) → is_offer_supported m x d n ≡ true → OfferSupported m x d n
 is_offer_supported-true m x d n e =
-    let full = same_or (reserved x n) (reserve_quantity m n) (not_below (reserve_price m n) (reserve_worth m d (offer_at m n).unit)) in
-    let empty = same_or (reserved x n) zero (not_below (reserve_worth m d (offer_at m n).unit) (reserve_price m n)) in
+    let full = same_or (reserved x n) (reserve_quantity m n) (not_below (offer_price m n) (reserve_worth m d (offer_at m n).unit)) in
+    let empty = same_or (reserved x n) zero (not_below (reserve_worth m d (offer_at m n).unit) (offer_price m n)) in
     let parts = both full empty e in
     record { full = parts.0; empty = parts.1 }
 

@@ -13,7 +13,7 @@ use Rattle.fraction_theory.proofs.Ring.{by_ring, at, pnil, pone, pneg, ◌⊕◌
 use Rattle.fraction_theory.proofs.FieldLaws.{ring_ℚ}
 use Rattle.fraction_theory.proofs.OrderLaws.{≤ℚ_refl, ≤ℚ_of_same, <ℚ-≤ℚ, <ℚ_irrefl, by_le1, NonNeg-one}
 use Rattle.fraction_theory.proofs.SignLaws.{sign_of_is, part_at_least, part_at_most, part_least}
-use Rattle.fraction_theory.proofs.ListSums.{kept, Contains-head, Contains-cons, Contains-cases, Contains-filter, Contains-from_filter, filter-members}
+use Rattle.fraction_theory.proofs.ListSums.{kept, Contains-head, Contains-cons, Contains-filter, Contains-from_filter, filter-members}
 use Rattle.simplex_theory.proofs.Signs.{neg_above}
 use Rattle.market_model.specs.declared.answered.Dual.{Dual}
 use Rattle.market_model.specs.declared.answered.Duals.{Duals}
@@ -21,7 +21,7 @@ use Rattle.market_model.specs.declared.answered.RoomDual.{RoomDual}
 use Rattle.market_model.specs.declared.answered.RowId.{RowId}
 use Rattle.market_model.specs.declared.participants.Parts.{Parts}
 use Rattle.market_model.specs.declared.participants.ReserveOffer.{ReserveOffer}
-use Rattle.market_model.specs.Dispatch.{zero as nil, places, offer_at, unit_at}
+use Rattle.market_model.specs.Dispatch.{zero as nil, places, unit_at}
 use Rattle.market_model.specs.declared.limits.Row.{Row}
 use Rattle.market_model.specs.LimitRows.{rows, row_id}
 use Rattle.market_model.specs.Market.{IsMarket, IsReserveOffer}
@@ -30,8 +30,9 @@ use Rattle.market_model.specs.Reserves.{offers_among, offers_reserve, reserve_un
 use Rattle.limit_rows.proofs.ApartLemmas.{unit_of_row}
 use Rattle.market_system.specs.Growth.{PricesOnly}
 use Rattle.market_system.specs.MarketSystem.{row_name, room_name, need_name, is_in, in_order, is_among, rooms_in_order, dual_by, room_dual_by, duals_by_cost}
+use Rattle.market_system.proofs.RoomBounds.{reserve_unit-in}
 use Rattle.market_system.proofs.RowOrder.{RowsApart, row_or_not, is_in-in, is_in-from, in_order-in, in_order-from, in_order-filter, is_among-in, is_among-from, rooms_in_order-filter, and_true, same_number, same_row-not, same_row-itself}
-use Rattle.market_system.proofs.VariableLaws.{in_places, from_places}
+use Rattle.market_system.proofs.VariableLaws.{in_places}
 
 -- rows of a market have different names
 abbrev pub NamesApart : Parts → Type 0
@@ -171,9 +172,6 @@ reserve_unit-below m market u h =
     let is : IsReserveOffer (length m.units) o = subst (IsReserveOffer (length m.units)) c.2 (market.reserve.each c.0 o c.1) in
     subst (λ (w : ℕ). w < length m.units) e is.unit
 
-pub reserve_units-below : (m : Parts) (u : ℕ) → Contains (reserve_units m) u → u < length m.units
-reserve_units-below m u c = from_places (length m.units) u (Contains-from_filter (offers_reserve m) (places (length m.units)) u c).0
-
 pub both_filters : {T : Type 0} (p q : T → Bool) (xs : List T) → filter q (filter p xs) ≡ filter (λ x. p x && q x) xs
 both_filters p q [] = refl
 both_filters {T} p q (r ∷ rs) = by (p r) (both_filters p q rs)
@@ -311,7 +309,7 @@ module _ (m : Parts) (market : IsMarket m) (cost_of : ℕ → Fraction) where
     room_cost_of u = kept (takes_room m t.rooms u) (cost_of (room_name m u))
 
     in_units : (w : ℕ) → Contains (rooms_in_order m t.rooms) w → w < length m.units
-    in_units w c = reserve_units-below m w (Contains-from_filter (is_among t.rooms) (reserve_units m) w (subst (λ ws. Contains ws w) (rooms_in_order-filter m t.rooms) c)).0
+    in_units w c = reserve_unit-in m w (Contains-from_filter (is_among t.rooms) (reserve_units m) w (subst (λ ws. Contains ws w) (rooms_in_order-filter m t.rooms) c)).0
 
     among_in_order : (u : ℕ) → Contains (reserve_units m) u → is_among (rooms_in_order m t.rooms) u ≡ is_among t.rooms u
     among_in_order u c = ap (λ ws. is_among ws u) (rooms_in_order-filter m t.rooms) ∙ among_kept (is_among t.rooms) (reserve_units m) u c
@@ -338,7 +336,7 @@ module _ (m : Parts) (market : IsMarket m) (cost_of : ℕ → Fraction) where
         ∙ ap (map (λ u. (unit_at m u).row))
         (both_filters (is_among t.rooms) (λ u. priced_by (sign_of (room_cost u))) (reserve_units m)
         ∙ filter-members (λ u. is_among t.rooms u && priced_by (sign_of (room_cost u))) (λ u. names_room (room_duals (rooms_in_order m t.rooms)) (unit_at m u).row) (reserve_units m)
-        (λ u c. sym (named_room_in_list (rooms_in_order m t.rooms) in_units u (reserve_units-below m u c) ∙ ap (λ (b : Bool). b && priced_by (sign_of (room_cost u))) (among_in_order u c))))
+        (λ u c. sym (named_room_in_list (rooms_in_order m t.rooms) in_units u (reserve_unit-in m u c) ∙ ap (λ (b : Bool). b && priced_by (sign_of (room_cost u))) (among_in_order u c))))
 
 -- ---- lists of duals by rows
 module _ (m : Parts) (names : NamesApart m) (cost_of : ℕ → Fraction) where

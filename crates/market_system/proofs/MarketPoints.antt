@@ -26,7 +26,7 @@ use Rattle.market_model.specs.declared.limits.Row.{Row}
 use Rattle.market_model.specs.LimitRows.{rows, limit, is_soft, loses, lost_output, lost_unit, penalty, picked_up, pickup_factor, most_excess, most_flow, row_factor, row_offset, row_pickup, unit_factor, flow}
 use Rattle.market_model.specs.Market.{IsMarket}
 use Rattle.market_model.specs.Optimality.{FeasibleFor, Taken, block_value, value_terms, penalty_terms, welfare_for}
-use Rattle.market_model.specs.Reserves.{offer_places, reserve, reserve_cost_terms, reserve_need, reserve_price, reserve_units, room, room_used}
+use Rattle.market_model.specs.Reserves.{offer_places, reserve, reserve_cost_terms, reserve_need, offer_price, reserve_units, room, room_used}
 use Rattle.market_model.specs.Overrun.{excess, excess_by, Within}
 use Rattle.market_model.proofs.EnergyAlone.{no_need, nothing_reserved}
 use Rattle.market_model.proofs.Excesses.{penalty_least}
@@ -221,7 +221,7 @@ module _ (m : Parts) (apart : RowsApart m) (g : Taken) where
   pub coefficient-room_offer : (u : ℕ) → Contains over.rooms u → (n : ℕ) → n < length m.reserve.offers → s.coefficient (room_name m u) (offer_name m n) ≡ at_unit u (offer_at m n).unit (whole (pos 1))
   coefficient-room_offer u c n h = coefficient-at m over ordered (Room u) (Offer n) c h
 
-  pub price-offer : (n : ℕ) → n < length m.reserve.offers → s.price (offer_name m n) ≡ neg_ℚ (reserve_price m n)
+  pub price-offer : (n : ℕ) → n < length m.reserve.offers → s.price (offer_name m n) ≡ neg_ℚ (offer_price m n)
   price-offer n h = price-at m over ordered (Offer n) h
 
   pub low-offer : (n : ℕ) → n < length m.reserve.offers → s.low (offer_name m n) ≡ nil
@@ -277,7 +277,7 @@ module _ (m : Parts) (apart : RowsApart m) (g : Taken) where
   -- ---- what the blocks are worth, less the penalties of the soft rows and what reserve costs
   pub welfare-in_order : AreRows m g.limits → (x : Dispatch) → welfare_for m g.limits x
       ≡ (sum_by (λ j. block_value m j *ℚ accepted x j) (places (length m.blocks)) +ℚ sum_by (λ r. neg_ℚ (penalty m r) *ℚ excess m x r) (soft m over))
-      +ℚ sum_by (λ n. neg_ℚ (reserve_price m n) *ℚ reserved x n) (offer_places m)
+      +ℚ sum_by (λ n. neg_ℚ (offer_price m n) *ℚ reserved x n) (offer_places m)
   unfolding welfare_for
   welfare-in_order are x =
       total-append (value_terms m x ++ penalty_terms m g.limits x) (reserve_cost_terms m x)
@@ -286,7 +286,7 @@ module _ (m : Parts) (apart : RowsApart m) (g : Taken) where
       ∙ ap₂ ◌+ℚ◌
       (total-Product (block_value m) (accepted x) (places (length m.blocks)))
       (total-Product (λ r. neg_ℚ (penalty m r)) (excess m x) (filter (is_soft m) g.limits) ∙ sum_by-in_order m apart (λ r. neg_ℚ (penalty m r) *ℚ excess m x r) (is_soft m) g.limits are))
-      (total-Product (λ n. neg_ℚ (reserve_price m n)) (reserved x) (offer_places m))
+      (total-Product (λ n. neg_ℚ (offer_price m n)) (reserved x) (offer_places m))
 
   -- ---- a dispatch as a point
   -- what a column is at it: the columns of a soft row are what its flow is above its limit, and below the opposite
@@ -429,7 +429,7 @@ module _ (m : Parts) (apart : RowsApart m) (g : Taken) where
         (sum_by-members (λ r. neg_ℚ (penalty m r) *ℚ (point_of x (over_name m r) +ℚ point_of x (under_name m r))) (λ r. neg_ℚ (penalty m r) *ℚ excess m x r) (soft m over)
         (λ r k. let c = Contains-from_filter (is_soft m) over.limits r k in
         ap (λ t. neg_ℚ (penalty m r) *ℚ t) (ap₂ (λ (a b : Fraction). a +ℚ b) (point-over x r c.0 c.1) (point-under x r c.0 c.1) ∙ sym (excess-parts m market r (flow m x r))))))
-        (of_offers (λ n. neg_ℚ (reserve_price m n)) (point_of x) x (point-offer x))
+        (of_offers (λ n. neg_ℚ (offer_price m n)) (point_of x) x (point-offer x))
         ∙ sym (welfare-in_order are x)
 
     -- ---- a point as a dispatch
@@ -565,7 +565,7 @@ module _ (m : Parts) (apart : RowsApart m) (g : Taken) where
           (λ r k. let c = Contains-from_filter (is_soft m) over.limits r k in
           by_le1 (penalty m r ∷ (v (over_name m r) +ℚ v (under_name m r)) ∷ excess m (dispatch_at v) r ∷ []) (pneg (at 0) ⊗ at 1) (pneg (at 0) ⊗ at 2) (at 0) (at 2) (at 1) (NonNeg_from (penalty m r) (penalty_least m market r))
           (subst (λ (b : Bool). excess m (dispatch_at v) r ≤ℚ (kept b (v (over_name m r)) +ℚ kept b (v (under_name m r)))) c.1 (excess_least within r c.0)) refl))))
-          (≤ℚ_of_same offers_at_point offers_at_dispatch (sym (of_dispatch_offers (λ n. neg_ℚ (reserve_price m n)) v))))
+          (≤ℚ_of_same offers_at_point offers_at_dispatch (sym (of_dispatch_offers (λ n. neg_ℚ (offer_price m n)) v))))
         where
           blocks_at_point : Fraction
           blocks_at_point = sum_by (λ j. block_value m j *ℚ v j) (places (length m.blocks))
@@ -580,10 +580,10 @@ module _ (m : Parts) (apart : RowsApart m) (g : Taken) where
           penalty_at_dispatch r = neg_ℚ (penalty m r) *ℚ excess m (dispatch_at v) r
 
           offers_at_point : Fraction
-          offers_at_point = sum_by (λ n. neg_ℚ (reserve_price m n) *ℚ v (offer_name m n)) (offer_places m)
+          offers_at_point = sum_by (λ n. neg_ℚ (offer_price m n) *ℚ v (offer_name m n)) (offer_places m)
 
           offers_at_dispatch : Fraction
-          offers_at_dispatch = sum_by (λ n. neg_ℚ (reserve_price m n) *ℚ reserved (dispatch_at v) n) (offer_places m)
+          offers_at_dispatch = sum_by (λ n. neg_ℚ (offer_price m n) *ℚ reserved (dispatch_at v) n) (offer_places m)
 
     -- ---- the two together
     pub points_are : AreTaken m g → PointsAreDispatches m g

@@ -1,17 +1,16 @@
 -- A solved choice of a market's system over some of its limit rows and rooms: its dispatch is best for these, and its duals support it where
 -- the limits of other rows are kept.
-use Rattle.std.specs.Prelude.{◌≡◌, ℕ, ◌<◌, ◌==◌, ◌&&◌, pos, Bool, true, false, List, [], ◌∷◌, length, map, if◌then◌else◌, Contains, refl, ◌⊎◌}
-use Rattle.std.proofs.Common.{arith, ap, ap₂, sym, ◌∙◌, subst, subst₂, inl, inr, get_or}
-use Rattle.std.proofs.lemmas.List.FromFn.{length-range_with_len, get_or-range_with_len, get_or-map-range_with_len}
+use Rattle.std.specs.Prelude.{◌≡◌, ℕ, ◌<◌, ◌==◌, ◌&&◌, pos, Bool, true, false, List, [], ◌∷◌, length, if◌then◌else◌, Contains, refl, ◌⊎◌}
+use Rattle.std.proofs.Common.{arith, ap, ap₂, sym, ◌∙◌, subst, subst₂, inl, inr}
 use Rattle.fraction_theory.specs.Fraction.{Fraction, whole, neg_ℚ, ◌+ℚ◌, ◌-ℚ◌, ◌*ℚ◌}
 use Rattle.fraction_theory.specs.Order.{◌≤ℚ◌, ◌<ℚ◌}
 use Rattle.fraction_theory.specs.Signs.{sign_of, part_above}
 use Rattle.fraction_theory.specs.Sums.{sum_by}
 use Rattle.fraction_theory.proofs.Ring.{by_ring, by_ring1, at, pnil, pone, pneg, ◌⊕◌, ◌⊗◌}
 use Rattle.fraction_theory.proofs.FieldLaws.{ring_ℚ}
-use Rattle.fraction_theory.proofs.OrderLaws.{≤ℚ_antisym, ≤ℚ_trans, ≤ℚ_refl, ≤ℚ_of_same, ≤ℚ-or-<ℚ, <ℚ-≤ℚ, <ℚ_irrefl, <ℚ-not-≤ℚ, by_le1, not-≤ℚ, NonNeg-one, whole-≤ℚ}
-use Rattle.fraction_theory.proofs.SignLaws.{part_at_least, part_at_most, part_least}
-use Rattle.fraction_theory.proofs.SumLaws.{sum_by-nil, sum_by-same, sum_by-times, total-append, total-Plain, total-Product}
+use Rattle.fraction_theory.proofs.OrderLaws.{≤ℚ_antisym, ≤ℚ_trans, ≤ℚ_refl, ≤ℚ-or-<ℚ, <ℚ_irrefl, <ℚ-not-≤ℚ, by_le1, not-≤ℚ, NonNeg-one}
+use Rattle.fraction_theory.proofs.SignLaws.{part_at_most, part_least}
+use Rattle.fraction_theory.proofs.SumLaws.{sum_by-nil, sum_by-same, sum_by-times, total-Product}
 use Rattle.fraction_theory.proofs.ListSums.{kept, Contains-filter, Contains-from_filter, sum_by-filter, sum_by-members}
 use Rattle.linear_system.specs.Systems.{System, IsSystem, objective}
 use Rattle.linear_system.specs.Choices.{Choice, IsChoice, value, reduced}
@@ -22,27 +21,29 @@ use Rattle.market_model.specs.declared.participants.Side.{Side}
 use Rattle.market_model.specs.declared.participants.Side.TheVariants.{Sell, Buy}
 use Rattle.market_model.specs.declared.participants.Parts.{Parts}
 use Rattle.market_model.specs.declared.participants.Reserve.{Reserve}
-use Rattle.market_model.specs.Dispatch.{Dispatch, zero as nil, places, block_at, blocks_of, offer_at, unit_at, signed_by_side, raised_by, accepted, quantity, reserved, reserve_quantity, empty, block_term}
+use Rattle.market_model.specs.Dispatch.{Dispatch, zero as nil, places, block_at, blocks_of, offer_at, unit_at, signed_by_side, raised_by, accepted, quantity, reserved, reserve_quantity, empty}
 use Rattle.market_model.specs.declared.limits.Row.{Row}
 use Rattle.market_model.specs.LimitRows.{rows, limit, is_soft, penalty, most_excess, unit_factor, flow}
-use Rattle.market_model.specs.Market.{IsMarket, IsBlock, IsReserveOffer}
+use Rattle.market_model.specs.Market.{IsMarket}
 use Rattle.market_model.specs.Optimality.{Taken, block_value, price, net_shadow_price, up_of, down_of, unit_price, energy_worth, reserve_worth, room_price, welfare_for, Gains, Loses, BlockSupported, OfferSupported, NeedSupported, RoomSupported, SideSupported, RowSupported, Supports, ProperDuals, congestion_by, price_by}
-use Rattle.market_model.specs.Reserves.{offer_places, offers_of, reserve, reserve_need, reserve_price, reserve_units, reserved_term, offers_reserve, room, room_used}
+use Rattle.market_model.specs.Reserves.{offer_places, offers_of, reserve, reserve_need, offer_price, reserve_units, offers_reserve, room, room_used}
 use Rattle.market_model.proofs.Excesses.{penalty_least}
 use Rattle.market_model.proofs.PlaceSums.{sum_by-one_place}
+use Rattle.market_model.proofs.MarketSums.{block_unit-in}
+use Rattle.market_model.proofs.ReserveSums.{offer_unit-in, reserve-by_offers, room_used-by_parts}
 use Rattle.market_model.proofs.RowLaws.{unit_price-by_factors}
-use Rattle.market_system.specs.declared.variables.Variable.{Variable}
 use Rattle.market_system.specs.declared.variables.Variable.TheVariants.{Block, Balance, Limit, Over, Under, Offer, Need, Room}
 use Rattle.market_system.specs.Growth.{BestFor}
-use Rattle.market_system.specs.MarketSystem.{name, high, low, balance_name, row_name, over_name, under_name, offer_name, need_name, room_name, at_row, at_unit, is_in, in_order, is_among, rooms_in_order, taken_in_order, block_sign, block_coefficient, most_reserve, reserve_offered, system_of, point_dispatch, choice_dispatch, duals_by_cost, choice_duals, IsVariableOf}
+use Rattle.market_system.specs.MarketSystem.{low, balance_name, row_name, over_name, under_name, offer_name, need_name, room_name, at_row, at_unit, is_in, in_order, is_among, rooms_in_order, taken_in_order, block_sign, block_coefficient, most_reserve, reserve_offered, system_of, choice_dispatch, duals_by_cost, choice_duals}
 use Rattle.market_system.specs.SolvedLaws.{AreTaken, SupportsFor, state_at}
 use Rattle.market_system.proofs.Clamps.{all_reach, room_low-blocks, room_low-offers, where_low, raised-low, raised-least, block_clamped-full, block_clamped-empty, offer_clamped-full, offer_clamped-empty, buys_fit}
-use Rattle.market_system.proofs.RowOrder.{RowsApart, AreInOrder, same_row-itself, same_row-not, is_in-in, is_in-from, is_among-in, is_among-from, rooms_in_order-in, in_order-in, in_order-filter, ordered-distinct}
-use Rattle.market_system.proofs.DualLists.{NamesApart, rows_apart, takes_room, rooms_in_order-places, reserve_unit-below, reserve_units-below, same_itself, up_by, down_by, up_sign, down_sign, up_most, down_most, up_is, down_is, up-made, down-made, net_price-made, room_price-made, proper-made}
-use Rattle.market_system.proofs.MarketPoints.{point_of, point_meets, point_within, point_welfare, dispatch_welfare, dispatch_flow, dispatch_feasible, added_within, over_between, under_between}
+use Rattle.market_system.proofs.RowOrder.{RowsApart, AreInOrder, same_row-itself, same_row-not, is_in-in, is_in-from, is_among-from, in_order-in, in_order-filter, ordered-distinct}
+use Rattle.market_system.proofs.DualLists.{NamesApart, rows_apart, takes_room, rooms_in_order-places, same_itself, up_by, down_by, up_sign, down_sign, up_most, down_most, up_is, down_is, up-made, down-made, net_price-made, room_price-made, proper-made}
+use Rattle.market_system.proofs.MarketPoints.{point_of, point_meets, point_within, point_welfare, dispatch_at-accepted, dispatch_at-reserved, dispatch_reserve, dispatch_room, dispatch_welfare, dispatch_flow, dispatch_feasible, added_within, over_between, under_between}
+use Rattle.market_system.proofs.RoomBounds.{reserve_unit-in}
 use Rattle.market_system.proofs.RowSums.{sum_by-alone}
 use Rattle.market_system.proofs.SoftRows.{kept_most, kept_nil, side_stands, side_unpriced}
-use Rattle.market_system.proofs.VariableLaws.{in_places, from_places, taken-in_order, is_system_over, column_in, offer_in, column_listed, excess_listed, variable_in, over_in, under_in, sum-rows, sum-variables, coefficient-at, price-at, low-at, high-at, row_listed, need_in, room_in, activity-need, activity-room}
+use Rattle.market_system.proofs.VariableLaws.{in_places, from_places, taken-in_order, is_system_over, column_in, offer_in, column_listed, excess_listed, variable_in, over_in, under_in, sum-rows, sum-variables, coefficient-at, price-at, low-at, high-at}
 use Rattle.market_model.specs.Overrun.{Within}
 
 -- ---- differences by their sign
@@ -64,21 +65,6 @@ part_positive x l = elim (≤ℚ-or-<ℚ x nil) [
   | inl low ↦ absurd (<ℚ_irrefl nil (subst (λ y. nil <ℚ y) (part_at_most x low) l))
   | inr above ↦ above
 ]
-
-signed-one : (side : Side) (x : Fraction) → signed_by_side side (whole (pos 1)) *ℚ x ≡ signed_by_side side x
-signed-one Sell x = by_ring ring_ℚ (x ∷ []) (pone ⊗ at 0) (at 0) refl
-signed-one Buy x = by_ring ring_ℚ (x ∷ []) (pneg pone ⊗ at 0) (pneg (at 0)) refl
-
--- what is accepted in all, and what a unit uses of its room
-reserve-sum : (m : Parts) (x : Dispatch) → reserve m x ≡ sum_by (reserved x) (offer_places m)
-unfolding reserve
-reserve-sum m x = total-Plain (reserved x) (offer_places m)
-
-room-sum : (m : Parts) (x : Dispatch) (u : ℕ) → room_used m x u ≡ sum_by (raised_by m x) (blocks_of m u) +ℚ sum_by (reserved x) (offers_of m u)
-unfolding room_used
-room-sum m x u =
-    total-append (map (block_term m x) (blocks_of m u)) (map (reserved_term x) (offers_of m u))
-    ∙ ap₂ ◌+ℚ◌ (total-Plain (raised_by m x) (blocks_of m u)) (total-Plain (reserved x) (offers_of m u))
 
 -- the need's row may keep all that is offered
 pub offered_most : (m : Parts) → reserve_offered m ≤ℚ most_reserve m
@@ -185,12 +171,6 @@ offer_listed_by m market n lt = by m.reserve.listed refl
     by true e = e
     by false e = let none : length m.reserve.offers ≡ 0 = ap (λ (r : Reserve). length r.offers) (market.reserve.unlisted e) in absurd (Prim.omega (arith, lt, none))
 
-pub block_unit-below : (m : Parts) → IsMarket m → (j : ℕ) → j < length m.blocks → (block_at m j).unit < length m.units
-block_unit-below m market j lt = let is : IsBlock (length m.units) (block_at m j) = market.blocks j _ lt in is.unit
-
-pub offer_unit-below : (m : Parts) → IsMarket m → (n : ℕ) → n < length m.reserve.offers → (offer_at m n).unit < length m.units
-offer_unit-below m market n lt = let is : IsReserveOffer (length m.units) (offer_at m n) = market.reserve.each n _ lt in is.unit
-
 -- ---- the system's rows by what they are of
 module _ (m : Parts) (names : NamesApart m) (market : IsMarket m) (t : Taken) where
   abbrev apart : RowsApart m
@@ -227,7 +207,7 @@ module _ (m : Parts) (names : NamesApart m) (market : IsMarket m) (t : Taken) wh
       (no_need c j (λ e. coefficient-at m over_all ordered Need (Block j) e lt))
       (sum_by-members (λ u. c (room_name m u) *ℚ s.coefficient (room_name m u) j) (λ u. c (room_name m u) *ℚ at_unit u (block_at m j).unit (block_sign m j)) (rooms_in_order m t.rooms)
       (λ u k. ap (λ y. c (room_name m u) *ℚ y) (coefficient-at m over_all ordered (Room u) (Block j) k lt))
-      ∙ sum-rooms_at m t c (block_at m j).unit (block_sign m j) (block_unit-below m market j lt))
+      ∙ sum-rooms_at m t c (block_at m j).unit (block_sign m j) (block_unit-in m market j lt))
       ∙ by_ring ring_ℚ ((at_room m t c (block_at m j).unit *ℚ block_sign m j) ∷ []) (pnil ⊕ at 0) (at 0) refl)
 
   -- at the column of an offer
@@ -243,7 +223,7 @@ module _ (m : Parts) (names : NamesApart m) (market : IsMarket m) (t : Taken) wh
       ∙ ap (λ y. c (need_name m) *ℚ y) (coefficient-at m over_all ordered Need (Offer n) listed lt))
       (sum_by-members (λ u. c (room_name m u) *ℚ s.coefficient (room_name m u) (offer_name m n)) (λ u. c (room_name m u) *ℚ at_unit u (offer_at m n).unit (whole (pos 1))) (rooms_in_order m t.rooms)
       (λ u k. ap (λ y. c (room_name m u) *ℚ y) (coefficient-at m over_all ordered (Room u) (Offer n) k lt))
-      ∙ sum-rooms_at m t c (offer_at m n).unit (whole (pos 1)) (offer_unit-below m market n lt)))
+      ∙ sum-rooms_at m t c (offer_at m n).unit (whole (pos 1)) (offer_unit-in m market n lt)))
       ∙ by_ring ring_ℚ (c (balance_name m) ∷ c (need_name m) ∷ at_room m t c (offer_at m n).unit ∷ []) ((at 0 ⊗ pnil ⊕ pnil) ⊕ (at 1 ⊗ pone ⊕ at 2 ⊗ pone)) (at 1 ⊕ at 2) refl
     where
       listed : m.reserve.listed ≡ true
@@ -295,9 +275,9 @@ module _ (m : Parts) (names : NamesApart m) (market : IsMarket m) (t : Taken) wh
 
     -- an offer's: the price of reserve, less its own and what a MW on the unit's room costs
     pub reduced-offer : (n : ℕ) → n < length m.reserve.offers
-        → reduced s h (offer_name m n) ≡ (neg_ℚ (reduced s h (need_name m)) -ℚ at_room m t (reduced s h) (offer_at m n).unit) -ℚ reserve_price m n
+        → reduced s h (offer_name m n) ≡ (neg_ℚ (reduced s h (need_name m)) -ℚ at_room m t (reduced s h) (offer_at m n).unit) -ℚ offer_price m n
     reduced-offer n lt =
-        by_ring1 ring_ℚ (reduced s h (offer_name m n) ∷ reduced s h (need_name m) ∷ at_room m t (reduced s h) (offer_at m n).unit ∷ reserve_price m n ∷ [])
+        by_ring1 ring_ℚ (reduced s h (offer_name m n) ∷ reduced s h (need_name m) ∷ at_room m t (reduced s h) (offer_at m n).unit ∷ offer_price m n ∷ [])
         (at 0) ((pneg (at 1) ⊕ pneg (at 2)) ⊕ pneg (at 3)) (pneg pone) (pneg (at 3)) (at 0 ⊕ (at 1 ⊕ at 2))
         (sym (price-at m over_all ordered (Offer n) lt) ∙ priced (offer_name m n) (offer_in m over_all n lt) ∙ ap (λ y. reduced s h (offer_name m n) +ℚ y) (rows-offer (reduced s h) n lt)) refl
 
@@ -362,10 +342,10 @@ module _ (m : Parts) (names : NamesApart m) (market : IsMarket m) (t : Taken) wh
       offer_here n lt = variable_in m over_all (Offer n) lt
 
       taken : (j : ℕ) → j < length m.blocks → accepted dispatch j ≡ value s h j
-      taken j lt = get_or-map-range_with_len (value s h) 0 (length m.blocks) j j nil lt (Prim.omega arith)
+      taken j lt = dispatch_at-accepted m apart t market (value s h) j lt
 
       taken_offer : (n : ℕ) → n < length m.reserve.offers → reserved dispatch n ≡ value s h (offer_name m n)
-      taken_offer n lt = get_or-map-range_with_len (λ w. value s h (offer_name m w)) 0 (length m.reserve.offers) n n nil lt (Prim.omega arith)
+      taken_offer n lt = dispatch_at-reserved m apart t market (value s h) n lt
 
       block_least : (j : ℕ) → j < length m.blocks → nil ≤ℚ accepted dispatch j
       block_least j lt = subst₂ ◌≤ℚ◌ (low-at m over_all ordered (Block j) lt) (sym (taken j lt)) (solved.best.within.low j (block_here j lt))
@@ -386,34 +366,11 @@ module _ (m : Parts) (names : NamesApart m) (market : IsMarket m) (t : Taken) wh
       in_offers_of : (u n : ℕ) → Contains (offers_of m u) n → n < length m.reserve.offers
       in_offers_of u n c = from_places (length m.reserve.offers) n (Contains-from_filter (λ i. (offer_at m i).unit == u) (offer_places m) n c).0
 
-      room_value : (u : ℕ) → Contains (rooms_in_order m t.rooms) u → value s h (room_name m u) ≡ sum_by (raised_by m dispatch) (blocks_of m u) +ℚ sum_by (reserved dispatch) (offers_of m u)
-      room_value u c =
-          solved.best.meets.row (room_name m u) (row_listed m over_all (Room u) (room_in m over_all u c))
-          ∙ activity-room m over_all ordered (value s h) u c
-          ∙ ap₂ ◌+ℚ◌
-          (sum_by-members (λ j. at_unit u (block_at m j).unit (block_sign m j) *ℚ value s h j) (λ j. kept ((block_at m j).unit == u) (raised_by m dispatch j)) (places (length m.blocks))
-          (λ j k. by_block ((block_at m j).unit == u) j (from_places (length m.blocks) j k))
-          ∙ sym (sum_by-filter (raised_by m dispatch) (λ j. (block_at m j).unit == u) (places (length m.blocks))))
-          (sum_by-members (λ n. at_unit u (offer_at m n).unit (whole (pos 1)) *ℚ value s h (offer_name m n)) (λ n. kept ((offer_at m n).unit == u) (reserved dispatch n)) (offer_places m)
-          (λ n k. by_offer ((offer_at m n).unit == u) n (from_places (length m.reserve.offers) n k))
-          ∙ sym (sum_by-filter (reserved dispatch) (λ n. (offer_at m n).unit == u) (offer_places m)))
-        where
-          nothing : (y : Fraction) → nil *ℚ y ≡ nil
-          nothing y = by_ring ring_ℚ (y ∷ []) (pnil ⊗ at 0) pnil refl
+      room_value : (u : ℕ) → Contains (rooms_in_order m t.rooms) u → room_used m dispatch u ≡ value s h (room_name m u)
+      room_value u c = dispatch_room m apart t market (value s h) solved.best.meets u c
 
-          by_block : (b : Bool) (j : ℕ) → j < length m.blocks → (if b then block_sign m j else nil) *ℚ value s h j ≡ kept b (raised_by m dispatch j)
-          by_block true j lt = signed-one (block_at m j).side (value s h j) ∙ ap (signed_by_side (block_at m j).side) (sym (taken j lt))
-          by_block false j lt = nothing (value s h j)
-
-          by_offer : (b : Bool) (n : ℕ) → n < length m.reserve.offers → (if b then whole (pos 1) else nil) *ℚ value s h (offer_name m n) ≡ kept b (reserved dispatch n)
-          by_offer true n lt = by_ring ring_ℚ (value s h (offer_name m n) ∷ []) (pone ⊗ at 0) (at 0) refl ∙ sym (taken_offer n lt)
-          by_offer false n lt = nothing (value s h (offer_name m n))
-
-      need_value : m.reserve.listed ≡ true → value s h (need_name m) ≡ sum_by (reserved dispatch) (offer_places m)
-      need_value e =
-          solved.best.meets.row (need_name m) (row_listed m over_all Need (need_in m over_all e))
-          ∙ activity-need m over_all ordered (value s h) e
-          ∙ sum_by-members (λ n. value s h (offer_name m n)) (reserved dispatch) (offer_places m) (λ n c. sym (taken_offer n (from_places (length m.reserve.offers) n c)))
+      need_value : m.reserve.listed ≡ true → reserve m dispatch ≡ value s h (need_name m)
+      need_value e = dispatch_reserve m apart t market (value s h) solved.best.meets e
 
       abbrev room_cost : ℕ → Fraction
       room_cost u = at_room m t (reduced s h) u
@@ -441,7 +398,7 @@ module _ (m : Parts) (names : NamesApart m) (market : IsMarket m) (t : Taken) wh
       -- where a MW on a unit's room costs less than 0, all is bought that may be, and nothing is sold or reserved
       module _ (u : ℕ) (lt : u < length m.units) (l : room_cost u <ℚ nil) where
         low_in_all : sum_by (raised_by m dispatch) (blocks_of m u) +ℚ sum_by (reserved dispatch) (offers_of m u) ≡ neg_ℚ (whole (unit_at m u).down)
-        low_in_all = let r = low_room u lt l in sym (room_value u r.0) ∙ r.1
+        low_in_all = let r = low_room u lt l in sym (room_used-by_parts m dispatch u) ∙ room_value u r.0 ∙ r.1
 
         low_blocks : (j : ℕ) → Contains (blocks_of m u) j → accepted dispatch j ≡ where_low (block_at m j).side (quantity m j)
         low_blocks j c = raised-low (block_at m j).side (quantity m j) (accepted dispatch j)
@@ -476,7 +433,7 @@ module _ (m : Parts) (names : NamesApart m) (market : IsMarket m) (t : Taken) wh
               ∙ low-at m over_all ordered (Block j) lt
 
           low_by : room_cost (block_at m j).unit <ℚ nil → accepted dispatch j ≡ where_low (block_at m j).side (quantity m j)
-          low_by l = low_blocks (block_at m j).unit (block_unit-below m market j lt) l j
+          low_by l = low_blocks (block_at m j).unit (block_unit-in m market j lt) l j
               (Contains-filter (λ i. (block_at m i).unit == (block_at m j).unit) (places (length m.blocks)) j (in_places (length m.blocks) j lt) (same_itself (block_at m j).unit))
 
       -- where a MW on the need costs more than 0, all that is offered is accepted
@@ -484,15 +441,15 @@ module _ (m : Parts) (names : NamesApart m) (market : IsMarket m) (t : Taken) wh
       all_reserved e l n lt =
           all_reach (reserved dispatch) (reserve_quantity m) (offer_places m) (λ i c. offer_most i (from_places (length m.reserve.offers) i c))
           (subst (λ y. reserve_offered m ≤ℚ y)
-          (sym (stands_high (need_name m) (variable_in m over_all Need e) (opposite_below (reduced s h (need_name m)) l) ∙ high-at m over_all ordered Need e) ∙ need_value e)
+          (sym (stands_high (need_name m) (variable_in m over_all Need e) (opposite_below (reduced s h (need_name m)) l) ∙ high-at m over_all ordered Need e) ∙ sym (need_value e) ∙ reserve-by_offers m dispatch)
           (offered_most m)) n (in_places (length m.reserve.offers) n lt)
 
       offer_supported : (n : ℕ) → n < length m.reserve.offers → OfferSupported m dispatch duals n
       offer_supported n lt = record {
-        full = λ gains. offer_clamped-full (reserve_price m n) need_price (room_cost (offer_at m n).unit) (reserve_quantity m n) (reserved dispatch n) full_by empty_by (λ l. all_reserved listed l n lt) low_by
-            (subst (λ y. reserve_price m n <ℚ y) worth_is gains);
-        empty = λ loses. offer_clamped-empty (reserve_price m n) need_price (room_cost (offer_at m n).unit) (reserve_quantity m n) (reserved dispatch n) full_by empty_by (λ l. all_reserved listed l n lt) low_by
-            (subst (λ y. y <ℚ reserve_price m n) worth_is loses);
+        full = λ gains. offer_clamped-full (offer_price m n) need_price (room_cost (offer_at m n).unit) (reserve_quantity m n) (reserved dispatch n) full_by empty_by (λ l. all_reserved listed l n lt) low_by
+            (subst (λ y. offer_price m n <ℚ y) worth_is gains);
+        empty = λ loses. offer_clamped-empty (offer_price m n) need_price (room_cost (offer_at m n).unit) (reserve_quantity m n) (reserved dispatch n) full_by empty_by (λ l. all_reserved listed l n lt) low_by
+            (subst (λ y. y <ℚ offer_price m n) worth_is loses);
       }
         where
           listed : m.reserve.listed ≡ true
@@ -501,20 +458,20 @@ module _ (m : Parts) (names : NamesApart m) (market : IsMarket m) (t : Taken) wh
           worth_is : reserve_worth m duals (offer_at m n).unit ≡ part_above need_price -ℚ part_above (room_cost (offer_at m n).unit)
           worth_is = ap₂ ◌-ℚ◌ (ap (λ (b : Bool). if b then part_above need_price else nil) listed) (room_price-made m market (reduced s h) t (offer_at m n).unit)
 
-          full_by : reserve_price m n <ℚ (need_price -ℚ room_cost (offer_at m n).unit) → reserved dispatch n ≡ reserve_quantity m n
+          full_by : offer_price m n <ℚ (need_price -ℚ room_cost (offer_at m n).unit) → reserved dispatch n ≡ reserve_quantity m n
           full_by g = taken_offer n lt
               ∙ stands_high (offer_name m n) (offer_here n lt)
-              (subst (λ y. nil <ℚ y) (sym (reduced-offer n lt)) (less_above (need_price -ℚ room_cost (offer_at m n).unit) (reserve_price m n) g))
+              (subst (λ y. nil <ℚ y) (sym (reduced-offer n lt)) (less_above (need_price -ℚ room_cost (offer_at m n).unit) (offer_price m n) g))
               ∙ high-at m over_all ordered (Offer n) lt
 
-          empty_by : (need_price -ℚ room_cost (offer_at m n).unit) <ℚ reserve_price m n → reserved dispatch n ≡ nil
+          empty_by : (need_price -ℚ room_cost (offer_at m n).unit) <ℚ offer_price m n → reserved dispatch n ≡ nil
           empty_by g = taken_offer n lt
               ∙ stands_low (offer_name m n) (offer_here n lt)
-              (subst (λ y. y <ℚ nil) (sym (reduced-offer n lt)) (less_below (need_price -ℚ room_cost (offer_at m n).unit) (reserve_price m n) g))
+              (subst (λ y. y <ℚ nil) (sym (reduced-offer n lt)) (less_below (need_price -ℚ room_cost (offer_at m n).unit) (offer_price m n) g))
               ∙ low-at m over_all ordered (Offer n) lt
 
           low_by : room_cost (offer_at m n).unit <ℚ nil → reserved dispatch n ≡ nil
-          low_by l = low_offers (offer_at m n).unit (offer_unit-below m market n lt) l n
+          low_by l = low_offers (offer_at m n).unit (offer_unit-in m market n lt) l n
               (Contains-filter (λ i. (offer_at m i).unit == (offer_at m n).unit) (offer_places m) n (in_places (length m.reserve.offers) n lt) (same_itself (offer_at m n).unit))
 
       -- ---- so are the need and the rooms
@@ -527,7 +484,7 @@ module _ (m : Parts) (names : NamesApart m) (market : IsMarket m) (t : Taken) wh
 
           met_by : (b : Bool) → m.reserve.listed ≡ b → nil <ℚ (if b then part_above need_price else nil) → reserve m dispatch ≡ reserve_need m
           met_by true e l =
-              reserve-sum m dispatch ∙ sym (need_value e)
+              need_value e
               ∙ stands_low (need_name m) (variable_in m over_all Need e) (opposite_above (reduced s h (need_name m)) (part_positive need_price l))
               ∙ low-at m over_all ordered Need e
           met_by false e l = absurd (<ℚ_irrefl nil l)
@@ -535,8 +492,8 @@ module _ (m : Parts) (names : NamesApart m) (market : IsMarket m) (t : Taken) wh
       room_supported : (u : ℕ) → Contains (reserve_units m) u → RoomSupported m dispatch duals u
       room_supported u c = record {
         sign = subst (λ y. nil ≤ℚ y) (sym price_is) (part_least (room_cost u)).0;
-        used_up = λ l. let r = high_room u (reserve_units-below m u c) (part_positive (room_cost u) (subst (λ y. nil <ℚ y) price_is l)) in
-            room-sum m dispatch u ∙ sym (room_value u r.0) ∙ r.1;
+        used_up = λ l. let r = high_room u (reserve_unit-in m u c) (part_positive (room_cost u) (subst (λ y. nil <ℚ y) price_is l)) in
+            room_value u r.0 ∙ r.1;
       }
         where
           price_is : room_price m duals u ≡ part_above (room_cost u)

@@ -1,10 +1,9 @@
 -- A basic variable of a market's system that is stuck beyond a bound: its duals, up to the one sign and with prices of reserve below 0 taken as 0,
 -- show that no dispatch of the market is feasible, and their bound is at most what the variable lacks, and in a market of energy alone just that.
-use Rattle.std.specs.Prelude.{◌≡◌, ◌⊎◌, ◌==◌, ◌&&◌, ℕ, ◌<◌, pos, ◌≤ℤ◌, Bool, true, false, not, List, [], ◌∷◌, length, filter, if◌then◌else◌, Contains, refl}
-use Rattle.std.proofs.Common.{arith, ap, ap₂, sym, ◌∙◌, subst, subst₂, inl, inr}
-use Rattle.std.proofs.lemmas.Int.{ints}
+use Rattle.std.specs.Prelude.{◌≡◌, ◌⊎◌, ◌&&◌, ℕ, ◌<◌, pos, Bool, true, false, not, [], ◌∷◌, length, filter, if◌then◌else◌, Contains, refl}
+use Rattle.std.proofs.Common.{ap, ap₂, sym, ◌∙◌, subst, subst₂, inl, inr}
 use Rattle.fraction_theory.specs.Fraction.{Fraction, whole, neg_ℚ, ◌+ℚ◌, ◌-ℚ◌, ◌*ℚ◌}
-use Rattle.fraction_theory.specs.Order.{NonNeg, ◌≤ℚ◌, ◌<ℚ◌}
+use Rattle.fraction_theory.specs.Order.{NonNeg, ◌≤ℚ◌}
 use Rattle.fraction_theory.specs.Signs.{sign_of, part_above, where_above}
 use Rattle.fraction_theory.specs.declared.Sign.{Sign}
 use Rattle.fraction_theory.specs.declared.Sign.TheVariants.{Below, Zero, Above}
@@ -25,7 +24,6 @@ use Rattle.simplex_theory.proofs.StuckRows.{combined, corner, combined_vanishes,
 use Rattle.market_model.specs.declared.answered.Duals.{Duals}
 use Rattle.market_model.specs.declared.participants.Parts.{Parts}
 use Rattle.market_model.specs.declared.participants.Reserve.{Reserve}
-use Rattle.market_model.specs.declared.participants.Side.TheVariants.{Buy}
 use Rattle.market_model.specs.Dispatch.{zero as nil, places, block_at, blocks_of, offer_at, unit_at, signed_by_side, quantity, reserve_quantity, balance, empty}
 use Rattle.market_model.specs.Infeasibility.{block_weight, offer_weight, farkas_bound, ShowsInfeasible}
 use Rattle.market_model.specs.declared.limits.Row.{Row}
@@ -37,17 +35,18 @@ use Rattle.market_model.specs.Reserves.{no_reserve, offer_places, offers_among, 
 use Rattle.market_model.proofs.Excesses.{limit_least}
 use Rattle.market_model.proofs.FarkasLaw.{farkas_bound-by_parts, farkas_bound-alone, left_of, blocks_most, offers_most}
 use Rattle.market_model.proofs.EnergyAlone.{no_places, no_units}
+use Rattle.market_model.proofs.MarketSums.{block_unit-in}
 use Rattle.market_model.proofs.PlaceSums.{gather_times, places_all}
 use Rattle.market_model.proofs.ReserveSums.{whole_rooms}
-use Rattle.market_model.proofs.RowLaws.{along}
 use Rattle.market_system.specs.MarketSystem.{name, balance_name, row_name, over_name, under_name, offer_name, need_name, room_name, is_in, in_order, is_among, rooms_in_order, taken_in_order, residual_demand, most_reserve, reserve_offered, block_sign, block_coefficient, system_of, duals_by_cost, IsVariableOf}
 use Rattle.market_system.proofs.Clamps.{lack, lack-nil, lack-below, where_low, block_more, offer_more, sum_more, buys_fit}
 use Rattle.market_model.specs.NamedSums.{SameSize}
 use Rattle.market_system.specs.MarketNumbers.{IsFarkasOf}
 use Rattle.market_system.proofs.RowOrder.{RowsApart, in_order-filter, is_in-in, is_among-from, rooms_in_order-from, rooms_in_order-filter}
-use Rattle.market_system.proofs.DualLists.{NamesApart, rows_apart, takes_room, rooms_in_order-places, reserve_units-below, room_price-made, one_is_nil, up_by, down_by, up_sign, down_sign, up_is_part, down_is_part, up-made, down-made, net_price-made, prices_only-made, proper-made}
+use Rattle.market_system.proofs.DualLists.{NamesApart, rows_apart, takes_room, rooms_in_order-places, room_price-made, one_is_nil, up_by, down_by, up_sign, down_sign, up_is_part, down_is_part, up-made, down-made, net_price-made, prices_only-made, proper-made}
 use Rattle.market_system.proofs.MarketPoints.{is_system_of, both_parts, low-block, high-block, low-balance, high-balance, low-row, high-row, low-over, low-under, high-over, high-under, low-offer, high-offer, low-need, high-need, low-room, high-room, over_column, under_column, over_variable, under_variable, block_in, balance_in, row_in, offer_in, need_in, room_in}
-use Rattle.market_system.proofs.SolvedMarkets.{at_room, offer_listed_by, block_unit-below, offered_most, rows-at, rows-offer, rows-over, rows-under, signed_minus, weight-made}
+use Rattle.market_system.proofs.RoomBounds.{reserve_unit-in}
+use Rattle.market_system.proofs.SolvedMarkets.{at_room, offer_listed_by, offered_most, rows-at, rows-offer, rows-over, rows-under, signed_minus, weight-made}
 use Rattle.market_system.proofs.SoftRows.{hard_stands, most_excess_least}
 use Rattle.market_system.proofs.VariableLaws.{by_variable, from_places, column_in, offer_in as offer_column, soft, sum-columns, sum-rows}
 use Rattle.market_system.specs.declared.variables.Variable.{Variable}
@@ -147,7 +146,7 @@ bounds_ordered m names market g = by_variable m (taken_in_order m g) (λ w. (sys
     by Need e = subst₂ ◌≤ℚ◌ (sym (low-need m (rows_apart m names) g e)) (sym (high-need m (rows_apart m names) g e))
         (by_le1 (reserve_need m ∷ part_above (reserve_offered m -ℚ reserve_need m) ∷ []) (at 0) (at 0 ⊕ at 1) pone pnil (at 1) NonNeg-one (part_least (reserve_offered m -ℚ reserve_need m)).0 refl)
     by (Room u) c = subst₂ ◌≤ℚ◌ (sym (low-room m (rows_apart m names) g u c)) (sym (high-room m (rows_apart m names) g u c))
-        (let is : IsUnit (length m.buses) (unit_at m u) = market.units u _ (reserve_units-below m u (rooms_in_order-from m g.rooms u c).0) in
+        (let is : IsUnit (length m.buses) (unit_at m u) = market.units u _ (reserve_unit-in m u (rooms_in_order-from m g.rooms u c).0) in
         by_le2 (whole (unit_at m u).down ∷ whole (unit_at m u).up ∷ []) (pneg (at 0)) (at 1) pone pnil (at 0) pone pnil (at 1) NonNeg-one (whole-≤ℚ (pos 0) (unit_at m u).down is.down) NonNeg-one (whole-≤ℚ (pos 0) (unit_at m u).up is.up) refl)
 
 module _ (m : Parts) (names : NamesApart m) (market : IsMarket m) (g : Taken) (h : Choice) (choice : IsChoice (system_of m g) h)
@@ -298,7 +297,7 @@ module _ (m : Parts) (names : NamesApart m) (market : IsMarket m) (g : Taken) (h
   lows_at_most =
       subst₂ ◌≤ℚ◌
       (gather_times (λ u. lack (room_cost u)) (λ j. where_low (block_at m j).side (quantity m j)) (λ j. (block_at m j).unit) (length m.units) (places (length m.blocks))
-      (places_all (λ j. (block_at m j).unit < length m.units) (length m.blocks) (block_unit-below m market)))
+      (places_all (λ j. (block_at m j).unit < length m.units) (length m.blocks) (block_unit-in m market)))
       (sum_by-same (λ u. lack (room_cost u) *ℚ whole (unit_at m u).down) (λ u. kept (takes_room m g.rooms u) (room_low u)) (places (length m.units)) (λ u. by (takes_room m g.rooms u) (turned (room_name m u)) (whole (unit_at m u).down))
       ∙ sym (sum_by-filter room_low (takes_room m g.rooms) (places (length m.units)))
       ∙ ap (sum_by room_low) (sym (rooms_in_order-places m g.rooms)))

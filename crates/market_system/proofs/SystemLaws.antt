@@ -22,7 +22,7 @@ use Rattle.market_model.specs.declared.participants.Side.TheVariants.{Sell, Buy}
 use Rattle.market_model.specs.declared.participants.Parts.{Parts}
 use Rattle.market_model.specs.Dispatch.{places, block_at, signed_by_side}
 use Rattle.market_model.specs.Optimality.{Taken, block_value, rows_alone}
-use Rattle.market_model.specs.Reserves.{no_reserve, reserve_price}
+use Rattle.market_model.specs.Reserves.{no_reserve, offer_price}
 use Rattle.market_system.specs.declared.variables.Variable.TheVariants.{Balance}
 use Rattle.market_system.specs.MarketSystem.{balance_name, need_name, offer_name, block_sign, system_of}
 use Rattle.market_model.proofs.EnergyAlone.{no_places, not_listed}
@@ -129,7 +129,7 @@ module _ (m : Parts) (energy : m.reserve ≡ no_reserve) where
   objective_is v =
       let worth : Fraction = sum_by (λ j. block_value m j *ℚ v j) (places (length m.blocks)) in
       objective-at m nothing (none_ordered m) v
-      ∙ ap (λ (ns : List ℕ). (worth +ℚ whole (pos 0)) +ℚ sum_by (λ n. neg_ℚ (reserve_price m n) *ℚ v (offer_name m n)) ns) (no_places m energy)
+      ∙ ap (λ (ns : List ℕ). (worth +ℚ whole (pos 0)) +ℚ sum_by (λ n. neg_ℚ (offer_price m n) *ℚ v (offer_name m n)) ns) (no_places m energy)
       ∙ by_ring ring_ℚ (worth ∷ []) ((at 0 ⊕ pnil) ⊕ pnil) (at 0) refl
 
   pub meets_rows : (v : ℕ → Fraction) → v (balance_name m) ≡ raised m v → MeetsRows (system_of m nothing) v

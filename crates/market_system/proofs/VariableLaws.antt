@@ -22,7 +22,7 @@ use Rattle.market_model.specs.declared.participants.Parts.{Parts}
 use Rattle.market_model.specs.Dispatch.{zero, places, block_at, offer_at}
 use Rattle.market_model.specs.LimitRows.{rows, penalty, is_soft}
 use Rattle.market_model.specs.Optimality.{Taken, block_value}
-use Rattle.market_model.specs.Reserves.{offer_places, offers_reserve, reserve_price, reserve_units}
+use Rattle.market_model.specs.Reserves.{offer_places, offers_reserve, offer_price, reserve_units}
 use Rattle.market_model.proofs.ListSteps.{map-map}
 use Rattle.market_system.specs.declared.variables.Variable.{Variable}
 use Rattle.market_system.specs.declared.variables.Variable.TheVariants.{Block, Balance, Limit, Over, Under, Offer, Need, Room}
@@ -667,11 +667,11 @@ module _ (m : Parts) (t : Taken) where
     -- and what a point is worth: of its blocks, of the columns of soft rows, and of offers
     pub objective-at : (v : ℕ → Fraction) → objective s v
         ≡ (sum_by (λ j. block_value m j *ℚ v j) (places (length m.blocks)) +ℚ sum_by (λ r. neg_ℚ (penalty m r) *ℚ (v (over_name m r) +ℚ v (under_name m r))) soft)
-        +ℚ sum_by (λ n. neg_ℚ (reserve_price m n) *ℚ v (offer_name m n)) (offer_places m)
+        +ℚ sum_by (λ n. neg_ℚ (offer_price m n) *ℚ v (offer_name m n)) (offer_places m)
     unfolding objective
     objective-at v =
         sum-columns-at (λ j. s.price j *ℚ v j) (λ j. block_value m j *ℚ v j) (λ r. neg_ℚ (penalty m r) *ℚ (v (over_name m r) +ℚ v (under_name m r)))
-        (λ n. neg_ℚ (reserve_price m n) *ℚ v (offer_name m n))
+        (λ n. neg_ℚ (offer_price m n) *ℚ v (offer_name m n))
         (λ j h. ap (λ x. x *ℚ v j) (price-at (Block j) h))
         (λ r c e. ap₂ (λ (a b : Fraction). a *ℚ v (over_name m r) +ℚ b *ℚ v (under_name m r)) (price-at (Over r) (c, e)) (price-at (Under r) (c, e))
         ∙ sym (ring_ℚ.times_plus (neg_ℚ (penalty m r)) (v (over_name m r)) (v (under_name m r))))

@@ -25,7 +25,7 @@ pub record BestFor (m : Parts) (t : Taken) (x : Dispatch) : Type 0 where
 abbrev pub IsBestOver : Parts → List Row → Dispatch → Type 0
 IsBestOver m g x = (us : List ℕ) × BestFor m (record { limits = g; rooms = us }) x
 
--- rows of the market behind old ones, each not among those before it and broken by a dispatch that is best for these, and for rooms of its own
+-- rows of the market behind old ones, each not among those before it and broken by a dispatch that is best for these and for the rooms of some units
 abbrev pub GrowsBy : Parts → List Row → List Row → Type 0
 GrowsBy m old [] = Unit {0}
 GrowsBy m old (r ∷ more) = ((x : Dispatch) × IsBestOver m old x × Broken m x r) × Contains (rows m) r × (¬ (Contains old r)) × GrowsBy m (old ++ r ∷ []) more

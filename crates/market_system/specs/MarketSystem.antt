@@ -24,7 +24,7 @@ use Rattle.market_model.specs.declared.limits.Row.{Row}
 use Rattle.market_model.specs.declared.limits.Cause.TheVariants.{Base, Branch, UnitOutage}
 use Rattle.market_model.specs.LimitRows.{rows, row_id, unit_factor, flow, limit, penalty, most_excess, is_soft}
 use Rattle.market_model.specs.Optimality.{Taken, block_value}
-use Rattle.market_model.specs.Reserves.{offer_places, reserve_need, reserve_price, reserve_units, room}
+use Rattle.market_model.specs.Reserves.{offer_places, reserve_need, offer_price, reserve_units, room}
 use Rattle.market_system.specs.declared.variables.Variable.{Variable}
 use Rattle.market_system.specs.declared.variables.Variable.TheVariants.{Block, Balance, Limit, Over, Under, Offer, Need, Room}
 
@@ -201,7 +201,7 @@ objective_price m Balance = zero
 objective_price m (Limit r) = zero
 objective_price m (Over r) = neg_ℚ (penalty m r)
 objective_price m (Under r) = neg_ℚ (penalty m r)
-objective_price m (Offer n) = neg_ℚ (reserve_price m n)
+objective_price m (Offer n) = neg_ℚ (offer_price m n)
 objective_price m Need = zero
 objective_price m (Room u) = zero
 
@@ -310,7 +310,7 @@ room_dual_by row x Above = record { unit = row; price = x } ∷ []
 
 -- the duals of what a MW costs on each variable, by name: the price of energy is the opposite of what it costs on the balance, and the prices
 -- of the rows are by what it costs on their flows, in the market's order; a row for which that is 0 is not named. The price of reserve is the
--- opposite of what it costs on the need, and the prices of rooms are what it costs on these, where that is above 0; no reserve, no price of it.
+-- opposite of what it costs on the need, and the prices of rooms are what it costs on these, each 0 where that is below 0; it is 0 without reserve.
 abbrev pub duals_by_cost : Parts → Taken → (ℕ → Fraction) → Duals Fraction
 duals_by_cost m t cost = record {
   energy = neg_ℚ (cost (balance_name m));

@@ -64,7 +64,7 @@ pub record SupportsFor (m : Parts) (g : List Row) (x : Dispatch) (d : Duals Frac
   pub rooms : (u : ℕ) → Contains (reserve_units m) u → RoomSupported m x d u
 
 -- The choice's dispatch is best for the rows and rooms. Its duals are proper, and support it as far as other rows' limits are kept; the
--- reduced price of a block whose unit's room is not taken is its value, less what it raises at its unit's price.
+-- reduced price of a block whose unit's room is not taken is its value, with what it raises at its unit's price.
 pub record AnswersBy (m : Parts) (t : Taken) (h : Choice) : Type 0 where
   pub best : BestFor m t (choice_dispatch m t h)
   pub proper : ProperDuals m (choice_duals m t h)

@@ -38,7 +38,7 @@ pub record IsWorkingPair (m : Parts) (g : Taken) (bound : ℕ) (op : Op) (left r
   pub sides : IsPairCase (OfEither (MarketNumber m g) one near) op left right ⊎ IsSettledCase m g one op left right
   pub large : IsForLarge (AtEither (ClearingNumber m g) one near) bound op left right
 
--- a working pair of the market over rows that a clear may stand on, after those taken before it, and over rooms of units
+-- a working pair of the market over rows that a clear may stand on, after those taken before it, and over any rooms
 pub record IsRangeOf (m : Parts) (taken : List Row) (bound : ℕ) (p : Passed Fraction) : Type 0 where
   pub over : Taken
   pub reached : Reached m taken over.limits
