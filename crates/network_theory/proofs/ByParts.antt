@@ -15,10 +15,10 @@ use Rattle.network_theory.proofs.Places.{sum_at}
 use Rattle.network_theory.proofs.SignedSums.{sum_by-minus}
 
 -- what the branch takes out of the bus
-abbrev taken : (ℕ → Fraction) → ℕ → Branch → Fraction
+abbrev pub taken : (ℕ → Fraction) → ℕ → Branch → Fraction
 taken angle i b = kept (b.from == i) (flow angle b) -ℚ kept (b.to == i) (flow angle b)
 
-injection_taken : (n : Network) (angle : ℕ → Fraction) (i : ℕ) → injection n angle i ≡ sum_by (taken angle i) n.branches
+pub injection_taken : (n : Network) (angle : ℕ → Fraction) (i : ℕ) → injection n angle i ≡ sum_by (taken angle i) n.branches
 unfolding leaving entering
 injection_taken n angle i =
     ap₂ ◌-ℚ◌ (sum_by-filter (flow angle) (λ b. b.from == i) n.branches) (sum_by-filter (flow angle) (λ b. b.to == i) n.branches)

@@ -22,3 +22,7 @@ module _ (n : Network) where
   connected_to r s c h =
       let back = c.joined s h in
       record { joined = λ i p. joined_trans i r s (c.joined i p) (turned_lead back.chain s r back.lead) }
+
+  -- two that are joined to a third
+  pub joined_by : (i r j : ℕ) → AreJoined n i r → AreJoined n j r → AreJoined n i j
+  joined_by i r j h g = joined_trans i r j h (turned_lead g.chain j r g.lead)

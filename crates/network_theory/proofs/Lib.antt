@@ -1,8 +1,10 @@
+pub mod Bridges
 pub mod ByParts
 pub mod Chains
 pub mod Factors
 pub mod FlowSigns
 pub mod LeastAngles
+pub mod Outages
 pub mod Places
 pub mod SignedSums
 pub mod Solutions

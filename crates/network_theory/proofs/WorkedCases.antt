@@ -5,11 +5,11 @@ use Rattle.std.specs.Prelude.{◌≡◌, ℕ, ◌<◌, pos, [], ◌∷◌, refl}
 use Rattle.std.specs.List.{Contains}
 use Rattle.std.proofs.Common.{zero, suc, arith, subst, inl, inr}
 use Rattle.fraction_theory.specs.Divisors.{gcd, gcd_in}
-use Rattle.fraction_theory.specs.Fraction.{Fraction, whole, over, same_fraction, ◌+ℚ◌, ◌*ℚ◌, neg_ℚ}
+use Rattle.fraction_theory.specs.Fraction.{Fraction, whole, over, same_fraction, ◌+ℚ◌, ◌-ℚ◌, ◌*ℚ◌, neg_ℚ, recip_ℚ}
 use Rattle.fraction_theory.specs.Order.{◌<ℚ◌}
 use Rattle.fraction_theory.proofs.ListSums.{Contains-cases}
 use Rattle.std.proofs.lemmas.Int.{ints}
-use Rattle.network_theory.specs.Networks.{Branch, Network, IsBranchOf, IsNetwork, flow, leaving, entering, injection, AreJoined, IsConnected, IsTransfer}
+use Rattle.network_theory.specs.Networks.{Branch, Network, IsBranchOf, IsNetwork, flow, leaving, entering, injection, AreNeighbours, AreJoined, IsConnected, IsTransfer, StandsAt, without, moved, outage_factor}
 
 abbrev between : ℕ → ℕ → ℕ → Branch
 between from to susceptance = record { from = from; to = to; susceptance = whole (pos susceptance) }
@@ -80,3 +80,31 @@ first_to_second = same_fraction (flow angles (between 0 1 5)) (over (pos 1) 4) r
 second_to_third : flow angles (between 1 2 10) ≡ over (pos 1) 4
 unfolding ◌+ℚ◌ ◌*ℚ◌ neg_ℚ over whole gcd gcd_in
 second_to_third = same_fraction (flow angles (between 1 2 10)) (over (pos 1) 4) refl refl
+
+-- The branch from the first bus to the third is lost: the others take over all that it carried, and 1 goes over the second bus.
+stands : StandsAt triangle 2 (between 0 2 10)
+stands = record { within = Prim.omega arith; there = refl }
+
+connected_without : IsConnected (without triangle 2) 2
+connected_without = record { joined = by_place }
+  where
+    last : AreNeighbours (without triangle 2) 1 2
+    last = record { branch = between 1 2 10; there = (1, Prim.omega arith, refl); ends = inl (refl, refl) }
+
+    by_place : (i : ℕ) → i < 3 → AreJoined (without triangle 2) i 2
+    by_place zero h = record { chain = 1 ∷ 2 ∷ []; lead = (record { branch = between 0 1 5; there = (0, Prim.omega arith, refl); ends = inl (refl, refl) }, (last, refl)) }
+    by_place (suc zero) h = record { chain = 2 ∷ []; lead = (last, refl) }
+    by_place (suc (suc zero)) h = record { chain = []; lead = refl }
+    by_place (suc (suc (suc i))) h = absurd (Prim.omega (arith, h))
+
+takes_over : outage_factor angles (between 0 2 10) (between 0 1 5) ≡ whole (pos 1)
+unfolding ◌+ℚ◌ ◌*ℚ◌ neg_ℚ recip_ℚ over whole gcd gcd_in
+takes_over = same_fraction (outage_factor angles (between 0 2 10) (between 0 1 5)) (whole (pos 1)) refl refl
+
+three_times : whole (pos 3) *ℚ (whole (pos 1) -ℚ flow angles (between 0 2 10)) ≡ flow angles (between 0 2 10)
+unfolding ◌+ℚ◌ ◌*ℚ◌ neg_ℚ over whole gcd gcd_in
+three_times = same_fraction (whole (pos 3) *ℚ (whole (pos 1) -ℚ flow angles (between 0 2 10))) (flow angles (between 0 2 10)) refl refl
+
+over_the_second : flow (moved angles (whole (pos 3)) angles) (between 0 1 5) ≡ whole (pos 1)
+unfolding ◌+ℚ◌ ◌*ℚ◌ neg_ℚ over whole gcd gcd_in
+over_the_second = same_fraction (flow (moved angles (whole (pos 3)) angles) (between 0 1 5)) (whole (pos 1)) refl refl

@@ -1,13 +1,13 @@
 -- The laws of networks by the DC model.
 -- Sources: the maximum principle and reciprocity of electric networks (Doyle and Snell, Random Walks and Electric Networks); the DC
--- power flow (Wood and Wollenberg).
+-- power flow and the line outage distribution factors (Wood and Wollenberg).
 use Rattle.std.specs.Prelude.{◌≡◌, ℕ, ◌<◌, pos}
 use Rattle.std.specs.List.{Contains}
-use Rattle.fraction_theory.specs.Fraction.{Fraction, whole, ◌*ℚ◌}
-use Rattle.fraction_theory.specs.Order.{◌≤ℚ◌}
+use Rattle.fraction_theory.specs.Fraction.{Fraction, whole, ◌+ℚ◌, ◌-ℚ◌, ◌*ℚ◌}
+use Rattle.fraction_theory.specs.Order.{◌≤ℚ◌, ◌<ℚ◌}
 use Rattle.fraction_theory.specs.Signs.{abs_ℚ}
 use Rattle.fraction_theory.specs.Sums.{sum_by}
-use Rattle.network_theory.specs.Networks.{Branch, Network, places, IsNetwork, flow, injection, IsConnected, IsTransfer}
+use Rattle.network_theory.specs.Networks.{Branch, Network, places, IsNetwork, flow, injection, AreJoined, IsConnected, IsTransfer, StandsAt, without, moved, outage_factor}
 
 -- where no bus but the reference has an injection below 0, no angle is below that of the reference
 abbrev pub LawOfTheLeastAngle : Type 0
@@ -53,3 +53,34 @@ LawOfBalance = (n : Network) (angle : ℕ → Fraction) → IsNetwork n → sum_
 abbrev pub LawOfReciprocity : Type 0
 LawOfReciprocity = (n : Network) (angle other : ℕ → Fraction) → IsNetwork n
     → sum_by (λ i. angle i *ℚ injection n other i) (places n) ≡ sum_by (λ i. other i *ℚ injection n angle i) (places n)
+
+-- Take a number that, times what the transfer between the ends of the lost branch leaves to the other branches, is the flow that is lost.
+-- At the angles plus so many times those of that transfer the network without the branch has the injections that the whole one had, and
+-- each branch carries besides so many times its factor.
+abbrev pub LawOfTheOutage : Type 0
+LawOfTheOutage = (n : Network) (place : ℕ) (lost : Branch) (angle transfer : ℕ → Fraction) (times : Fraction) → StandsAt n place lost
+    → IsTransfer n transfer lost.from lost.to
+    → times *ℚ (whole (pos 1) -ℚ flow transfer lost) ≡ flow angle lost
+    → ((i : ℕ) → i < n.buses → injection (without n place) (moved angle times transfer) i ≡ injection n angle i)
+    × ((b : Branch) → flow (moved angle times transfer) b ≡ flow angle b +ℚ times *ℚ flow transfer b)
+
+-- where the ends of a branch stay joined without it, it carries less than 1 of the transfer between them
+abbrev pub LawOfTheDetour : Type 0
+LawOfTheDetour = (n : Network) (place : ℕ) (lost : Branch) (transfer : ℕ → Fraction) → IsNetwork n → StandsAt n place lost
+    → IsTransfer n transfer lost.from lost.to
+    → AreJoined (without n place) lost.from lost.to → flow transfer lost <ℚ whole (pos 1)
+
+-- and where it carries less than 1, they stay joined: a bridge, whose ends do not, carries all of it
+abbrev pub LawOfTheBridge : Type 0
+LawOfTheBridge = (n : Network) (place : ℕ) (lost : Branch) (transfer : ℕ → Fraction) → IsNetwork n → StandsAt n place lost
+    → IsTransfer n transfer lost.from lost.to
+    → (flow transfer lost <ℚ whole (pos 1) → AreJoined (without n place) lost.from lost.to)
+    × (¬ (AreJoined (without n place) lost.from lost.to) → flow transfer lost ≡ whole (pos 1))
+
+-- where the network stays connected without the branch and no injection changes, each other branch carries besides its outage factor times
+-- what the lost one carried
+abbrev pub LawOfTheOutageFactors : Type 0
+LawOfTheOutageFactors = (n : Network) (place : ℕ) (lost : Branch) (reference : ℕ) (angle after transfer : ℕ → Fraction) → IsNetwork n
+    → StandsAt n place lost → IsTransfer n transfer lost.from lost.to → IsConnected (without n place) reference
+    → ((i : ℕ) → i < n.buses → ¬ (i ≡ reference) → injection (without n place) after i ≡ injection n angle i)
+    → (b : Branch) → Contains (without n place).branches b → flow after b ≡ flow angle b +ℚ outage_factor transfer lost b *ℚ flow angle lost

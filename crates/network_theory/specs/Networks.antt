@@ -1,8 +1,8 @@
 -- Networks of buses and branches by the DC model: a flow is a susceptance times a difference of angles.
 -- Source: the DC power flow (Wood and Wollenberg, Power Generation, Operation, and Control).
-use Rattle.std.specs.Prelude.{◌≡◌, ℕ, ◌<◌, ◌==◌, pos, List, [], ◌∷◌, ◌⊎◌, filter}
-use Rattle.std.specs.List.{Contains, range_with_len}
-use Rattle.fraction_theory.specs.Fraction.{Fraction, whole, ◌-ℚ◌, ◌*ℚ◌, neg_ℚ}
+use Rattle.std.specs.Prelude.{◌≡◌, ℕ, ◌<◌, ◌==◌, pos, List, [], ◌∷◌, ◌⊎◌, filter, length, slice_index_or}
+use Rattle.std.specs.List.{Contains, range_with_len, remove}
+use Rattle.fraction_theory.specs.Fraction.{Fraction, whole, ◌+ℚ◌, ◌-ℚ◌, ◌*ℚ◌, neg_ℚ, recip_ℚ}
 use Rattle.fraction_theory.specs.Order.{◌<ℚ◌}
 use Rattle.fraction_theory.specs.Sums.{sum_by}
 
@@ -77,3 +77,21 @@ pub record IsTransfer (n : Network) (angle : ℕ → Fraction) (source sink : �
   pub source_has : injection n angle source ≡ whole (pos 1)
   pub sink_has : injection n angle sink ≡ neg_ℚ (whole (pos 1))
   pub elsewhere : (i : ℕ) → i < n.buses → ¬ (i ≡ source) → ¬ (i ≡ sink) → injection n angle i ≡ whole (pos 0)
+
+-- ---- outages, after the line outage distribution factors of Wood and Wollenberg
+-- The branch stands at the place in the list.
+pub record StandsAt (n : Network) (place : ℕ) (b : Branch) : Type 0 where
+  pub within : place < length n.branches
+  pub there : slice_index_or n.branches place b ≡ b
+
+-- the network after the outage of the branch at a place: the same buses and the other branches
+abbrev pub without : Network → ℕ → Network
+without n place = record { buses = n.buses; branches = remove n.branches place }
+
+-- angles, and so many times those of a transfer besides
+abbrev pub moved : (ℕ → Fraction) → Fraction → (ℕ → Fraction) → ℕ → Fraction
+moved angle times transfer i = angle i +ℚ times *ℚ transfer i
+
+-- what a branch takes over of each unit that the lost one carried, by the angles of the transfer between the ends of the lost one
+abbrev pub outage_factor : (ℕ → Fraction) → Branch → Branch → Fraction
+outage_factor transfer lost b = flow transfer b *ℚ recip_ℚ (whole (pos 1) -ℚ flow transfer lost)

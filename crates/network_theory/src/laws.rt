@@ -1,5 +1,5 @@
 //! Laws of the definitions, each the contract of a function that does nothing.
-ghost use Rattle.network_theory.specs.Laws.{LawOfTheLeastAngle, LawOfTheGreatestAngle, LawOfOneSolution, LawOfRest, LawOfTheTransfer, LawOfTheFactors, LawOfBalance, LawOfReciprocity};
+ghost use Rattle.network_theory.specs.Laws.{LawOfTheLeastAngle, LawOfTheGreatestAngle, LawOfOneSolution, LawOfRest, LawOfTheTransfer, LawOfTheFactors, LawOfBalance, LawOfReciprocity, LawOfTheOutage, LawOfTheDetour, LawOfTheBridge, LawOfTheOutageFactors};
 
 /// In a connected network where no bus but the reference has an injection below 0, no angle is below that of the reference.
 pub fn least_angle()
@@ -39,4 +39,24 @@ pub fn injections_balance()
 /// Two solutions of one network are reciprocal.
 pub fn solutions_are_reciprocal()
     ensures { LawOfReciprocity }
+{}
+
+/// After an outage the angles are those before it and a number of times those of the transfer between the ends of the lost branch.
+pub fn outage_moves_angles()
+    ensures { LawOfTheOutage }
+{}
+
+/// A branch whose ends stay joined without it carries less than 1 of the transfer between them.
+pub fn detour_carries()
+    ensures { LawOfTheDetour }
+{}
+
+/// One that carries less than 1 is no bridge, and a bridge carries all of the transfer between its ends.
+pub fn bridge_carries_all()
+    ensures { LawOfTheBridge }
+{}
+
+/// After an outage each other branch carries besides its outage factor times what the lost one carried.
+pub fn outage_factors()
+    ensures { LawOfTheOutageFactors }
 {}
