@@ -53,7 +53,7 @@ module _ (m : Parts) (g : List Row) (x : Dispatch) (d : Duals Fraction) (market 
   proper = subst (ProperDuals m) (sym solved.duals) solved.answers.proper
 
   pub prices_only : PricesOnly m g d
-  prices_only = subst (PricesOnly m g) (sym solved.duals) (prices_only-made m (names_apart m market) (reduced (system_of m g) solved.choice) g)
+  prices_only = subst (PricesOnly m g) (sym solved.duals) (prices_only-made m (names_apart m market) (reduced (system_of m g) solved.choice) (rows_alone g))
 
   module _ (bound : ℕ) (p : Passed Fraction) where
     pairs : RefusalsArePairs m g (rows_alone g) solved.choice bound p

@@ -11,7 +11,10 @@ ghost use Rattle.offer_book.specs.Edits.{number_of};
 use clear_loop::Clearer;
 use exact_fraction::Exact;
 use market_data::{FactorPlaces, MW_ONE, PRICE_ONE};
-use market_model::{Answer, Block, Bus, Factor, Line, List, Market, Memory, Parts, Price, Reserve, RowId, Side, Unit, assemble};
+use market_model::{
+    Answer, Block, Bus, Factor, Line, List, Market, Memory, Parts, Price, Reserve, RowId, Side,
+    Unit, assemble,
+};
 use offer_book::Edit;
 use std::alloc::Global;
 use std::cmp::Ordering;

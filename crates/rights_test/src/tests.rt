@@ -6,7 +6,10 @@ ghost use Rattle.market_model.specs.Lines.{hard_line};
 
 use crate::{Fit, MOST_RIGHTS, Payments, RightsFault, fit, pay, rights};
 use exact_fraction::{Exact, Frac, Frac63, Op, Passed};
-use market_model::{Bus, Factor, FactorPlaces, Line, List, Market, Memory, Parts, Price, Reserve, RowId, Stop, assemble};
+use market_model::{
+    Bus, Factor, FactorPlaces, Line, List, Market, Memory, Parts, Price, Reserve, RowId, Stop,
+    assemble,
+};
 use record_reading::FrameFault;
 use std::alloc::Global;
 use std::cmp::Ordering;

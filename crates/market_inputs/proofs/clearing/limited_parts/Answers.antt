@@ -14,7 +14,10 @@ returns-clause-is c =
 pub returns-clause-kept : goal.returns-clause-kept
 returns-clause-kept c =
     let is = returns-clause-is c in
-    subst (λ (p : Parts). IsMarket p × (p.reserve ≡ no_reserve)) (sym is) (clear-market c.args.places c.args.network c.args.tables c.args.lost c.args.offered c.args.offsets.now c.args.penalties.now c.requires.network c.requires.outages c.requires.lost c.requires.offered
-    (subst (λ (p : Parts). All IsTabled p.lines) is c.in_ok-lines.ensures.tabled)
-    (subst (λ (p : Parts). AreSmall p.shift) is c.in_ok-shift.ensures.small)
-    (subst (λ (p : Parts). AreSmall p.loss) is c.in_ok-loss.ensures.small), refl)
+    subst (λ (p : Parts). IsMarket p × (p.reserve ≡ no_reserve)) (sym is) (
+      clear-market c.args.places c.args.network c.args.tables c.args.lost c.args.offered c.args.offsets.now c.args.penalties.now c.requires.network c.requires.outages c.requires.lost c.requires.offered
+          (subst (λ (p : Parts). All IsTabled p.lines) is c.in_ok-lines.ensures.tabled)
+          (subst (λ (p : Parts). AreSmall p.shift) is c.in_ok-shift.ensures.small)
+          (subst (λ (p : Parts). AreSmall p.loss) is c.in_ok-loss.ensures.small),
+      refl,
+    )
