@@ -11,6 +11,7 @@ use Rattle.market_model.specs.declared.participants.Parts.{Parts}
 use Rattle.market_model.specs.Dispatch.{Dispatch, places}
 use Rattle.market_model.specs.declared.limits.Row.{Row}
 use Rattle.market_model.specs.LimitRows.{rows, row_id}
+use Rattle.market_model.specs.Optimality.{rows_alone}
 use Rattle.market_system.specs.Growth.{BestFor, Broken, Growth}
 use Rattle.market_dict.specs.EnergySystem.{system_of}
 use Rattle.market_system.specs.SolvedLaws.{AreRows}
