@@ -23,9 +23,9 @@ use Rattle.market_model.specs.declared.stops.Stop.{Stop}
 use Rattle.market_model.specs.declared.stops.Stop.TheVariants as stop
 use Rattle.market_dict.specs.declared.posing.PricesAndBounds.{PricesAndBounds}
 use Rattle.market_dict.proofs.HoldingLaws.{holds_choice}
-use Rattle.clear_loop.specs.Clearing.{ClearComesTo}
+use Rattle.clear_loop.specs.Clearing.{ClearComesTo, KeepsStart}
 use Rattle.clear_loop.specs.Faults.{fault_of}
-use Rattle.clear_loop.specs.Keeping.{Kept, FitsFrame, IsStartOf}
+use Rattle.clear_loop.specs.Keeping.{Kept, FitsFrame, IsStartOf, cold}
 use Rattle.clear_loop.specs.Rounds.{HoldsStart, IsEnd, IsEnded, IsInHand, StopsInRange}
 use Rattle.clear_loop.specs.Starts.{kept_as, taken_in}
 use Rattle.clear_loop.specs.declared.fault.ClearFault.TheVariants as why
@@ -81,6 +81,11 @@ module _ (m : Parts) (k : Kept) (w : Option Dictionary) (t : Option Taken) (view
     }
 
 -- ---- how a clear ends
+-- where it is stopped nothing is kept
+pub stopped_keeps : {N : Type 0} (s : Stop N) (after : Kept) → after ≡ cold → KeepsStart (Err (fault_of s)) after
+stopped_keeps (stop.Passed p) after none = none
+stopped_keeps stop.Memory after none = none
+
 module _ {N : Type 0} (worth : N → Fraction) (bound : ℕ) (m : Parts) (alone : m.reserve ≡ no_reserve) (before after : List Row) (are : AreRows m before) where
   pub stopped_clear : (s : Stop N) → after ≡ [] → StopsInRange worth bound m before s → ClearComesTo worth bound m before (Err (fault_of s)) after
   stopped_clear (stop.Passed p) none range = record { rows = are; right = range; taken = none; priced = tt; energy_alone = alone }
