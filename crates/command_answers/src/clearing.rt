@@ -25,14 +25,19 @@ use net_case::PostRating;
 use report_text::report;
 use std::alloc::Global;
 
+/// A market is of energy alone: it does nothing, and says what the type keeps.
+pub(crate) fn of_energy_alone(market: &Market)
+    ensures { market.now.reserve ≡ no_reserve }
+{
+    let _lines = market.lines();
+}
+
 /// What a market is cleared to.
 pub(crate) fn cleared<N: Exact>(alloc: Global, market: &Market) -> Result<Outcome<N>, Memory>
     ensures fits { IfOk result (FitsOutcome market.now) }
     ensures right { IfOk result (λ outcome. IsRightOutcome N.bound market.now [] (outcome_at N.value outcome)) }
     ensures sides { IfOk result (λ outcome. AreSidesWithin N.bound (outcome_at N.value outcome)) }
-    ensures energy_alone { market.now.reserve ≡ no_reserve }
 {
-    let _lines = market.lines();
     let mut clearer = Clearer::new(market);
     outcome(clearer.clear(alloc, market))
 }
@@ -54,6 +59,7 @@ fn clear_outcome<N: Exact>(alloc: Global, market: &Market) -> Result<Told, Memor
     ensures status { IfOk result (λ told. IsOfWork told.status) }
     ensures clears { IfOk result (λ told. ClearsTo N.bound market.now (telling_of told)) }
 {
+    of_energy_alone(market);
     let outcome = cleared::<N>(alloc, market)?;
     Ok(Told {
         status: clear_status(&outcome),

@@ -10,13 +10,13 @@ ghost use Rattle.edit_table.specs.EditTable.{IsStep};
 ghost use Rattle.market_tables.specs.Tables.{tables_lent};
 ghost use Rattle.market_inputs.specs.Stops.{IsToldAs};
 ghost use Rattle.market_model.specs.Market.{IsMarket};
-ghost use Rattle.market_model.specs.Reserves.{no_reserve};
 ghost use Rattle.command_answers.specs.Inputs.{IsCertified, certificate_with};
 ghost use Rattle.command_answers.specs.Status.{IsOfWork};
 ghost use Rattle.command_answers.specs.Tellings.{Tells, telling_of};
 ghost use Rattle.command_answers.specs.Verdicts.{verdict_line};
 ghost use Rattle.command_answers.specs.Verifying.{TellsVerdict, VerifiesTo, verdict_status};
 
+use crate::clearing::of_energy_alone;
 use crate::replaying::replay_inputs;
 use crate::status::Status;
 use crate::told::{Told, refused, uncertified};
@@ -96,9 +96,7 @@ fn verdict_told<N: Exact>(
     requires { RowsAreDistinct (cert_at N.value certificate.now) }
     ensures status { IfOk result (λ told. IsOfWork told.status) }
     ensures verifies { IfOk result (λ told. VerifiesTo N.bound market.now (cert_at N.value certificate.now) (telling_of told)) }
-    ensures energy_alone { market.now.reserve ≡ no_reserve }
 {
-    let _lines = market.lines();
     match verify(alloc, market, certificate) {
         Ok(verdict) => {
             let text = verdict_text(alloc, verdict)?;
@@ -125,7 +123,10 @@ pub fn verify_told(
     ensures tells { IfOk result (λ told. Tells (IsCertified rating places (tables_lent bytes.now) edits.now certificate.now) TellsVerdict (telling_of told)) }
 {
     match verify_inputs(alloc, bytes, rating, places, edits, certificate) {
-        Ok(made) => verdict_told(alloc, &made.market, &made.certificate),
+        Ok(made) => {
+            of_energy_alone(&made.market);
+            verdict_told(alloc, &made.market, &made.certificate)
+        }
         Err(InputStop::Refused(refusal)) => refused(alloc, &refusal),
         Err(InputStop::Memory) => Err(Memory),
     }

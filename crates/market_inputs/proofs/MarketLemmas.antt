@@ -11,6 +11,8 @@ use Rattle.market_model.specs.declared.participants.Factor.{Factor}
 use Rattle.market_model.specs.declared.participants.Line.{Line}
 use Rattle.market_model.specs.Lines.{IsPenalty}
 use Rattle.market_model.specs.Market.{AreUnitOutages, IsLine, IsMarket, bare_parts}
+use Rattle.market_model.specs.Reserves.{no_reserve}
+use Rattle.market_model.specs.declared.participants.Reserve.{Reserve}
 use Rattle.market_model.proofs.LinePenalties.{no_cost}
 use Rattle.market_model.proofs.PlainMarkets.{is_no_reserve, plain_market, distinct_by_rise}
 use Rattle.market_data.specs.declared.scales.FactorPlaces.{FactorPlaces}
