@@ -10,7 +10,7 @@ use Rattle.std.proofs.lemmas.List.FromFn.{length-map-range_with_len}
 use Rattle.market_data.specs.Participants.{IsBus, IsUnit}
 use Rattle.market_data.specs.declared.participants.Bus.{Bus}
 use Rattle.market_data.specs.declared.participants.Unit as unit
-use Rattle.market_model.proofs.PlainMarkets.{no_unit_outages}
+use Rattle.market_model.proofs.PlainMarkets.{is_no_reserve, no_unit_outages}
 use Rattle.market_model.specs.declared.participants.Block.{Block}
 use Rattle.market_model.specs.declared.participants.Line.{Line}
 use Rattle.market_model.specs.declared.participants.Side.{Side}
@@ -135,6 +135,7 @@ ring-kept n seed few =
       shift = rw (lines, buses) (are-factors (shift_of n) n (λ l i p q. shift-small n l i few q));
       loss = rw lines (are-factors loss_of n (λ l i p q. loss-small l i));
       unit_outages = no_unit_outages (length (ring_of n seed).units);
+      reserve = is_no_reserve (length (ring_of n seed).units);
     }
   where
     unit-room : (place : ℕ) → HasRoom (ring_of n seed).blocks place (unit_of place)

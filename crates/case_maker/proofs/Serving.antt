@@ -24,7 +24,8 @@ use Rattle.market_model.specs.declared.limits.Cause.TheVariants.{Base, Branch, U
 use Rattle.market_model.specs.LimitRows.{IsCauseOf, flow, limit, limit_under, line_flow, loss_factor, mw_or_zero, shift_factor}
 use Rattle.market_model.proofs.RowMembers.{at_places}
 use Rattle.market_model.specs.Market.{IsMarket}
-use Rattle.market_model.specs.Optimality.{Feasible}
+use Rattle.market_model.specs.Optimality.{Feasible, all_of}
+use Rattle.market_model.proofs.EnergyAlone.{feasible_alone}
 use Rattle.market_model.proofs.Excesses.{within_most}
 use Rattle.market_model.proofs.MarketSums.{balance-by_injections, demand-by_parts, fixed_part, injection-by_parts}
 use Rattle.market_model.proofs.PlainMarkets.{distinct_by_rise}
@@ -85,7 +86,7 @@ module _ (n seed : ℕ) where
 
   is-dispatch : IsDispatch m serving
   is-dispatch =
-      is_dispatch-by_whole m serving (λ j. get_or taken j (pos 0)) (length-map taken whole ∙ taken-count ∙ sym blocks-count)
+      is_dispatch-by_whole m serving (λ j. get_or taken j (pos 0)) refl refl (length-map taken whole ∙ taken-count ∙ sym blocks-count)
       (λ j lt. accepted-is j (omega (arith, lt, blocks-count)))
       (λ j lt. let t : IsTaken (get_or taken j (pos 0)) = all-taken j (pos 0) (omega (arith, lt, blocks-count, taken-count)) in t.least)
       (λ j lt. let t : IsTaken (get_or taken j (pos 0)) = all-taken j (pos 0) (omega (arith, lt, blocks-count, taken-count)) in
@@ -199,8 +200,4 @@ module _ (n seed : ℕ) where
   })
 
   pub is-feasible : IsMarket m → Feasible m serving
-  is-feasible market = record {
-    blocks = is-dispatch;
-    balanced = in-balance;
-    limits = λ r c. within_most m market r (flow m serving r) (within r (at_places m market r c).1);
-  }
+  is-feasible market = feasible_alone m refl (all_of m) serving (λ u c. c) is-dispatch in-balance (λ r c. within_most m market r (flow m serving r) (within r (at_places m market r c).1))

@@ -178,6 +178,8 @@ fn writes_outcomes(rt: HostRuntime) -> Result<(), Fail> {
         duals: Duals {
             energy: Frac63::of_parts(-1, 1),
             limits,
+            reserve: Frac63::of_parts(0, 1),
+            rooms: List::new(rt.alloc()),
         },
         bound: Frac63::of_parts(-10, 1),
     });

@@ -16,12 +16,15 @@ use Rattle.exact_fraction.specs.declared.Op.TheVariants.{Times}
 use Rattle.exact_fraction.specs.declared.Passed.{Passed}
 use Rattle.market_model.specs.declared.answered.Duals.{Duals}
 use Rattle.market_model.specs.declared.participants.Parts.{Parts}
-use Rattle.market_model.specs.Dispatch.{Dispatch, places, balance, balance_terms, empty, quantity, dispatch_by}
+use Rattle.market_model.specs.declared.participants.ReserveOffer.{ReserveOffer}
+use Rattle.market_model.specs.Dispatch.{Dispatch, places, balance, balance_terms, empty, quantity, dispatch_with}
 use Rattle.market_model.specs.Infeasibility.{block_weight, limit_terms, nothing_terms, farkas_terms, farkas_bound}
 use Rattle.market_model.specs.declared.limits.Row.{Row}
 use Rattle.market_model.specs.LimitRows.{rows, row_id, most_flow, flow}
 use Rattle.market_model.specs.NamedSums.{IsRefusal, IsRefusedIn, IsShareRefusal}
 use Rattle.market_model.specs.Optimality.{up_of, down_of, names_row, named_rows}
+use Rattle.market_model.specs.Reserves.{no_reserve}
+use Rattle.market_model.proofs.EnergyAlone.{farkas_terms_alone, no_offers, nothing_terms_alone}
 use Rattle.market_model.proofs.FarkasLaw.{total-flat_map}
 use Rattle.market_model.proofs.MorePlaces.{sum_by_more, total-places_more}
 use Rattle.market_model.proofs.SumSteps.{product_at, share_at, terms_at, behind}
@@ -78,6 +81,10 @@ module _ (m : Parts) (d : Duals Fraction) where
   abbrev block_terms : List Term
   block_terms = map block_term (places (length m.blocks))
 
+  -- the terms of the bound in a market of energy alone
+  farkas_terms_are : m.reserve ≡ no_reserve → farkas_terms m d ≡ (energy_term ∷ flat_map (limit_terms m d) (rows m)) ++ block_terms
+  farkas_terms_are alone = farkas_terms_alone m alone d ∙ ap (λ (ts : List Term). ts ++ block_terms) (nothing_terms_alone m alone d)
+
   -- a row without prices makes nothing
   unnamed : (r : Row) → names_row d.limits (row_id m r) ≡ false → left r ≡ whole (pos 0)
   unnamed r h =
@@ -91,10 +98,11 @@ module _ (m : Parts) (d : Duals Fraction) where
   pub limits_none : (s : Fraction) → s ≡ d.energy *ℚ balance m (empty m) → s ≡ limits_to 0
   limits_none s e = e ∙ sym (+ℚ_nil (d.energy *ℚ balance m (empty m)))
 
-  pub limits_all : (k : ℕ) → length (named_rows m d) ≤ k → limits_to k ≡ total (nothing_terms m d)
-  limits_all k h =
+  pub limits_all : m.reserve ≡ no_reserve → (k : ℕ) → length (named_rows m d) ≤ k → limits_to k ≡ total (nothing_terms m d)
+  limits_all alone k h =
       ap (λ t. d.energy *ℚ balance m (empty m) +ℚ t)
       (ap (sum_by left) (take_all k (named_rows m d) h) ∙ sym (sum_named m d left (rows m) unnamed) ∙ sym (total-flat_map (limit_terms m d) (rows m)))
+      ∙ sym (ap total (nothing_terms_alone m alone d))
 
   -- the terms of the bound round those of a named row
   record IsSplit (k : ℕ) (r : Row) : Type 0 where
@@ -103,8 +111,8 @@ module _ (m : Parts) (d : Duals Fraction) where
     split : farkas_terms m d ≡ front ++ (limit_terms m d r ++ rest)
     sum : total front ≡ limits_to k
 
-  split_at : (k : ℕ) (e : PricedRow) → IsNamedAt m d k e → IsSplit k e.row
-  split_at k e h =
+  split_at : m.reserve ≡ no_reserve → (k : ℕ) (e : PricedRow) → IsNamedAt m d k e → IsSplit k e.row
+  split_at alone k e h =
       let r : Row = e.row in
       let s = filter_at (λ t. names_row d.limits (row_id m t)) (rows m) k e.row h.inside in
       let f : Row → List Term = limit_terms m d in
@@ -113,7 +121,8 @@ module _ (m : Parts) (d : Duals Fraction) where
         front = energy_term ∷ flat_map (limit_terms m d) s.0;
         rest = flat_map (limit_terms m d) s.1 ++ block_terms;
         split =
-            ap (λ (rs : List Row). energy_term ∷ (flat_map (limit_terms m d) rs ++ block_terms)) rows_are
+            farkas_terms_are alone
+            ∙ ap (λ (rs : List Row). energy_term ∷ (flat_map (limit_terms m d) rs ++ block_terms)) rows_are
             ∙ ap (λ ts. energy_term ∷ (ts ++ block_terms)) (flat_map-append (limit_terms m d) s.0 (e.row ∷ s.1))
             ∙ ap (λ ts. energy_term ∷ ts) (append_assoc (flat_map (limit_terms m d) s.0) (limit_terms m d e.row ++ flat_map (limit_terms m d) s.1) block_terms);
         sum =
@@ -129,7 +138,7 @@ module _ (m : Parts) (d : Duals Fraction) where
         ∙ ap (λ t. d.energy *ℚ balance m (empty m) +ℚ t)
         (ap (λ (r : Row). sum_by left (take k (named_rows m d)) +ℚ left r) h.at ∙ sym (sum_by_more left (named_rows m d) k e.row h.inside))
 
-    module _ (sum : Fraction) (bound : ℕ) (p : Passed Fraction) (before : sum ≡ limits_to k) where
+    module _ (alone : m.reserve ≡ no_reserve) (sum : Fraction) (bound : ℕ) (p : Passed Fraction) (before : sum ≡ limits_to k) where
       abbrev room_above : Fraction
       room_above = most_flow m e.row -ℚ flow m (empty m) e.row
 
@@ -143,7 +152,7 @@ module _ (m : Parts) (d : Duals Fraction) where
       below = Product (down_of m d e.row) room_below
 
       s : IsSplit k e.row
-      s = split_at k e h
+      s = split_at alone k e h
 
       in_bound : IsRefusedIn (farkas_terms m d) bound p → IsFarkasPair m d bound p
       in_bound why = bound_pair (_, farkas_bound_of_all, why)
@@ -180,9 +189,9 @@ module _ (m : Parts) (d : Duals Fraction) where
   pub blocks_none : (s : Fraction) → s ≡ total (nothing_terms m d) → s ≡ blocks_to 0
   blocks_none s e = e ∙ sym (+ℚ_nil (total (nothing_terms m d)))
 
-  pub blocks_all : blocks_to (length m.blocks) ≡ farkas_bound m d
+  pub blocks_all : m.reserve ≡ no_reserve → blocks_to (length m.blocks) ≡ farkas_bound m d
   unfolding farkas_bound
-  blocks_all = sym (total-append (nothing_terms m d) block_terms)
+  blocks_all alone = sym (total-append (nothing_terms m d) block_terms) ∙ sym (ap total (farkas_terms_alone m alone d))
 
   pub block_step : (k : ℕ) (weight mw old new : Fraction) → weight ≡ block_weight m d k → mw ≡ quantity m k → old ≡ blocks_to k → new ≡ old +ℚ part_above weight *ℚ mw → new ≡ blocks_to (k + 1)
   block_step k weight mw old new weighs is before eq =
@@ -191,25 +200,27 @@ module _ (m : Parts) (d : Duals Fraction) where
       ∙ +ℚ_assoc (total (nothing_terms m d)) (total (map block_term (places k))) (part_above (block_weight m d k) *ℚ quantity m k)
       ∙ ap (λ t. total (nothing_terms m d) +ℚ t) (sym (total-places_more block_term k))
 
-  pub block_refused : (k : ℕ) (weight mw sum : Fraction) (bound : ℕ) (p : Passed Fraction) → k < length m.blocks → weight ≡ block_weight m d k → mw ≡ quantity m k → sum ≡ blocks_to k
+  pub block_refused : m.reserve ≡ no_reserve → (k : ℕ) (weight mw sum : Fraction) (bound : ℕ) (p : Passed Fraction) → k < length m.blocks → weight ≡ block_weight m d k → mw ≡ quantity m k → sum ≡ blocks_to k
       → IsShareRefusal sum (part_above weight) mw bound p → IsFarkasPair m d bound p
-  block_refused k weight mw sum bound p inside weighs is before why =
+  block_refused alone k weight mw sum bound p inside weighs is before why =
       let r = terms_at block_term (length m.blocks) k inside in
       let front : List Term = nothing_terms m d ++ map block_term (places k) in
-      let split : farkas_terms m d ≡ front ++ block_term k ∷ r.0 = behind (nothing_terms m d) block_terms (map block_term (places k)) r.0 (block_term k) r.1 in
+      let split : farkas_terms m d ≡ front ++ block_term k ∷ r.0 = farkas_terms_alone m alone d ∙ behind (nothing_terms m d) block_terms (map block_term (places k)) r.0 (block_term k) r.1 in
       let made = total-append (nothing_terms m d) (map block_term (places k)) in
       bound_pair
       (_, farkas_bound_of_all, share_at (farkas_terms m d) front r.0 (block_term k) split bound p sum (part_above weight) mw (ap₂ (λ w q. Product (part_above w) q) (sym weighs) (sym is)) (before ∙ sym made) why)
 
   -- the price of energy by the balance
-  pub energy_refused : (b : Fraction) (bound : ℕ) (p : Passed Fraction) → b ≡ balance m (empty m) → IsRefusal Times d.energy b bound p → IsFarkasPair m d bound p
-  energy_refused b bound p is h =
+  pub energy_refused : m.reserve ≡ no_reserve → (b : Fraction) (bound : ℕ) (p : Passed Fraction) → b ≡ balance m (empty m) → IsRefusal Times d.energy b bound p → IsFarkasPair m d bound p
+  energy_refused alone b bound p is h =
       bound_pair
-      (_, farkas_bound_of_all, product_at (farkas_terms m d) [] (flat_map (limit_terms m d) (rows m) ++ block_terms) energy_term refl bound p d.energy b (ap (Product d.energy) (sym is)) refl h)
+      (_, farkas_bound_of_all, product_at (farkas_terms m d) [] (flat_map (limit_terms m d) (rows m) ++ block_terms) energy_term (farkas_terms_are alone) bound p d.energy b (ap (Product d.energy) (sym is)) refl h)
 
 -- ---- where nothing is accepted
-pub nothing_is : {N : Type 0} (value : N → Fraction) (m : Parts) (xs ys : List N) (n : ℕ) → xs ≡ ys → map value ys ≡ replicate n (whole (pos 0)) → n ≡ length m.blocks → dispatch_of value xs ≡ empty m
-nothing_is value m xs ys n same zeros count = ap dispatch_by (ap (map value) same ∙ zeros ∙ ap (λ (k : ℕ). replicate k (whole (pos 0))) count)
+pub nothing_is : {N : Type 0} (value : N → Fraction) (m : Parts) → m.reserve ≡ no_reserve → (xs ys : List N) (n : ℕ) → xs ≡ ys → map value ys ≡ replicate n (whole (pos 0)) → n ≡ length m.blocks → dispatch_of value xs ≡ empty m
+nothing_is value m alone xs ys n same zeros count =
+    ap₂ dispatch_with (ap (map value) same ∙ zeros ∙ ap (λ (k : ℕ). replicate k (whole (pos 0))) count)
+    (sym (ap (λ (os : List ReserveOffer). replicate (length os) (whole (pos 0))) (no_offers m alone)))
 
 module _ (m : Parts) (d : Duals Fraction) (bound : ℕ) (p : Passed Fraction) where
   pub injection_pair : (x : Dispatch) → x ≡ empty m → IsRefusedAmong (InjectionSum m x) bound p → IsFarkasPair m d bound p

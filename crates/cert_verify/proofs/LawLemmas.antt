@@ -1,6 +1,6 @@
 -- What the verdict means, with what follows by the laws of the market.
 use Rattle.std.specs.Prelude.{◌≡◌, ◌≢◌, ◌<◌, ◌∷◌, ℕ, None, length, refl}
-use Rattle.std.proofs.Common.{ap, sym, ◌∙◌, arith, get_or}
+use Rattle.std.proofs.Common.{ap, sym, ◌∙◌, arith, get_or, subst, subst₂}
 use Rattle.std.proofs.lemmas.List.Kept.{AllPairs-filter}
 use Rattle.fraction_theory.specs.Fraction.{Fraction}
 use Rattle.market_model.specs.declared.answered.Dual.{Dual}
@@ -10,7 +10,11 @@ use Rattle.market_model.specs.declared.limits.Row.{Row}
 use Rattle.market_model.specs.declared.limits.Cause.TheVariants.{Base}
 use Rattle.market_model.specs.LimitRows.{rows, row_id}
 use Rattle.market_model.specs.Market.{IsMarket}
-use Rattle.market_model.specs.Optimality.{ProperDuals, names_row, named_rows}
+use Rattle.market_model.specs.Infeasibility.{ShowsInfeasible}
+use Rattle.market_model.specs.Optimality.{Feasible, ProperDuals, Supports, names_row, named_rows}
+use Rattle.market_model.specs.Reserves.{no_reserve}
+use Rattle.market_model.specs.RightAnswers.{dispatch_in}
+use Rattle.market_model.proofs.EnergyAlone.{dispatch_alone, duals_alone}
 use Rattle.market_model.proofs.ChangeLemmas.{same_default}
 use Rattle.market_model.proofs.FarkasLaw.{law_of_infeasibility}
 use Rattle.market_model.proofs.Optimum.{law_of_the_optimum}
@@ -29,35 +33,35 @@ use Rattle.cert_verify.proofs.TestLemmas.{all_none, none_first, yes_none, none_y
 use Rattle.cert_verify.proofs.VerdictLemmas.{Apart, optimal_to, optimal_from, farkas_to, farkas_from}
 
 -- ---- what a certificate shows, whatever its places
-shown_to : (m : Parts) (c : Cert Fraction) → first_of (kind_reasons m c) ≡ None → IsShown m c
-shown_to m (Optimal blocks energy limits places) e = optimal_to m (dispatch_by blocks) (named_duals energy limits) e
-shown_to m (Farkas energy limits places) e = farkas_to m (named_duals energy limits) e
+shown_to : (m : Parts) (c : Cert Fraction) → m.reserve ≡ no_reserve → first_of (kind_reasons m c) ≡ None → IsShown m c
+shown_to m (Optimal blocks energy limits places) alone e = optimal_to m (dispatch_by blocks) (named_duals energy limits) alone refl refl e
+shown_to m (Farkas energy limits places) alone e = farkas_to m (named_duals energy limits) alone refl e
 
-shown_from : (m : Parts) (c : Cert Fraction) → RowsAreDistinct c → IsShown m c → first_of (kind_reasons m c) ≡ None
-shown_from m (Optimal blocks energy limits places) apart h = optimal_from m (dispatch_by blocks) (named_duals energy limits) apart h
-shown_from m (Farkas energy limits places) apart h = farkas_from m (named_duals energy limits) apart h
+shown_from : (m : Parts) (c : Cert Fraction) → m.reserve ≡ no_reserve → RowsAreDistinct c → IsShown m c → first_of (kind_reasons m c) ≡ None
+shown_from m (Optimal blocks energy limits places) alone apart h = optimal_from m (dispatch_by blocks) (named_duals energy limits) alone apart h
+shown_from m (Farkas energy limits places) alone apart h = farkas_from m (named_duals energy limits) apart h
 
 -- ---- the verdict
-yes_shows : (m : Parts) (c : Cert Fraction) → verdict_of (first_reason m c) ≡ Yes → IsTrueOf m c
-yes_shows m c told =
+yes_shows : (m : Parts) (c : Cert Fraction) → m.reserve ≡ no_reserve → verdict_of (first_reason m c) ≡ Yes → IsTrueOf m c
+yes_shows m c alone told =
     let all = all_none (places_reason m (places_of c) ∷ kind_reasons m c) (yes_none (first_reason m c) told) in
-    record { places = places_to m (places_of c) all.0; shown = shown_to m c (none_first (kind_reasons m c) all.1) }
+    record { places = places_to m (places_of c) all.0; shown = shown_to m c alone (none_first (kind_reasons m c) all.1) }
 
-shows_yes : (m : Parts) (c : Cert Fraction) → RowsAreDistinct c → IsTrueOf m c → verdict_of (first_reason m c) ≡ Yes
-shows_yes m c apart h =
-    none_yes (first_reason m c) (first_behind (places_reason m (places_of c)) (kind_reasons m c) (places_from m (places_of c) h.places) ∙ shown_from m c apart h.shown)
+shows_yes : (m : Parts) (c : Cert Fraction) → m.reserve ≡ no_reserve → RowsAreDistinct c → IsTrueOf m c → verdict_of (first_reason m c) ≡ Yes
+shows_yes m c alone apart h =
+    none_yes (first_reason m c) (first_behind (places_reason m (places_of c)) (kind_reasons m c) (places_from m (places_of c) h.places) ∙ shown_from m c alone apart h.shown)
 
 pub law_of_the_verdict : LawOfTheVerdict
-law_of_the_verdict m c apart = (yes_shows m c, shows_yes m c apart)
+law_of_the_verdict m c alone apart = (yes_shows m c alone, shows_yes m c alone apart)
 
 pub law_of_the_best : LawOfTheBest
-law_of_the_best m blocks energy limits places market apart told =
-    let h = (yes_shows m (Optimal blocks energy limits places) told).shown in
+law_of_the_best m blocks energy limits places market alone apart told =
+    let h = (yes_shows m (Optimal blocks energy limits places) alone told).shown in
     (h.feasible, λ y f. law_of_the_optimum m (named_duals energy limits) (dispatch_by blocks) y market h.feasible h.supported f)
 
 pub law_of_nothing_feasible : LawOfNothingFeasible
-law_of_nothing_feasible m energy limits places market apart told y =
-    let h = (yes_shows m (Farkas energy limits places) told).shown in law_of_infeasibility m (named_duals energy limits) y market h.shows
+law_of_nothing_feasible m energy limits places market alone apart told y =
+    let h = (yes_shows m (Farkas energy limits places) alone told).shown in law_of_infeasibility m (named_duals energy limits) y market h.shows
 
 -- ---- the duals of answers
 module _ (m : Parts) (market : IsMarket m) (d : Duals Fraction) (proper : ProperDuals m d) where
@@ -82,13 +86,19 @@ module _ (m : Parts) (market : IsMarket m) (d : Duals Fraction) (proper : Proper
       (name_is i e none (Prim.omega (arith, p, q)) ∙ same ∙ sym (name_is j e none q))
 
 pub law_of_right_answers : LawOfRightAnswers
-law_of_right_answers m a market right =
-    let apart = apart_by m market a.duals right.proper in (
+law_of_right_answers m a market alone right =
+    let apart = apart_by m market a.duals right.proper in
+    let x : dispatch_in a ≡ dispatch_by a.dispatch = dispatch_alone m alone (dispatch_in a) right.feasible.blocks in
+    let d : a.duals ≡ named_duals a.duals.energy a.duals.limits = duals_alone m alone a.duals right.proper in (
       apart,
-      shows_yes m (cert_of m.places a) apart (record { places = refl; shown = record { rows = names_by m market a.duals right.proper; feasible = right.feasible; supported = right.supported } }),
+      shows_yes m (cert_of m.places a) alone apart (record {
+        places = refl;
+        shown = record { rows = names_by m market a.duals right.proper; feasible = subst (Feasible m) x right.feasible; supported = subst₂ (Supports m) x d right.supported };
+      }),
     )
 
 pub law_of_farkas_duals : LawOfFarkasDuals
-law_of_farkas_duals m f market shown =
+law_of_farkas_duals m f market alone shown =
     let apart = apart_by m market f.duals shown.proper in
-    (apart, shows_yes m (cert_against m.places f) apart (record { places = refl; shown = record { rows = names_by m market f.duals shown.proper; shows = shown.shows } }))
+    let d : f.duals ≡ named_duals f.duals.energy f.duals.limits = duals_alone m alone f.duals shown.proper in
+    (apart, shows_yes m (cert_against m.places f) alone apart (record { places = refl; shown = record { rows = names_by m market f.duals shown.proper; shows = subst (ShowsInfeasible m) d shown.shows } }))

@@ -18,7 +18,9 @@ use Rattle.market_model.specs.Dispatch.{Dispatch, zero, places, block_at, accept
 use Rattle.market_model.specs.Infeasibility.{farkas_bound}
 use Rattle.market_model.specs.declared.limits.Row.{Row}
 use Rattle.market_model.specs.LimitRows.{rows, row_id, limit, flow, most_flow, penalty}
-use Rattle.market_model.specs.Optimality.{BlockSupported, Gains, Loses, RowSupported, SideSupported, Supports, same_id, names_row, up_in, down_in, up_of, down_of, price, unit_price}
+use Rattle.market_model.specs.Optimality.{BlockSupported, Gains, Loses, all_of, RowSupported, SideSupported, Supports, same_id, names_row, up_in, down_in, up_of, down_of, price, unit_price}
+use Rattle.market_model.specs.Reserves.{no_reserve}
+use Rattle.market_model.proofs.EnergyAlone.{block_alone, feasible_alone, full_alone, is_energy_dispatch, no_unit, none_alone, supports_alone}
 use Rattle.limit_rows.proofs.DualLemmas.{up_unnamed, down_unnamed}
 use Rattle.limit_rows.proofs.PlaceLemmas.{same_name}
 use Rattle.cert_verify.specs.declared.verdicts.Reason.TheVariants as reason
@@ -115,18 +117,18 @@ module _ (m : Parts) (x : Dispatch) (d : Duals Fraction) where
   abbrev worth_of : ℕ → Fraction
   worth_of j = unit_price m d (block_at m j).unit
 
-  block_to : (j : ℕ) → is_unsupported m x d j ≡ false → BlockSupported m x d j
-  block_to j e =
-      let parts = or_parts (gains (side_of j) (price m j) (worth_of j) && differ (accepted x j) (quantity m j)) (loses (side_of j) (price m j) (worth_of j) && differ (accepted x j) zero) e in record {
-        full = λ h. same_by (accepted x j) (quantity m j) (then_not (gains (side_of j) (price m j) (worth_of j)) (differ (accepted x j) (quantity m j)) parts.0 (gains_of (side_of j) (price m j) (worth_of j) h));
-        empty = λ h. same_by (accepted x j) zero (then_not (loses (side_of j) (price m j) (worth_of j)) (differ (accepted x j) zero) parts.1 (loses_of (side_of j) (price m j) (worth_of j) h));
-      }
+  block_to : m.reserve ≡ no_reserve → (j : ℕ) → is_unsupported m x d j ≡ false → BlockSupported m x d j
+  block_to alone j e =
+      let parts = or_parts (gains (side_of j) (price m j) (worth_of j) && differ (accepted x j) (quantity m j)) (loses (side_of j) (price m j) (worth_of j) && differ (accepted x j) zero) e in
+      block_alone m alone x d j
+      (λ h. same_by (accepted x j) (quantity m j) (then_not (gains (side_of j) (price m j) (worth_of j)) (differ (accepted x j) (quantity m j)) parts.0 (gains_of (side_of j) (price m j) (worth_of j) h)))
+      (λ h. same_by (accepted x j) zero (then_not (loses (side_of j) (price m j) (worth_of j)) (differ (accepted x j) zero) parts.1 (loses_of (side_of j) (price m j) (worth_of j) h)))
 
-  block_from : (j : ℕ) → BlockSupported m x d j → is_unsupported m x d j ≡ false
-  block_from j h =
+  block_from : m.reserve ≡ no_reserve → (j : ℕ) → BlockSupported m x d j → is_unsupported m x d j ≡ false
+  block_from alone j h =
       neither (gains (side_of j) (price m j) (worth_of j) && differ (accepted x j) (quantity m j)) (loses (side_of j) (price m j) (worth_of j) && differ (accepted x j) zero)
-      (not_both (gains (side_of j) (price m j) (worth_of j)) (differ (accepted x j) (quantity m j)) (λ t. same_not (accepted x j) (quantity m j) (h.full (gains_true (side_of j) (price m j) (worth_of j) t))))
-      (not_both (loses (side_of j) (price m j) (worth_of j)) (differ (accepted x j) zero) (λ t. same_not (accepted x j) zero (h.empty (loses_true (side_of j) (price m j) (worth_of j) t))))
+      (not_both (gains (side_of j) (price m j) (worth_of j)) (differ (accepted x j) (quantity m j)) (λ t. same_not (accepted x j) (quantity m j) (full_alone m alone x d j h (gains_true (side_of j) (price m j) (worth_of j) t))))
+      (not_both (loses (side_of j) (price m j) (worth_of j)) (differ (accepted x j) zero) (λ t. same_not (accepted x j) zero (none_alone m alone x d j h (loses_true (side_of j) (price m j) (worth_of j) t))))
 
 -- ---- duals
 -- the signs of a dual's prices
@@ -302,25 +304,23 @@ module _ (m : Parts) (x : Dispatch) (d : Duals Fraction) where
       unpriced_from m x d.limits
       (λ r c free. subst₂ (Unbroken m x r) (up_unnamed d.limits (row_id m r) free) (down_unnamed d.limits (row_id m r) free) (row_from r (s.rows r c)))
 
-  pub optimal_to : first_of (optimal_reasons m x d) ≡ None → IsOptimum m x d
-  optimal_to none =
+  pub optimal_to : m.reserve ≡ no_reserve → x.reserve ≡ [] → d.reserve ≡ zero → first_of (optimal_reasons m x d) ≡ None → IsOptimum m x d
+  optimal_to alone energy free none =
       let all = all_none (optimal_reasons m x d) none in
       let counted : length x.blocks ≡ length m.blocks = eqb-true (length x.blocks) (length m.blocks) (not_false (length x.blocks == length m.blocks) (not_so (not (length x.blocks == length m.blocks)) reason.Count all.0)) in
       let inside = inside_to m x all.1.1.1.0 in record {
         rows = names_to m d.limits all.1.0;
-        feasible = record {
-          blocks = record { count = counted; above = λ j lt. (inside j lt).0; within = λ j lt. (inside j lt).1 };
-          balanced = same_by (balance m x) zero (not_so (differ (balance m x) zero) reason.Balance all.1.1.1.1.0);
-          limits = limits_to m x all.1.1.1.1.1.0;
-        };
-        supported = record {
-          blocks = λ j lt. block_to m x d j (none_of (λ j. reason.Support (j + 1)) (is_unsupported m x d) (places (length m.blocks)) all.1.1.1.1.1.1.1.1.0 j (in_places (length m.blocks) j lt));
-          rows = row_to all.1.1.0 all.1.1.1.1.1.1.0 all.1.1.1.1.1.1.1.0;
-        };
+        feasible = feasible_alone m alone (all_of m) x (λ u c. c)
+            (is_energy_dispatch m alone x energy counted (λ j lt. (inside j lt).0) (λ j lt. (inside j lt).1))
+            (same_by (balance m x) zero (not_so (differ (balance m x) zero) reason.Balance all.1.1.1.1.0))
+            (limits_to m x all.1.1.1.1.1.0);
+        supported = supports_alone m alone x d free
+            (λ j lt. block_to m x d alone j (none_of (λ j. reason.Support (j + 1)) (is_unsupported m x d) (places (length m.blocks)) all.1.1.1.1.1.1.1.1.0 j (in_places (length m.blocks) j lt)))
+            (row_to all.1.1.0 all.1.1.1.1.1.1.0 all.1.1.1.1.1.1.1.0);
       }
 
-  pub optimal_from : Apart d.limits → IsOptimum m x d → first_of (optimal_reasons m x d) ≡ None
-  optimal_from apart h =
+  pub optimal_from : m.reserve ≡ no_reserve → Apart d.limits → IsOptimum m x d → first_of (optimal_reasons m x d) ≡ None
+  optimal_from alone apart h =
       let count : count_reason m x ≡ None = so_none (not (length x.blocks == length m.blocks)) reason.Count (not_true (length x.blocks == length m.blocks) (eq-eqb (length x.blocks) (length m.blocks) h.feasible.blocks.count)) in
       let names : row_reason m d.limits ≡ None = names_from m d.limits h.rows in
       let signs : sign_reason d.limits ≡ None = signs_of m d apart h.rows (λ r c. (h.supported.rows r c).up.sign) (λ r c. (h.supported.rows r c).down.sign) in
@@ -329,18 +329,20 @@ module _ (m : Parts) (x : Dispatch) (d : Duals Fraction) where
       let limits : limit_reason m x ≡ None = limits_from m x h.feasible.limits in
       let slack : slack_reason m x d.limits ≡ None = slacks_of apart h.supported in
       let unpriced : unpriced_reason m x d.limits ≡ None = unpriced_of h.supported in
-      let support : support_reason m x d ≡ None = of_none (λ j. reason.Support (j + 1)) (is_unsupported m x d) (places (length m.blocks)) (λ j c. block_from m x d j (h.supported.blocks j (from_places (length m.blocks) j c))) in
+      let support : support_reason m x d ≡ None = of_none (λ j. reason.Support (j + 1)) (is_unsupported m x d) (places (length m.blocks)) (λ j c. block_from m x d alone j (h.supported.blocks j (from_places (length m.blocks) j c))) in
       none_first (optimal_reasons m x d) (count, (names, (signs, (inside, (balanced, (limits, (slack, (unpriced, (support, tt)))))))))
 
 -- ---- duals that show that nothing is feasible
 module _ (m : Parts) (d : Duals Fraction) where
-  pub farkas_to : first_of (farkas_reasons m d) ≡ None → ProvesInfeasible m d
-  farkas_to none =
+  pub farkas_to : m.reserve ≡ no_reserve → d.reserve ≡ zero → first_of (farkas_reasons m d) ≡ None → ProvesInfeasible m d
+  farkas_to alone free none =
       let all = all_none (farkas_reasons m d) none in record {
         rows = names_to m d.limits all.0;
         shows = record {
           up_signs = λ r c. up_sign d.limits (row_id m r) (signs_to d.limits all.1.0);
           down_signs = λ r c. down_sign d.limits (row_id m r) (signs_to d.limits all.1.0);
+          need_sign = subst (λ (t : Fraction). zero ≤ℚ t) (sym free) (≤ℚ_refl zero);
+          room_signs = λ u c. absurd (no_unit m alone u c);
           below = below_true (farkas_bound m d) zero (not_false (is_below (farkas_bound m d) zero) (not_so (not (is_below (farkas_bound m d) zero)) reason.Bound all.1.1.0));
         };
       }

@@ -10,15 +10,16 @@ use Rattle.market_model.specs.Infeasibility.{ShowsInfeasible}
 use Rattle.market_model.specs.declared.limits.Row.{Row}
 use Rattle.market_model.specs.LimitRows.{rows, row_id}
 use Rattle.market_model.specs.Optimality.{Feasible, Supports}
+use Rattle.market_model.specs.Valued.{energy_duals}
 use Rattle.cert_format.specs.declared.certificate.Cert.{Cert}
 use Rattle.cert_format.specs.declared.certificate.Cert.TheVariants.{Optimal, Farkas}
 use Rattle.cert_format.specs.Certificates.{places_of}
 use Rattle.cert_verify.specs.Reasons.{first_of, optimal_reasons, farkas_reasons, places_reason}
 use Rattle.cert_verify.specs.declared.verdicts.Reason.{Reason}
 
--- a price of energy, and those of rows
+-- a price of energy, and those of rows; a certificate is of energy alone
 abbrev pub named_duals : Fraction → List (Dual Fraction) → Duals Fraction
-named_duals energy limits = record { energy = energy; limits = limits }
+named_duals energy limits = energy_duals energy limits
 
 -- against what a certificate shows, by its kind
 abbrev pub kind_reasons : Parts → Cert Fraction → List (Option Reason)

@@ -1,6 +1,6 @@
 -- The answer of a dispatch and duals is right.
-use Rattle.std.specs.Prelude.{◌≡◌, pos, List, length, map}
-use Rattle.std.proofs.Common.{ap, sym, ◌∙◌}
+use Rattle.std.specs.Prelude.{◌≡◌, pos, List, [], length, map}
+use Rattle.std.proofs.Common.{ap, sym, subst, ◌∙◌}
 use Rattle.std.proofs.lemmas.List.{length-map}
 use Rattle.std.proofs.lemmas.List.FromFn.{length-map-range_with_len}
 use Rattle.fraction_theory.specs.Fraction.{Fraction, whole}
@@ -30,16 +30,17 @@ module _ {N : Type 0} (value : N → Fraction) (m : Parts) (d : Duals Fraction) 
       filled_at (bus_price m d) (map (λ (p : Price N). value p.total) ps) (length m.buses) (whole (pos 0))
       (sym (map-map (price_at value) (λ (p : Price Fraction). p.total) ps) ∙ ap (map (λ (p : Price Fraction). p.total)) made ∙ map-map (price_made m d) (λ (p : Price Fraction). p.total) (places (length m.buses)))
 
-pub right_answer : {N : Type 0} (value : N → Fraction) (m : Parts) (ds : List N) (d : Duals N) (ps : List (Price N)) (w : N) (money : Money N)
+pub right_answer : {N : Type 0} (value : N → Fraction) (m : Parts) (ds none : List N) (d : Duals N) (ps : List (Price N)) (w : N) (money : Money N) → none ≡ []
     → LawOfRightMoney → IsMarket m → Feasible m (dispatch_of value ds) → Supports m (dispatch_of value ds) (duals_at value d) → ProperDuals m (duals_at value d)
     → map (price_at value) ps ≡ map (price_made m (duals_at value d)) (places (length m.buses)) → value w ≡ welfare m (dispatch_of value ds)
     → money_at value money ≡ settlement_at m (dispatch_of value ds) (total_at value ps) (duals_at value d)
-    → IsRight m (answer_at value (record { dispatch = ds; duals = d; prices = ps; welfare = w; money = money }))
-right_answer value m ds d ps w money law market feasible supported proper made worth settled =
+    → IsRight m (answer_at value (record { dispatch = ds; reserve = none; duals = d; prices = ps; welfare = w; money = money }))
+right_answer {N} value m ds none d ps w money nothing law market feasible supported proper made worth settled =
     let right = settled ∙ law m (dispatch_of value ds) (total_at value ps) (duals_at value d) market (prices_of value m (duals_at value d) ps made) in
-    record {
+    subst (λ (rs : List N). IsRight m (answer_at value (record { dispatch = ds; reserve = rs; duals = d; prices = ps; welfare = w; money = money }))) (sym nothing)
+    (record {
       feasible = feasible;
       supported = supported;
       proper = proper;
-      made = λ i. record { dispatch = map value ds; duals = duals_at value d; prices = made i; welfare = worth i; money = right i };
-    }
+      made = λ i. record { dispatch = map value ds; reserve = []; duals = duals_at value d; prices = made i; welfare = worth i; money = right i };
+    })

@@ -14,7 +14,9 @@ use Rattle.market_model.specs.Overrun.{overrun, IsBeyond, IsWorst, Keeps, Within
 use Rattle.market_model.specs.declared.limits.Row.{Row}
 use Rattle.market_model.specs.LimitRows.{rows, limit, flow, flow_by, most_flow}
 use Rattle.market_model.specs.Market.{IsMarket}
-use Rattle.market_model.specs.Optimality.{Feasible, FeasibleFor}
+use Rattle.market_model.specs.Optimality.{Feasible, FeasibleFor, all_of, rows_alone}
+use Rattle.market_model.specs.Reserves.{no_reserve}
+use Rattle.market_model.proofs.EnergyAlone.{feasible_alone}
 use Rattle.market_model.proofs.ChangeLemmas.{same_default}
 use Rattle.market_system.specs.Growth.{BestFor, Broken}
 use Rattle.market_system.specs.MarketSystem.{is_in}
@@ -55,7 +57,7 @@ taken_or_not g r = by (is_in g r) refl
     by true e = inl (is_in-from g r e)
     by false e = inr (λ k. let wrong : false ≡ true = sym e ∙ is_in-in g r k in absurd Prim.cc)
 
-module _ (m : Parts) (market : IsMarket m) (g : List Row) (x : Dispatch) where
+module _ (m : Parts) (market : IsMarket m) (alone : m.reserve ≡ no_reserve) (g : List Row) (x : Dispatch) where
   -- a flow beyond what it may be breaks its limit
   beyond_broken : (r : Row) → IsBeyond m g r (flow m x r) → Broken m x r
   beyond_broken r beyond = passed_size (flow m x r) (limit m r) (above (taken_or_not g r))
@@ -65,12 +67,13 @@ module _ (m : Parts) (market : IsMarket m) (g : List Row) (x : Dispatch) where
       above (inr new) = beyond.limit new
 
   -- and its row is not among those for which the dispatch is feasible
-  beyond_new : FeasibleFor m g x → (r : Row) → IsBeyond m g r (flow m x r) → ¬ (Contains g r)
+  beyond_new : FeasibleFor m (rows_alone g) x → (r : Row) → IsBeyond m g r (flow m x r) → ¬ (Contains g r)
   beyond_new feasible r beyond c = not_passed (most_flow m r) (flow m x r) (feasible.limits r c) (beyond.most c)
 
   -- where all rows keep what they may be, a dispatch that is best for those taken is feasible
-  pub kept_feasible : BestFor m g x → AllKept m g x → Feasible m x
-  kept_feasible best kept = record { blocks = best.feasible.blocks; balanced = best.feasible.balanced; limits = λ r c. within r (kept r c) (taken_or_not g r) }
+  pub kept_feasible : BestFor m (rows_alone g) x → AllKept m g x → Feasible m x
+  kept_feasible best kept =
+      feasible_alone m alone (all_of m) x (λ u c. c) best.feasible.blocks best.feasible.balanced (λ r c. within r (kept r c) (taken_or_not g r))
     where
       within : (r : Row) → Keeps m g r (flow m x r) → Contains g r ⊎ (¬ (Contains g r)) → Within (most_flow m r) (flow m x r)
       within r keeps (inl c) = keeps.most c
@@ -81,7 +84,7 @@ module _ (m : Parts) (market : IsMarket m) (g : List Row) (x : Dispatch) where
     pub worst_inside : Contains (rows m) r
     worst_inside = listed_row (rows m) place r worst.stands
 
-    pub worst_new : BestFor m g x → ¬ (Contains g r)
+    pub worst_new : BestFor m (rows_alone g) x → ¬ (Contains g r)
     worst_new best = beyond_new best.feasible r worst.counts
 
     pub worst_broken : Broken m x r

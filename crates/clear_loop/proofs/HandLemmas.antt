@@ -11,8 +11,9 @@ use Rattle.market_model.specs.declared.participants.Parts.{Parts}
 use Rattle.market_model.specs.Dispatch.{Dispatch, places}
 use Rattle.market_model.specs.declared.limits.Row.{Row}
 use Rattle.market_model.specs.LimitRows.{rows, row_id}
+use Rattle.market_model.specs.Optimality.{rows_alone}
 use Rattle.market_system.specs.Growth.{BestFor, Broken, Growth}
-use Rattle.market_system.specs.MarketSystem.{system_of}
+use Rattle.market_dict.specs.EnergySystem.{system_of}
 use Rattle.market_system.specs.SolvedLaws.{AreRows}
 use Rattle.linear_system.specs.Choices.{value}
 use Rattle.market_system.proofs.GrowthLaws.{growth_none, growth_more, rows_few}
@@ -25,11 +26,11 @@ use Rattle.clear_loop.specs.Rounds.{GrowsByOne, IsInHand}
 use Rattle.clear_loop.specs.declared.hand.Taken.{Taken}
 
 -- ---- one row more
-pub grown_behind : (m : Parts) (g : List Row) (r : Row) → Contains (rows m) r → ¬ (Contains g r) → ((x : Dispatch) × BestFor m g x × Broken m x r) → Growth m g (g ++ r ∷ [])
-grown_behind m g r inside new (x, best, broken) = growth_more m g g x r (growth_none m g) best broken inside new
+pub grown_behind : (m : Parts) (g : List Row) (r : Row) → Contains (rows m) r → ¬ (Contains g r) → ((x : Dispatch) × BestFor m (rows_alone g) x × Broken m x r) → Growth m g (g ++ r ∷ [])
+grown_behind m g r inside new (x, best, broken) = growth_more m g g x r (growth_none m g) ([], best) broken inside new
 
 pub grown_more : (m : Parts) (t g new : List Row) → Growth m t g → GrowsByOne m g new → Growth m t new
-grown_more m t g new grown (r, is, inside, absent, broken) = subst (Growth m t) (sym is) (growth_more m t g broken.0 r grown broken.1 broken.2 inside absent)
+grown_more m t g new grown (r, is, inside, absent, broken) = subst (Growth m t) (sym is) (growth_more m t g broken.0 r grown ([], broken.1) broken.2 inside absent)
 
 -- rounds come nearer to all rows
 pub comes_nearer : (m : Parts) (old new : Taken) → GrowsByOne m old.rows new.rows → AreRows m new.rows → (length (rows m) - length new.rows) < (length (rows m) - length old.rows)

@@ -10,6 +10,7 @@ use Rattle.simplex_core.specs.declared.bounds.Bounds.{Bounds}
 use Rattle.market_model.specs.declared.participants.Parts.{Parts}
 use Rattle.market_model.specs.declared.limits.Row.{Row}
 use Rattle.market_model.specs.Market.{IsMarket}
+use Rattle.market_model.specs.Reserves.{no_reserve}
 use Rattle.market_model.specs.Valued.{passed_at}
 use Rattle.market_system.specs.WorkingPairs.{IsRangeOf}
 use Rattle.market_system.proofs.GrowthLaws.{growth_none}
@@ -52,15 +53,15 @@ module _ {N : Type 0} (value : N → Fraction) (m : Parts) (g : List Row) (posin
     pub bounds_fit : IfSome warm (λ d. length bounds ≡ length d.columns + length d.rows)
     bounds_fit = at_start (λ d. length bounds ≡ length d.columns + length d.rows) bounds_for
 
-    module _ (market : IsMarket m) where
+    module _ (market : IsMarket m) (alone : m.reserve ≡ no_reserve) where
       pub in_order : All (λ (b : Bounds N). value b.low ≤ℚ value b.high) bounds
       in_order = bounds_ordered value m g bounds market start.2.limits (low_values start.0 start.2) (high_values start.0 start.2)
 
       pub posed_system : (e : Dictionary) → IfSome warm (λ d. IsPosing value d prices bounds e) → HoldsSystem m g e
       posed_system e posing =
-          holds_posed value m g start.0 prices bounds e market start.2 (price_values start.0 start.2) (low_values start.0 start.2) (high_values start.0 start.2) (from_start (λ d. IsPosing value d prices bounds e) posing)
+          holds_posed value m g start.0 prices bounds e market alone start.2 (price_values start.0 start.2) (low_values start.0 start.2) (high_values start.0 start.2) (from_start (λ d. IsPosing value d prices bounds e) posing)
 
       pub posed_range : (bound : ℕ) (p : Passed N) → IfSome warm (λ d. IsPairPosed value bound d prices bounds p) → IsRangeOf m g bound (passed_at value p)
       posed_range bound p pair =
           pair_range value bound m g g p (growth_none m g)
-          (pair_posed value bound m g start.0 prices bounds p market start.2 (price_values start.0 start.2) (low_values start.0 start.2) (high_values start.0 start.2) (from_start (λ d. IsPairPosed value bound d prices bounds p) pair))
+          (pair_posed value bound m g start.0 prices bounds p market alone start.2 (price_values start.0 start.2) (low_values start.0 start.2) (high_values start.0 start.2) (from_start (λ d. IsPairPosed value bound d prices bounds p) pair))

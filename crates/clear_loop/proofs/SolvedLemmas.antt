@@ -1,5 +1,5 @@
 -- What is refused at a dispatch that solves the market over rows in hand is a working pair of the market over these rows.
-use Rattle.std.specs.Prelude.{Contains, ℕ, List, [], ◌∷◌, Some, None, refl}
+use Rattle.std.specs.Prelude.{◌≡◌, Contains, ℕ, List, [], ◌∷◌, Some, None, refl}
 use Rattle.std.proofs.Common.{ap, inl, inr, sym, subst, subst₂}
 use Rattle.fraction_theory.specs.Fraction.{Fraction}
 use Rattle.fraction_theory.specs.Sums.{Term, Product}
@@ -15,12 +15,13 @@ use Rattle.market_model.specs.LimitRows.{carried, flow_terms, row_id, rows}
 use Rattle.market_model.specs.Market.{IsMarket}
 use Rattle.market_model.specs.NamedSums.{IsRefusedIn}
 use Rattle.market_model.proofs.SumParts.{flow_carried}
-use Rattle.market_model.specs.SumTables.{IsFlowRefusal, IsRefusedAmong, factor_of_pickup, flow_of_row, limited_row, FlowSum, flow_in_limits, PriceSum, IsRefusedInPrices, left_of_all, paid_by_load, paid_to_unit, rent_of_row, SettledSum, own_price_of_unit, paid_output, paid_price, demand_of_bus, payment, paid_row}
-use Rattle.market_model.specs.Optimality.{names_row, Feasible, Supports, ProperDuals, bus_price, own_terms, welfare_terms}
-use Rattle.market_model.specs.Settlement.{load_terms, rent_terms, surplus_terms, unit_terms}
+use Rattle.market_model.specs.SumTables.{IsFlowRefusal, IsRefusedAmong, factor_of_pickup, flow_of_row, limited_row, FlowSum, flow_in_limits, PriceSum, IsRefusedInPrices, left_of_all, paid_by_load, paid_for_reserve, paid_to_unit, rent_of_row, SettledSum, own_price_of_unit, paid_output, paid_price, demand_of_bus, payment, paid_row}
+use Rattle.market_model.specs.Optimality.{rows_alone, names_row, Feasible, Supports, ProperDuals, bus_price, own_terms, welfare_terms}
+use Rattle.market_model.specs.Reserves.{no_reserve}
+use Rattle.market_model.specs.Settlement.{load_terms, rent_terms, reserve_term, surplus_terms, unit_terms}
 use Rattle.market_system.specs.Growth.{BestFor, PricesOnly}
 use Rattle.market_system.specs.MarketNumbers.{IsRightChoice, IsInjecting, factor_of, of_flow, of_price, of_welfare, of_settlement}
-use Rattle.market_system.specs.MarketSystem.{system_of, choice_dispatch}
+use Rattle.market_dict.specs.EnergySystem.{system_of, choice_dispatch}
 use Rattle.market_system.specs.PairLaw.{RefusalsArePairs}
 use Rattle.market_system.specs.SolvedLaws.{SupportsFor}
 use Rattle.market_system.specs.WorkingPairs.{IsRangeOf}
@@ -41,8 +42,8 @@ use Rattle.clear_loop.proofs.BrokenLemmas.{kept_feasible}
 
 -- ---- refusals
 module _ (m : Parts) (g : List Row) (x : Dispatch) (d : Duals Fraction) (market : IsMarket m) (solved : IsSolvedBy m g x d) where
-  pub best_for : BestFor m g x
-  best_for = subst (BestFor m g) (sym solved.dispatch) solved.answers.best
+  pub best_for : BestFor m (rows_alone g) x
+  best_for = subst (BestFor m (rows_alone g)) (sym solved.dispatch) solved.answers.best
 
   pub supports : AllKept m g x → Supports m x d
   supports kept =
@@ -52,13 +53,13 @@ module _ (m : Parts) (g : List Row) (x : Dispatch) (d : Duals Fraction) (market 
   proper = subst (ProperDuals m) (sym solved.duals) solved.answers.proper
 
   pub prices_only : PricesOnly m g d
-  prices_only = subst (PricesOnly m g) (sym solved.duals) (prices_only-made m (names_apart m market) (reduced (system_of m g) solved.choice) g)
+  prices_only = subst (PricesOnly m g) (sym solved.duals) (prices_only-made m (names_apart m market) (reduced (system_of m g) solved.choice) (rows_alone g))
 
   module _ (bound : ℕ) (p : Passed Fraction) where
-    pairs : RefusalsArePairs m g g solved.choice bound p
-    pairs = law_of_the_pairs m g g solved.choice bound p market (growth_none m g) solved.is_choice
+    pairs : RefusalsArePairs m g (rows_alone g) solved.choice bound p
+    pairs = law_of_the_pairs m g (rows_alone g) solved.choice bound p market (growth_none m g) solved.is_choice
 
-    injecting : IsInjecting m g solved.choice x
+    injecting : IsInjecting m (rows_alone g) solved.choice x
     injecting = inr (solved.dispatch, best_for)
 
     -- injections and flows
@@ -78,10 +79,10 @@ module _ (m : Parts) (g : List Row) (x : Dispatch) (d : Duals Fraction) (market 
     screen_range (r, c, why) = row_sum r c (flow_refusal_same m (carried_at m (flows_at m x)) (carried m x) r bound p (row_terms m x (flows_at m x) refl r market c) why)
 
     -- where all limits are kept, and it is answered
-    module _ (kept : AllKept m g x) where
-      best : IsRightChoice m g solved.choice
+    module _ (alone : m.reserve ≡ no_reserve) (kept : AllKept m g x) where
+      best : IsRightChoice m (rows_alone g) solved.choice
       best = record {
-        feasible = subst (Feasible m) solved.dispatch (kept_feasible m market g x best_for kept);
+        feasible = subst (Feasible m) solved.dispatch (kept_feasible m market alone g x best_for kept);
         supported = subst₂ (Supports m) solved.dispatch solved.duals (supports kept);
       }
 
@@ -107,6 +108,7 @@ module _ (m : Parts) (g : List Row) (x : Dispatch) (d : Duals Fraction) (market 
             (unit_terms m x (bus_price m d) d u, payment _ (paid_to_unit u lt), subst (λ ts. IsRefusedIn ts bound p) (ap (λ t. Product t (output m x u) ∷ []) (at_unit m d price market priced u lt)) a)
         at_duals terms (payment same left_of_all) a = (surplus_terms m x d, payment _ left_of_all, subst (λ ts. IsRefusedIn ts bound p) (left_at m d price market priced x) a)
         at_duals terms (payment same (rent_of_row r c)) a = (rent_terms m x d r, payment _ (rent_of_row r c), a)
+        at_duals terms (payment same (paid_for_reserve n lt)) a = (reserve_term x d n ∷ [], payment _ (paid_for_reserve n lt), a)
         at_duals terms (paid_row r same c sum) a = (terms, paid_row r terms c sum, a)
 
         pub money_range : IsMoneyRefusal m x price d bound p → IsRangeOf m g bound p

@@ -10,6 +10,7 @@ use Rattle.market_model.specs.declared.participants.Parts.{Parts}
 use Rattle.market_model.specs.declared.limits.Row.{Row}
 use Rattle.market_model.specs.LimitRows.{rows as rows_of_market, row_id}
 use Rattle.market_model.specs.Market.{IsMarket}
+use Rattle.market_model.specs.Reserves.{no_reserve}
 use Rattle.market_model.specs.Valued.{duals_at}
 use Rattle.market_system.specs.Growth.{Growth, PricesOnly}
 use Rattle.market_system.specs.SolvedLaws.{AreRows}
@@ -22,9 +23,9 @@ use Rattle.market_model.specs.declared.stops.Stop.{Stop}
 use Rattle.market_model.specs.declared.stops.Stop.TheVariants as stop
 use Rattle.market_dict.specs.declared.posing.PricesAndBounds.{PricesAndBounds}
 use Rattle.market_dict.proofs.HoldingLaws.{holds_choice}
-use Rattle.clear_loop.specs.Clearing.{ClearComesTo}
+use Rattle.clear_loop.specs.Clearing.{ClearComesTo, KeepsStart}
 use Rattle.clear_loop.specs.Faults.{fault_of}
-use Rattle.clear_loop.specs.Keeping.{Kept, FitsFrame, IsStartOf}
+use Rattle.clear_loop.specs.Keeping.{Kept, FitsFrame, IsStartOf, cold}
 use Rattle.clear_loop.specs.Rounds.{HoldsStart, IsEnd, IsEnded, IsInHand, StopsInRange}
 use Rattle.clear_loop.specs.Starts.{kept_as, taken_in}
 use Rattle.clear_loop.specs.declared.fault.ClearFault.TheVariants as why
@@ -80,18 +81,23 @@ module _ (m : Parts) (k : Kept) (w : Option Dictionary) (t : Option Taken) (view
     }
 
 -- ---- how a clear ends
-module _ {N : Type 0} (worth : N → Fraction) (bound : ℕ) (m : Parts) (before after : List Row) (are : AreRows m before) where
+-- where it is stopped nothing is kept
+pub stopped_keeps : {N : Type 0} (s : Stop N) (after : Kept) → after ≡ cold → KeepsStart (Err (fault_of s)) after
+stopped_keeps (stop.Passed p) after none = none
+stopped_keeps stop.Memory after none = none
+
+module _ {N : Type 0} (worth : N → Fraction) (bound : ℕ) (m : Parts) (alone : m.reserve ≡ no_reserve) (before after : List Row) (are : AreRows m before) where
   pub stopped_clear : (s : Stop N) → after ≡ [] → StopsInRange worth bound m before s → ClearComesTo worth bound m before (Err (fault_of s)) after
-  stopped_clear (stop.Passed p) none range = record { rows = are; right = range; taken = none; priced = tt }
+  stopped_clear (stop.Passed p) none range = record { rows = are; right = range; taken = none; priced = tt; energy_alone = alone }
   stopped_clear stop.Memory none range = tt
 
   module _ (e : Ended N) (ended : IsEnded worth m e) (grown : Growth m before e.taken.rows) (same : after ≡ e.taken.rows) where
     pub answered_clear : (a : Answer N) → e.answer ≡ Ok a → ClearComesTo worth bound m before (Ok a) after
     answered_clear a is =
         let end : IsEnd worth m e.taken.rows (Ok a) = subst (λ (r : Result (Answer N) (Farkas N)). IsEnd worth m e.taken.rows r) is ended.end in
-        record { rows = are; right = end.1; taken = subst (Growth m before) (sym same) grown; priced = subst (λ g. PricesOnly m g (duals_at worth a.duals)) (sym same) end.2 }
+        record { rows = are; right = end.1; taken = subst (Growth m before) (sym same) grown; priced = subst (λ g. PricesOnly m g (duals_at worth a.duals)) (sym same) end.2; energy_alone = alone }
 
     pub infeasible_clear : (f : Farkas N) → e.answer ≡ Err f → ClearComesTo worth bound m before (Err (why.Infeasible f)) after
     infeasible_clear f is =
         let end : IsEnd worth m e.taken.rows (Err f) = subst (λ (r : Result (Answer N) (Farkas N)). IsEnd worth m e.taken.rows r) is ended.end in
-        record { rows = are; right = end.0; taken = subst (Growth m before) (sym same) grown; priced = subst (λ g. PricesOnly m g (duals_at worth f.duals)) (sym same) end.1 }
+        record { rows = are; right = end.0; taken = subst (Growth m before) (sym same) grown; priced = subst (λ g. PricesOnly m g (duals_at worth f.duals)) (sym same) end.1; energy_alone = alone }

@@ -1,5 +1,5 @@
 -- What stops a clear is a working pair over rows that are reached.
-use Rattle.std.specs.Prelude.{Contains, ◌⊎◌, ℕ, List, [], ◌∷◌, ◌++◌, Some}
+use Rattle.std.specs.Prelude.{◌≡◌, Contains, ◌⊎◌, ℕ, List, [], ◌∷◌, ◌++◌, Some}
 use Rattle.std.proofs.Common.{inl, inr}
 use Rattle.fraction_theory.specs.Fraction.{Fraction}
 use Rattle.linear_system.specs.Choices.{Choice, IsChoice}
@@ -11,11 +11,13 @@ use Rattle.market_model.specs.Dispatch.{Dispatch}
 use Rattle.market_model.specs.declared.limits.Row.{Row}
 use Rattle.market_model.specs.LimitRows.{rows}
 use Rattle.market_model.specs.Market.{IsMarket}
+use Rattle.market_model.specs.Reserves.{no_reserve}
 use Rattle.market_model.specs.Stops.{OnPassed, StopsBy}
 use Rattle.market_model.specs.SumTables.{FactorSum, IsRefusedAmong, IsRefusedInPrices}
 use Rattle.market_model.specs.Valued.{passed_at}
 use Rattle.market_system.specs.Growth.{Growth}
-use Rattle.market_system.specs.MarketSystem.{system_of}
+use Rattle.market_model.specs.Optimality.{rows_alone}
+use Rattle.market_dict.specs.EnergySystem.{system_of}
 use Rattle.market_system.proofs.GrowthLaws.{growth_again, growth_none}
 use Rattle.market_system.proofs.PairCases.{law_of_the_pairs}
 use Rattle.market_system.specs.MarketNumbers.{factor_of}
@@ -42,7 +44,7 @@ module _ {N : Type 0} (value : N → Fraction) (bound : ℕ) (m : Parts) where
       → OnPassed s (λ p. IsPairOf value bound (system_of m (t ++ r ∷ [])) p ⊎ IsRefusedAmong (FactorSum m r) bound (passed_at value p)) → StopsInRange value bound m t s
   taken_stop t r h (stop.Passed p) market grown choice row (inl pair) = pair_range value bound m t (t ++ r ∷ []) p grown pair
   taken_stop t r h (stop.Passed p) market grown choice row (inr (terms, sum, a)) =
-      (law_of_the_pairs m t t h bound (passed_at value p) market (growth_none m t) choice).sum (Some Factor) terms (factor_of r terms row sum) a
+      (law_of_the_pairs m t (rows_alone t) h bound (passed_at value p) market (growth_none m t) choice).sum (Some Factor) terms (factor_of r terms row sum) a
   taken_stop t r h stop.Memory market grown choice row why = tt
 
   -- where prices and bounds are made
@@ -53,7 +55,7 @@ module _ {N : Type 0} (value : N → Fraction) (bound : ℕ) (m : Parts) where
 
   -- rows reached from those in hand are reached from those before
   pub earlier_stop : (t g : List Row) (s : Stop N) → Growth m t g → StopsInRange value bound m g s → StopsInRange value bound m t s
-  earlier_stop t g (stop.Passed p) grown range = record { rows = range.rows; reached = growth_again m t g range.rows grown range.reached; pair = range.pair }
+  earlier_stop t g (stop.Passed p) grown range = record { over = range.over; reached = growth_again m t g range.over.limits grown range.reached; pair = range.pair }
   earlier_stop t g stop.Memory grown range = tt
 
   module _ (g : List Row) (x : Dispatch) (d : Duals Fraction) (market : IsMarket m) (solved : IsSolvedBy m g x d) where
@@ -64,11 +66,11 @@ module _ {N : Type 0} (value : N → Fraction) (bound : ℕ) (m : Parts) where
     screen_stop stop.Memory a = tt
 
     -- where it is priced and settled
-    module _ (kept : AllKept m g x) where
+    module _ (alone : m.reserve ≡ no_reserve) (kept : AllKept m g x) where
       pub price_stop : (s : Stop N) → StopsBy value (IsRefusedInPrices m d bound) s → StopsInRange value bound m g s
-      price_stop (stop.Passed p) a = price_range m g x d market solved bound (passed_at value p) kept a
+      price_stop (stop.Passed p) a = price_range m g x d market solved bound (passed_at value p) alone kept a
       price_stop stop.Memory a = tt
 
       pub money_stop : (price : ℕ → Fraction) → ArePricesOf m d price → (s : Stop N) → IsMoneyStop value bound m x price d s → StopsInRange value bound m g s
-      money_stop price priced (stop.Passed p) a = money_range m g x d market solved bound (passed_at value p) kept price priced a
+      money_stop price priced (stop.Passed p) a = money_range m g x d market solved bound (passed_at value p) alone kept price priced a
       money_stop price priced stop.Memory a = tt

@@ -11,6 +11,7 @@ use Rattle.market_model.specs.Fitting.{FitsMarket}
 use Rattle.market_model.specs.Infeasibility.{IsFarkas}
 use Rattle.market_model.specs.declared.limits.Row.{Row}
 use Rattle.market_model.specs.LimitRows.{flow, rows, row_id}
+use Rattle.market_model.specs.Optimality.{rows_alone}
 use Rattle.market_model.specs.Overrun.{IsWorst, Keeps}
 use Rattle.market_model.specs.RightAnswers.{IsRight}
 use Rattle.market_model.specs.Valued.{answer_at, duals_at, farkas_at}
@@ -41,7 +42,7 @@ pub record IsInHand {N : Type 0} (value : N → Fraction) (m : Parts) (h : Hand 
 
 -- the rows with one more of the market behind, which is not among them, and which a best dispatch for them breaks
 abbrev pub GrowsByOne : Parts → List Row → List Row → Type 0
-GrowsByOne m g new = (r : Row) × (new ≡ g ++ r ∷ []) × Contains (rows m) r × (¬ (Contains g r)) × ((x : Dispatch) × BestFor m g x × Broken m x r)
+GrowsByOne m g new = (r : Row) × (new ≡ g ++ r ∷ []) × Contains (rows m) r × (¬ (Contains g r)) × ((x : Dispatch) × BestFor m (rows_alone g) x × Broken m x r)
 
 -- where some rows are taken, all rows of the market keep at a dispatch what they may be
 abbrev pub AllKept : Parts → List Row → Dispatch → Type 0

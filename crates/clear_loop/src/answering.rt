@@ -73,6 +73,7 @@ pub(crate) fn answer_of<N: Exact>(
     )?;
     Ok(Answer {
         dispatch,
+        reserve: List::new(alloc),
         duals,
         prices,
         welfare,

@@ -139,6 +139,7 @@ impl<N: Exact> Clearer<N> {
         ensures frame { FitsFrame market.now self.new }
         ensures kept { KeepsStart result self.new }
     {
+        let _lines = market.lines();
         let before = std::mem::replace(self, unused());
         let hand = first_hand(alloc, market, before)?;
         let Ended {

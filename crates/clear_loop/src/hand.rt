@@ -3,6 +3,7 @@
 ghost use Rattle.std.specs.Prelude.{◌≡◌, [], ◌∷◌, ◌++◌, map, Contains, IfOk, IfErr, Some, false};
 ghost use Rattle.market_model.specs.Dispatch.{Dispatch};
 ghost use Rattle.market_model.specs.LimitRows.{row_id, rows};
+ghost use Rattle.market_model.specs.Optimality.{rows_alone};
 ghost use Rattle.market_system.specs.Growth.{BestFor, Broken};
 ghost use Rattle.market_dict.specs.Holding.{HoldsMarket};
 ghost use Rattle.market_dict.specs.PricesAndBounds.{ArePricesAndBounds};
@@ -82,7 +83,7 @@ pub(crate) fn with_row<N: Exact>(
     requires names { taken.names ≡ map (row_id market.now) taken.rows }
     requires row { Contains (rows market.now) row }
     requires new { ¬ (Contains taken.rows row) }
-    requires broken { (x : Dispatch) × BestFor market.now taken.rows x × Broken market.now x row }
+    requires broken { (x : Dispatch) × BestFor market.now (rows_alone taken.rows) x × Broken market.now x row }
     ensures hand { IfOk result (IsInHand N.value market.now) }
     ensures rows { IfOk result (λ hand. hand.taken.rows ≡ taken.rows ++ row ∷ []) }
     ensures cause { IfErr result (StopsInRange N.value N.bound market.now taken.rows) }

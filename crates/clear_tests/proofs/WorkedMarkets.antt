@@ -6,7 +6,7 @@ use Rattle.std.proofs.lemmas.List.Elements.{All-cons, All-nil, Contains-push_cas
 use Rattle.market_data.specs.Participants.{IsBus, IsUnit}
 use Rattle.market_data.specs.declared.participants.Bus.{Bus}
 use Rattle.market_data.specs.declared.participants.Unit as unit
-use Rattle.market_model.proofs.PlainMarkets.{no_unit_outages}
+use Rattle.market_model.proofs.PlainMarkets.{is_no_reserve, no_unit_outages}
 use Rattle.market_model.specs.declared.limits.Cause.TheVariants.{Base}
 use Rattle.market_model.specs.declared.limits.Row.{Row}
 use Rattle.market_model.specs.declared.participants.Block.{Block}
@@ -86,6 +86,7 @@ worked_is_market price excess penalty = record {
   shift = one_is_market.shift;
   loss = one_is_market.loss;
   unit_outages = no_unit_outages 2;
+  reserve = is_no_reserve 2;
 }
   where
     unit_fits : (row bus : ℕ) → 1 ≤ row → bus < 3 → IsUnit 3 (unit_of row bus)

@@ -12,8 +12,8 @@ use clear_loop::Clearer;
 use exact_fraction::Exact;
 use market_data::{FactorPlaces, MW_ONE, PRICE_ONE};
 use market_model::{
-    Answer, Block, Bus, Factor, Line, List, Market, Memory, Parts, Price, RowId, Side, Unit,
-    assemble,
+    Answer, Block, Bus, Factor, Line, List, Market, Memory, Parts, Price, Reserve, RowId, Side,
+    Unit, assemble,
 };
 use offer_book::Edit;
 use std::alloc::Global;
@@ -169,6 +169,7 @@ pub(crate) fn soft(alloc: Global, price: i64, excess: i64) -> Result<Market, Mem
         unit_outages: List::new(alloc),
         pickups: List::new(alloc),
         places: FactorPlaces::Six,
+        reserve: Reserve::none(alloc),
     };
     assemble(alloc, parts)
 }

@@ -148,7 +148,7 @@ law_of_the_rights_text m (unpaid a r) (range s) fits others e = absurd (Prim.ome
 law_of_the_rights_text m (infeasible k) (paid b g q) fits others e = absurd (Prim.omega (arith, head_of 105 99 _ _ e))
 law_of_the_rights_text m (infeasible k) (unpaid b s) fits others e = absurd (Prim.omega (arith, head_of 105 99 _ _ e))
 law_of_the_rights_text m (infeasible k) (infeasible l) fits others e =
-    let same : k ≡ l = same_infeasible k l (reports_apart m (outcome.Infeasible k) (outcome.Infeasible l) tt tt e) in
+    let same : k ≡ l = same_infeasible k l (reports_apart m (outcome.Infeasible k) (outcome.Infeasible l) fits others e) in
     ap infeasible same
 law_of_the_rights_text m (infeasible k) (range s) fits others e = absurd (Prim.omega (arith, head_of 105 114 _ _ e))
 law_of_the_rights_text m (range r) (paid b g q) fits others e = absurd (Prim.omega (arith, head_of 114 99 _ _ e))
@@ -179,13 +179,13 @@ record IsTold (m : Parts) (o : Outcome Fraction) (t : Telling) : Type 0 where
 outcome_told : (bound : ℕ) (m : Parts) (rights : List TransmissionRight) (o : Outcome Fraction) (t : Telling) → OutcomeFitsReport m o → TellsOutcome bound m rights o t → IsTold m o t
 outcome_told bound m rights (outcome.Cleared a) t fits (fitted f is e) = record { report = paid a f (payments_of (total_at (λ x. x) a.prices) rights); fits = fits; outcome = refl; told = e }
 outcome_told bound m rights (outcome.Cleared a) t fits (passed p is within e) = record { report = unpaid a p; fits = fits; outcome = refl; told = e }
-outcome_told bound m rights (outcome.Infeasible f) t fits e = record { report = infeasible f; fits = tt; outcome = refl; told = e }
+outcome_told bound m rights (outcome.Infeasible f) t fits e = record { report = infeasible f; fits = fits; outcome = refl; told = e }
 outcome_told bound m rights (outcome.Range p) t fits e = record { report = range p; fits = tt; outcome = refl; told = e }
 
 pub law_of_the_rights_telling : LawOfTheRightsTelling
 law_of_the_rights_telling bound m rights others t u x y e =
-    let first = outcome_told bound m rights x.outcome t (outcome_fits _ m x.outcome x.right) x.told in
-    let second = outcome_told bound m others y.outcome u (outcome_fits _ m y.outcome y.right) y.told in
+    let first = outcome_told bound m rights x.outcome t (outcome_fits _ m x.outcome x.energy_alone x.right) x.told in
+    let second = outcome_told bound m others y.outcome u (outcome_fits _ m y.outcome y.energy_alone y.right) y.told in
     let same : first.report ≡ second.report = law_of_the_rights_text m first.report second.report first.fits second.fits
     (sym (ap (λ (z : Telling). z.text) first.told) ∙ e ∙ ap (λ (z : Telling). z.text) second.told) in
     (sym first.outcome ∙ ap outcome_in same ∙ second.outcome, first.told ∙ ap (λ (r : RightsReport). uncertified (status_of r) (rights_report_text m r)) same ∙ sym second.told)

@@ -6,6 +6,7 @@ use Rattle.market_model.specs.declared.participants.Parts.{Parts}
 use Rattle.market_model.specs.declared.answered.Outcome.{Outcome}
 use Rattle.market_model.specs.declared.answered.Outcome.TheVariants as outcome
 use Rattle.market_model.specs.Market.{IsMarket}
+use Rattle.market_model.specs.Reserves.{no_reserve}
 use Rattle.market_system.specs.Outcomes.{IsRightOutcome}
 use Rattle.report_text.specs.Reports.{report_text}
 use Rattle.cert_format.specs.Certificates.{NumbersFit, cert_of_outcome, most_part}
@@ -36,7 +37,7 @@ AreSidesWithin bound (outcome.Range p) = ArePassedWithin bound p
 
 -- What is told is that of a right outcome of the market, with no limits taken before: the report of a right answer, of duals that show
 -- that no dispatch is feasible, or of two numbers of the market, each within the bound, whose outcome passes it. Its certificate is that
--- of the answer, or of the duals, and its numbers are within their bounds.
+-- of the answer, or of the duals, and its numbers are within their bounds. The market is of energy alone.
 pub record ClearsTo (bound : ℕ) (m : Parts) (t : Telling) : Type 0 where
   pub outcome : Outcome Fraction
   pub right : IsRightOutcome bound m [] outcome
@@ -45,6 +46,7 @@ pub record ClearsTo (bound : ℕ) (m : Parts) (t : Telling) : Type 0 where
   pub text_is : t.text ≡ report_text m outcome
   pub certificate_is : t.outputs ≡ certified (certificate_of m.places outcome)
   pub certificate_fits : IfSome (cert_of_outcome m.places outcome) (NumbersFit bound)
+  pub energy_alone : m.reserve ≡ no_reserve
 
 -- the greatest size of a numerator or denominator, in what is told and in certificates
 abbrev pub most_size : ℕ

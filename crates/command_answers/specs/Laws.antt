@@ -21,7 +21,7 @@ use Rattle.market_inputs.specs.Files.{most_file, sized}
 use Rattle.market_inputs.specs.Replaying.{steps_in}
 use Rattle.market_data.specs.declared.scales.FactorPlaces.{FactorPlaces}
 use Rattle.net_case.specs.declared.live_parts.PostRating.{PostRating}
-use Rattle.report_text.specs.ReportLaws.{FitsReport}
+use Rattle.report_text.specs.ReportLaws.{AreOfEnergy, FitsReport}
 use Rattle.report_text.specs.Reports.{range_text, report_text}
 use Rattle.rights_test.specs.declared.right_parts.Fit.{Fit}
 use Rattle.rights_test.specs.declared.right_parts.Payments.{Payments}
@@ -97,11 +97,11 @@ rights_report_text m (unpaid a p) = report_text m (outcome.Cleared a) ++ range_t
 rights_report_text m (infeasible f) = report_text m (outcome.Infeasible f)
 rights_report_text m (range p) = report_text m (outcome.Range p)
 
--- its answer, where there is one, fits the market's report; nothing is asked of the fit and the payments
+-- its answer, where there is one, fits the market's report, and Farkas duals are of energy alone; nothing is asked of the fit and the payments
 abbrev pub FitsRightsReport : Parts → RightsReport → Type 0
 FitsRightsReport m (paid a f p) = FitsReport m a
 FitsRightsReport m (unpaid a p) = FitsReport m a
-FitsRightsReport m (infeasible f) = Unit {0}
+FitsRightsReport m (infeasible f) = AreOfEnergy f.duals
 FitsRightsReport m (range p) = Unit {0}
 
 -- two of these that fit a market and have one text are of the same kind with the same contents

@@ -4,6 +4,7 @@ ghost use Rattle.std.specs.Prelude.{◌≡◌, [], IfOk};
 ghost use Rattle.market_tables.specs.Tables.{tables_lent};
 ghost use Rattle.market_model.specs.Fitting.{FitsOutcome};
 ghost use Rattle.market_model.specs.Market.{IsMarket};
+ghost use Rattle.market_model.specs.Reserves.{no_reserve};
 ghost use Rattle.market_model.specs.Valued.{outcome_at};
 ghost use Rattle.market_system.specs.Outcomes.{IsRightOutcome};
 ghost use Rattle.command_answers.specs.Clearing.{AreSidesWithin, ClearsTo, TellsClear, status_of};
@@ -23,6 +24,13 @@ use market_tables::MarketTables;
 use net_case::PostRating;
 use report_text::report;
 use std::alloc::Global;
+
+/// A market is of energy alone: it does nothing, and says what the type keeps.
+pub(crate) fn of_energy_alone(market: &Market)
+    ensures { market.now.reserve ≡ no_reserve }
+{
+    let _lines = market.lines();
+}
 
 /// What a market is cleared to.
 pub(crate) fn cleared<N: Exact>(alloc: Global, market: &Market) -> Result<Outcome<N>, Memory>
@@ -51,6 +59,7 @@ fn clear_outcome<N: Exact>(alloc: Global, market: &Market) -> Result<Told, Memor
     ensures status { IfOk result (λ told. IsOfWork told.status) }
     ensures clears { IfOk result (λ told. ClearsTo N.bound market.now (telling_of told)) }
 {
+    of_energy_alone(market);
     let outcome = cleared::<N>(alloc, market)?;
     Ok(Told {
         status: clear_status(&outcome),

@@ -15,7 +15,7 @@ ghost use Rattle.command_answers.specs.Rights.{EntitlesTo, IsRightsRefusal, Tell
 ghost use Rattle.command_answers.specs.Status.{IsOfWork};
 ghost use Rattle.command_answers.specs.Tellings.{Tells, telling_of};
 
-use crate::clearing::{clear_status, cleared};
+use crate::clearing::{clear_status, cleared, of_energy_alone};
 use crate::rights_lines::rights_lines;
 use crate::status::Status;
 use crate::told::{Told, refused, uncertified};
@@ -128,6 +128,7 @@ fn rights_outcome<N: Exact>(
     ensures status { IfOk result (λ told. IsOfWork told.status) }
     ensures entitles { IfOk result (λ told. EntitlesTo N.bound market.now rights.now (telling_of told)) }
 {
+    of_energy_alone(market);
     let outcome = cleared::<N>(alloc, market)?;
     let reported = report(alloc, market, &outcome)?;
     match &outcome {

@@ -16,6 +16,7 @@ ghost use Rattle.command_answers.specs.Tellings.{Tells, telling_of};
 ghost use Rattle.command_answers.specs.Verdicts.{verdict_line};
 ghost use Rattle.command_answers.specs.Verifying.{TellsVerdict, VerifiesTo, verdict_status};
 
+use crate::clearing::of_energy_alone;
 use crate::replaying::replay_inputs;
 use crate::status::Status;
 use crate::told::{Told, refused, uncertified};
@@ -122,7 +123,10 @@ pub fn verify_told(
     ensures tells { IfOk result (λ told. Tells (IsCertified rating places (tables_lent bytes.now) edits.now certificate.now) TellsVerdict (telling_of told)) }
 {
     match verify_inputs(alloc, bytes, rating, places, edits, certificate) {
-        Ok(made) => verdict_told(alloc, &made.market, &made.certificate),
+        Ok(made) => {
+            of_energy_alone(&made.market);
+            verdict_told(alloc, &made.market, &made.certificate)
+        }
         Err(InputStop::Refused(refusal)) => refused(alloc, &refusal),
         Err(InputStop::Memory) => Err(Memory),
     }

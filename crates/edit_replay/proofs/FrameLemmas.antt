@@ -49,15 +49,20 @@ as_many_buses m n same = sym (length-map m.buses bus_frame) ∙ ap (λ (p : Part
 as_many_units : (m n : Parts) → SameFrame m n → length m.units ≡ length n.units
 as_many_units m n same = ap (λ (p : Parts). length p.units) same
 
+as_many_offers : (m n : Parts) → SameFrame m n → length m.reserve.offers ≡ length n.reserve.offers
+as_many_offers m n same = ap (λ (p : Parts). length p.reserve.offers) same
+
 outcome_fits : {N : Type 0} (m n : Parts) (o : Outcome N) → SameFrame m n → FitsOutcome m o → FitsOutcome n o
 outcome_fits m n (outcome.Cleared a) same fits = record {
   dispatch = fits.dispatch ∙ as_many_blocks m n same;
+  reserve = fits.reserve ∙ as_many_offers m n same;
   prices = fits.prices ∙ as_many_buses m n same;
   money = record {
     units = fits.money.units ∙ as_many_units m n same;
     own = fits.money.own ∙ ap (λ (p : Parts). length p.unit_outages) same;
     loads = fits.money.loads ∙ as_many_buses m n same;
     rents = fits.money.rents;
+    reserve = fits.money.reserve ∙ as_many_offers m n same;
   };
 }
 outcome_fits m n (outcome.Infeasible f) same fits = tt

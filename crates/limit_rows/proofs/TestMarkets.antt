@@ -12,7 +12,7 @@ use Rattle.market_model.specs.declared.participants.Parts.{Parts}
 use Rattle.market_model.specs.Market.{bare_parts, IsMarket, IsLine, IsTableFactor, AreTableFactors}
 use Rattle.market_model.specs.Lines.{hard_line}
 use Rattle.market_model.proofs.LinePenalties.{hard_is_line}
-use Rattle.market_model.proofs.PlainMarkets.{no_unit_outages}
+use Rattle.market_model.proofs.PlainMarkets.{is_no_reserve, no_unit_outages}
 
 abbrev pub bus_of : ℕ → Bus
 bus_of number = record { number = number; pd = pos 0; gs = pos 0 }
@@ -97,6 +97,7 @@ is_market third outages limit few rows apart = record {
   shift = shifts-are;
   loss = losses-are;
   unit_outages = no_unit_outages 0;
+  reserve = is_no_reserve 0;
 }
   where
     bus : (number : ℕ) → IsBus (bus_of number)

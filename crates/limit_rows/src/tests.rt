@@ -7,7 +7,7 @@ use crate::causes::{cause_at, cause_count, has_row};
 use crate::{coefficient, count, id, limit_at, name_at, position, row_named};
 use exact_fraction::{Exact, Frac};
 use market_data::{FACTOR_ONE, FactorPlaces};
-use market_model::{Bus, Factor, Line, List, Market, Memory, Parts, RowId, assemble};
+use market_model::{Bus, Factor, Line, List, Market, Memory, Parts, Reserve, RowId, assemble};
 use std::alloc::Global;
 use std::cmp::Ordering;
 use std::test::Fail;
@@ -84,6 +84,7 @@ fn one_outage(alloc: Global) -> Result<Market, Memory> {
         unit_outages: List::new(alloc),
         pickups: List::new(alloc),
         places: FactorPlaces::Six,
+        reserve: Reserve::none(alloc),
     };
     assemble(alloc, parts)
 }
@@ -108,6 +109,7 @@ fn two_outages(alloc: Global) -> Result<Market, Memory> {
         unit_outages: List::new(alloc),
         pickups: List::new(alloc),
         places: FactorPlaces::Six,
+        reserve: Reserve::none(alloc),
     };
     assemble(alloc, parts)
 }

@@ -14,10 +14,11 @@ use Rattle.market_model.specs.Dispatch.{places, zero}
 use Rattle.market_model.specs.LimitRows.{is_soft}
 use Rattle.market_model.proofs.ListSteps.{map-map}
 use Rattle.market_system.specs.declared.variables.Variable.{Variable}
-use Rattle.market_system.specs.declared.variables.Variable.TheVariants.{Block, Balance, Limit, Over, Under}
-use Rattle.market_system.specs.MarketSystem.{at_row, block_coefficient, limit_coefficient, coefficient, block_columns, excess_columns, columns, row_variables, IsVariableOf}
+use Rattle.market_system.specs.declared.variables.Variable.TheVariants.{Block, Balance, Limit, Over, Under, Offer, Need, Room}
+use Rattle.market_system.specs.MarketSystem.{at_row, block_coefficient, limit_coefficient, coefficient, block_columns, excess_columns}
+use Rattle.market_dict.specs.EnergySystem.{columns, row_variables, IsVariableOf}
 use Rattle.market_system.proofs.RowOrder.{same_row-not}
-use Rattle.market_system.proofs.VariableLaws.{by_column, by_excess, by_row, block_listed, excess_listed, column_is, row_is, limit_in}
+use Rattle.market_dict.proofs.EnergyLists.{by_column, by_excess, by_row, block_listed, excess_listed, column_is, row_is, limit_in}
 use Rattle.market_dict.proofs.ListedLemmas.{map-members, map-pushed}
 
 module _ (m : Parts) where
@@ -72,6 +73,9 @@ module _ (m : Parts) where
   column_or_row g (Limit r) h = inr (limit_in m g r h)
   column_or_row g (Over r) h = inl (excess_listed m g r h.0 h.1).0
   column_or_row g (Under r) h = inl (excess_listed m g r h.0 h.1).1
+  column_or_row g (Offer n) h = absurd h
+  column_or_row g Need h = absurd h
+  column_or_row g (Room u) h = absurd h
 
   module _ (rs ts : List Row) (more : (r : Row) → Contains rs r → Contains ts r) where
     pub rows_moved : (v : Variable) → Contains (row_variables rs) v → Contains (row_variables ts) v

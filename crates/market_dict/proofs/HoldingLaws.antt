@@ -32,20 +32,24 @@ use Rattle.market_model.specs.Frame.{SameFrame}
 use Rattle.market_model.specs.declared.limits.Row.{Row}
 use Rattle.market_model.specs.LimitRows.{rows, limit, flow, is_soft}
 use Rattle.market_model.specs.Market.{IsMarket}
+use Rattle.market_model.specs.Optimality.{rows_alone}
+use Rattle.market_model.specs.Reserves.{no_reserve}
 use Rattle.market_model.proofs.Excesses.{limit_least}
 use Rattle.limit_rows.proofs.ApartLemmas.{names_apart}
 use Rattle.market_system.specs.declared.variables.Variable.{Variable}
-use Rattle.market_system.specs.declared.variables.Variable.TheVariants.{Block, Balance, Limit, Over, Under}
-use Rattle.market_system.specs.MarketSystem.{balance_name, row_name, over_name, under_name, in_order, block_sign, residual_demand, limit_coefficient, name, coefficient, objective_price, low, high, columns, row_variables, variable_of, system_over, system_of, IsVariableOf}
+use Rattle.market_system.specs.declared.variables.Variable.TheVariants.{Block, Balance, Limit, Over, Under, Offer, Need, Room}
+use Rattle.market_system.specs.MarketSystem.{balance_name, row_name, over_name, under_name, in_order, block_sign, residual_demand, limit_coefficient, name, coefficient, objective_price, low, high, system_over}
+use Rattle.market_dict.specs.EnergySystem.{columns, row_variables, variable_of, system_of, IsVariableOf}
 use Rattle.market_system.specs.SolvedLaws.{AreRows, AnswersBy, StuckShows, state_at}
 use Rattle.market_system.proofs.DualLists.{rows_apart}
-use Rattle.market_system.proofs.FrameLaws.{law_of_the_frame, rows_in_turn, same_columns, same_names}
+use Rattle.market_system.proofs.FrameLaws.{law_of_the_frame, rows_in_turn, same_names}
 use Rattle.market_system.proofs.LawsOfSolving.{law_of_the_solved, law_of_the_stuck}
 use Rattle.market_system.proofs.RowOrder.{AreOrdered, in_order-in, in_order-from, in_order-ordered, pairs-append}
 use Rattle.market_system.proofs.SoftRows.{most_excess_least}
-use Rattle.market_system.proofs.VariableLaws.{mapped, in_mapped, of_more, block_names, by_block, by_row, block_listed, column_is, row_is, limit_in, by_variable, variable_at, is_system_over, coefficient-at, price-at, low-at, high-at}
+use Rattle.market_system.proofs.VariableLaws.{mapped, in_mapped, block_names}
 use Rattle.market_dict.specs.Holding.{HasPutIn, HoldsMarket, HoldsSystem, prices, lows, highs}
 use Rattle.market_dict.proofs.ColumnLists.{columns_none, columns_more, soft_columns, hard_columns, put_is, column_or_row, rows_moved, columns_moved, no_limit_column, own_nil}
+use Rattle.market_dict.proofs.EnergyLists.{of_more, by_block, by_row, block_listed, column_is, row_is, limit_in, columns_alone, rows_are_alone, columns_in_frame, by_variable, variable_at, is_system_over, coefficient-at, price-at, low-at, high-at}
 use Rattle.market_dict.proofs.EntryLemmas.{all_ordered}
 use Rattle.market_dict.proofs.NameLists.{ascending_same}
 use Rattle.market_dict.proofs.PutInLemmas.{start_coefficient, kept_coefficient, added_coefficient, same_put_in}
@@ -122,32 +126,39 @@ module _ (m : Parts) (market : IsMarket m) (g : List Row) where
     entry_is r j c k = coefficient-at m (in_order m g) ordered r j (of_more m g (in_order m g) to_order r (row_is m g r c)) (of_more m g (in_order m g) to_order j (column_is m g j k))
 
 -- a dictionary with these columns, rows and coefficients has the market's rows
-module _ (m : Parts) (g : List Row) (d : Dictionary) (market : IsMarket m) (limits : AreRows m g) (put : HasPutIn m (columns m g) g d) where
+module _ (m : Parts) (g : List Row) (d : Dictionary) (market : IsMarket m) (alone : m.reserve ≡ no_reserve) (limits : AreRows m g) (put : HasPutIn m (columns m g) g d) where
+  -- the names of the system's rows and columns
+  rows_named : (system_of m g).rows ≡ map (name m) (row_variables (in_order m g))
+  unfolding system_over
+  rows_named = ap (map (name m)) (rows_are_alone m (in_order m g) alone)
+
+  columns_named : (system_of m g).columns ≡ map (name m) (columns m (in_order m g))
+  unfolding system_over
+  columns_named = ap (map (name m)) (columns_alone m (in_order m g) alone)
+
   back : (r : Row) → Contains (in_order m g) r → Contains g r
   back r c = (in_order-from m g r c).1
 
   row_to : (w : ℕ) → Contains d.rows w → Contains (system_of m g).rows w
-  unfolding system_over
   row_to w c =
       let v = taken_row m (columns m g) g d put.columns_put put.rows_put w c in
-      subst (Contains (map (name m) (row_variables (in_order m g)))) v.2 (in_mapped (name m) (row_variables (in_order m g)) v.0 (rows_moved m g (in_order m g) (to_order m market g limits) v.0 v.1))
+      subst (λ (ws : List ℕ). Contains ws w) (sym rows_named)
+      (subst (Contains (map (name m) (row_variables (in_order m g)))) v.2 (in_mapped (name m) (row_variables (in_order m g)) v.0 (rows_moved m g (in_order m g) (to_order m market g limits) v.0 v.1)))
 
   row_back : (w : ℕ) → Contains (system_of m g).rows w → Contains d.rows w
-  unfolding system_over
   row_back w c =
-      let v = mapped (name m) (row_variables (in_order m g)) w c in
+      let v = mapped (name m) (row_variables (in_order m g)) w (subst (λ (ws : List ℕ). Contains ws w) rows_named c) in
       subst (Contains d.rows) v.2 (row_taken m (columns m g) g d put.columns_put put.rows_put v.0 (rows_moved m (in_order m g) g back v.0 v.1))
 
   column_to : (w : ℕ) → Contains d.columns w → Contains (system_of m g).columns w
-  unfolding system_over
   column_to w c =
       let v = taken_column m (columns m g) g d put.columns_put put.rows_put w c in
-      subst (Contains (map (name m) (columns m (in_order m g)))) v.2 (in_mapped (name m) (columns m (in_order m g)) v.0 (columns_moved m g (in_order m g) (to_order m market g limits) v.0 v.1))
+      subst (λ (ws : List ℕ). Contains ws w) (sym columns_named)
+      (subst (Contains (map (name m) (columns m (in_order m g)))) v.2 (in_mapped (name m) (columns m (in_order m g)) v.0 (columns_moved m g (in_order m g) (to_order m market g limits) v.0 v.1)))
 
   column_back : (w : ℕ) → Contains (system_of m g).columns w → Contains d.columns w
-  unfolding system_over
   column_back w c =
-      let v = mapped (name m) (columns m (in_order m g)) w c in
+      let v = mapped (name m) (columns m (in_order m g)) w (subst (λ (ws : List ℕ). Contains ws w) columns_named c) in
       subst (Contains d.columns) v.2 (column_taken m (columns m g) g d put.columns_put put.rows_put v.0 (columns_moved m (in_order m g) g back v.0 v.1))
 
   -- the names ascend in the market's order: blocks, the balance, the limit rows, and the columns of soft ones
@@ -209,10 +220,10 @@ module _ (m : Parts) (market : IsMarket m) (cs : List Variable) (g : List Row) (
   ]
 
 -- ---- the start, a column or a row more, an edit
-pub holds_start : {N : Type 0} (value : N → Fraction) (m : Parts) (names : List ℕ) (entries : List N) (d : Dictionary) → IsMarket m → names ≡ places (length m.blocks)
+pub holds_start : {N : Type 0} (value : N → Fraction) (m : Parts) (names : List ℕ) (entries : List N) (d : Dictionary) → IsMarket m → m.reserve ≡ no_reserve → names ≡ places (length m.blocks)
     → map value entries ≡ map (block_sign m) (places (length m.blocks)) → IsStart value names (balance_name m) entries d → HoldsMarket m [] d
-holds_start value m names entries d market blocks signs start =
-    put_in_holds m [] d market (record { rows = λ r c. absurd (Prim.omega (arith, c.1)); distinct = λ i j e lt h. absurd (Prim.omega (arith, h)) })
+holds_start value m names entries d market alone blocks signs start =
+    put_in_holds m [] d market alone (record { rows = λ r c. absurd (Prim.omega (arith, c.1)); distinct = λ i j e lt h. absurd (Prim.omega (arith, h)) })
     (record {
       live = start.live;
       sound = start.sound;
@@ -337,21 +348,21 @@ module _ (m : Parts) (market : IsMarket m) (g : List Row) (d : Dictionary) (r : 
       pub entry_count : length entries ≡ length put_in.columns
       entry_count = sym (length-map entries value) ∙ ap length factors ∙ length-map (columns m (g ++ r ∷ [])) (limit_coefficient m r) ∙ sym (ap length put.columns_put ∙ length-map (columns m (g ++ r ∷ [])) (name m))
 
-      pub holds_taken : (new : Dictionary) → AddsRow value put_in (row_name m r) entries new → HoldsMarket m (g ++ r ∷ []) new
-      holds_taken new adds = put_in_holds m (g ++ r ∷ []) new market (one_more m g r holds.limits c absent) (put_row value m (columns m (g ++ r ∷ [])) g r entries put_in new put factors adds)
+      pub holds_taken : m.reserve ≡ no_reserve → (new : Dictionary) → AddsRow value put_in (row_name m r) entries new → HoldsMarket m (g ++ r ∷ []) new
+      holds_taken alone new adds = put_in_holds m (g ++ r ∷ []) new market alone (one_more m g r holds.limits c absent) (put_row value m (columns m (g ++ r ∷ [])) g r entries put_in new put factors adds)
 
       -- a working pair of the dictionary with it is one of the market's system
-      pub pair_taken : (bound : ℕ) (p : Passed N) → IsPairWith value bound put_in (row_name m r) entries p → IsPairOf value bound (system_of m (g ++ r ∷ [])) p
-      pair_taken bound p pair = pair.2 (system_of m (g ++ r ∷ [])) (holds_taken pair.0 pair.1).same
+      pub pair_taken : m.reserve ≡ no_reserve → (bound : ℕ) (p : Passed N) → IsPairWith value bound put_in (row_name m r) entries p → IsPairOf value bound (system_of m (g ++ r ∷ [])) p
+      pair_taken alone bound p pair = pair.2 (system_of m (g ++ r ∷ [])) (holds_taken alone pair.0 pair.1).same
 
 pub holds_in_frame : (m n : Parts) (g : List Row) (d : Dictionary) → SameFrame m n → HoldsMarket m g d → HoldsMarket n g d
 holds_in_frame m n g d same holds =
-    let frame = law_of_the_frame m n g same in
+    let frame = law_of_the_frame m n (rows_alone g) same in
     record {
       live = holds.live;
       sound = holds.sound;
       same = rows_in_turn (system_in d) (system_of m g) (system_of n g) holds.same frame.1;
-      columns = holds.columns ∙ ap₂ map (same_names m n same) (same_columns m n same g);
+      columns = holds.columns ∙ ap₂ map (same_names m n same) (columns_in_frame m n same g);
       rows = holds.rows ∙ ap (λ (f : Variable → ℕ). map f (row_variables g)) (same_names m n same);
       limits = record { rows = λ r c. subst (λ (rs : List Row). Contains rs r) frame.0.rows (holds.limits.rows r c); distinct = holds.limits.distinct };
     }
@@ -368,8 +379,8 @@ holds_same m g d e holds live sound columns rows coefficients names = record {
 }
 
 -- ---- posed at the market's prices and bounds
-module _ {N : Type 0} (value_of : N → Fraction) (m : Parts) (g : List Row) (d : Dictionary) (ps : List N) (bounds : List (Bounds N)) (e : Dictionary) (market : IsMarket m) (holds : HoldsMarket m g d)
-    (priced : map value_of ps ≡ prices m g) (low_list : map (λ b. value_of b.low) bounds ≡ lows m g) (high_list : map (λ b. value_of b.high) bounds ≡ highs m g)
+module _ {N : Type 0} (value_of : N → Fraction) (m : Parts) (g : List Row) (d : Dictionary) (ps : List N) (bounds : List (Bounds N)) (e : Dictionary) (market : IsMarket m) (alone : m.reserve ≡ no_reserve)
+    (holds : HoldsMarket m g d) (priced : map value_of ps ≡ prices m g) (low_list : map (λ b. value_of b.low) bounds ≡ lows m g) (high_list : map (λ b. value_of b.high) bounds ≡ highs m g)
     (posing : IsPosing value_of d ps bounds e) where
   posed : HoldsMarket m g e
   posed = holds_same m g d e holds posing.ready.live posing.ready.sound posing.columns posing.rows posing.coefficients posing.names
@@ -435,8 +446,8 @@ module _ {N : Type 0} (value_of : N → Fraction) (m : Parts) (g : List Row) (d 
     same = record {
       same_rows = posed.same;
       price = price_same;
-      low = λ w c. by_variable m (in_order m g) (λ (x : ℕ). (system_in e).low x ≡ (system_of m g).low x) low_is w (subst (λ (ws : List ℕ). Contains ws w) posed.same.variables c);
-      high = λ w c. by_variable m (in_order m g) (λ (x : ℕ). (system_in e).high x ≡ (system_of m g).high x) high_is w (subst (λ (ws : List ℕ). Contains ws w) posed.same.variables c);
+      low = λ w c. by_variable m (in_order m g) alone (λ (x : ℕ). (system_in e).low x ≡ (system_of m g).low x) low_is w (subst (λ (ws : List ℕ). Contains ws w) posed.same.variables c);
+      high = λ w c. by_variable m (in_order m g) alone (λ (x : ℕ). (system_in e).high x ≡ (system_of m g).high x) high_is w (subst (λ (ws : List ℕ). Contains ws w) posed.same.variables c);
     };
   }
 
@@ -449,6 +460,9 @@ variable_order m g market are (Limit r) c =
     (limit_least m market r) refl
 variable_order m g market are (Over r) c = most_excess_least m market r
 variable_order m g market are (Under r) c = most_excess_least m market r
+variable_order m g market are (Offer n) c = absurd c
+variable_order m g market are Need c = absurd c
+variable_order m g market are (Room u) c = absurd c
 
 pub bounds_ordered : {N : Type 0} (value : N → Fraction) (m : Parts) (g : List Row) (bounds : List (Bounds N)) → IsMarket m → AreRows m g
     → map (λ b. value b.low) bounds ≡ lows m g → map (λ b. value b.high) bounds ≡ highs m g → All (λ b. value b.low ≤ℚ value b.high) bounds
@@ -462,11 +476,11 @@ bounds_ordered {N} value m g bounds market are low_list high_list k d lt =
     (variable_order m g market are (get_or vs k Balance) (put_is m g (get_or vs k Balance) (at_place vs k Balance inside)))
 
 -- a working pair of the dictionary that would be posed is one of the market's system
-pub pair_posed : {N : Type 0} (value : N → Fraction) (bound : ℕ) (m : Parts) (g : List Row) (d : Dictionary) (ps : List N) (bounds : List (Bounds N)) (p : Passed N) → IsMarket m → HoldsMarket m g d
+pub pair_posed : {N : Type 0} (value : N → Fraction) (bound : ℕ) (m : Parts) (g : List Row) (d : Dictionary) (ps : List N) (bounds : List (Bounds N)) (p : Passed N) → IsMarket m → m.reserve ≡ no_reserve → HoldsMarket m g d
     → map value ps ≡ prices m g → map (λ b. value b.low) bounds ≡ lows m g → map (λ b. value b.high) bounds ≡ highs m g
     → IsPairPosed value bound d ps bounds p → IsPairOf value bound (system_of m g) p
-pair_posed value bound m g d ps bounds p market holds priced low high pair =
-    same_pair (system_in pair.0) (system_of m g) (holds_posed value m g d ps bounds pair.0 market holds priced low high pair.1).same bound p.op (value p.left) (value p.right) pair.2
+pair_posed value bound m g d ps bounds p market alone holds priced low high pair =
+    same_pair (system_in pair.0) (system_of m g) (holds_posed value m g d ps bounds pair.0 market alone holds priced low high pair.1).same bound p.op (value p.left) (value p.right) pair.2
 
 -- ---- what a run keeps and shows
 pub holds_kept : (m : Parts) (g : List Row) (d e : Dictionary) → HoldsSystem m g d → Keeps d e → HoldsSystem m g e
@@ -500,10 +514,11 @@ module _ (m : Parts) (g : List Row) (e : Dictionary) (holds : HoldsSystem m g e)
         (λ w c. shown_value w (named_here w c)) (λ w c. shown_reduced w (named_here w c))
         (same_solved (system_in e) (system_of m g) holds.same (state_of e) solved)
 
-pub solved_answers : (m : Parts) (g : List Row) (e : Dictionary) → IsMarket m → HoldsSystem m g e → ShowsChoice e → IsSolved (system_in e) (state_of e) → AnswersBy m g (choice_of e)
-solved_answers m g e market holds shows solved = law_of_the_solved m g (choice_of e) market holds.holds.limits (shown_choice m g e holds shows) (solved_at m g e holds shows market solved)
+pub solved_answers : (m : Parts) (g : List Row) (e : Dictionary) → IsMarket m → HoldsSystem m g e → ShowsChoice e → IsSolved (system_in e) (state_of e) → AnswersBy m (rows_alone g) (choice_of e)
+solved_answers m g e market holds shows solved =
+    law_of_the_solved m (rows_alone g) (choice_of e) market (record { limits = holds.holds.limits; rooms = λ u c. absurd (Prim.omega (arith, c.1)) }) (shown_choice m g e holds shows) (solved_at m g e holds shows market solved)
 
-pub empty_shows : (m : Parts) (g : List Row) (e : Dictionary) (row : ℕ) (above : Bool) → IsMarket m → HoldsSystem m g e → ShowsChoice e → IsEmptyAt e row above → StuckShows m g (choice_of e) (slice_index e.basics row) above
+pub empty_shows : (m : Parts) (g : List Row) (e : Dictionary) (row : ℕ) (above : Bool) → IsMarket m → HoldsSystem m g e → ShowsChoice e → IsEmptyAt e row above → StuckShows m (rows_alone g) (choice_of e) (slice_index e.basics row) above
 empty_shows m g e row above market holds shows empty =
-    law_of_the_stuck m g (choice_of e) (slice_index e.basics row) above market holds.holds.limits.rows (shown_choice m g e holds shows)
+    law_of_the_stuck m (rows_alone g) (choice_of e) (slice_index e.basics row) above market holds.holds.limits.rows (shown_choice m g e holds shows)
     (same_stuck (system_in e) (system_of m g) holds.same (choice_of e) (slice_index e.basics row) above empty.stuck)

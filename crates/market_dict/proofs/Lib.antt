@@ -1,4 +1,5 @@
 pub mod ColumnLists
+pub mod EnergyLists
 pub mod EntryLemmas
 pub mod HoldingLaws
 pub mod ListedLemmas

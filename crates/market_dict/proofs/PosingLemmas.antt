@@ -7,7 +7,8 @@ use Rattle.linear_dict.specs.Dictionaries.{Dictionary}
 use Rattle.simplex_core.specs.declared.bounds.Bounds.{Bounds}
 use Rattle.market_model.specs.declared.participants.Parts.{Parts}
 use Rattle.market_model.specs.declared.limits.Row.{Row}
-use Rattle.market_system.specs.MarketSystem.{name, objective_price, low, high, columns, row_variables}
+use Rattle.market_system.specs.MarketSystem.{name, objective_price, low, high}
+use Rattle.market_dict.specs.EnergySystem.{columns, row_variables}
 use Rattle.market_dict.specs.Holding.{HoldsMarket, lows, highs}
 use Rattle.market_dict.specs.PricesAndBounds.{ArePricesAndBounds}
 use Rattle.market_dict.specs.declared.posing.PricesAndBounds.{PricesAndBounds}

@@ -36,13 +36,16 @@ use Rattle.market_model.specs.Dispatch.{places}
 use Rattle.market_model.specs.declared.limits.Row.{Row}
 use Rattle.market_model.specs.LimitRows.{rows, row_id}
 use Rattle.market_model.specs.Market.{IsMarket}
+use Rattle.market_model.specs.Reserves.{no_reserve}
 use Rattle.market_model.specs.NamedSums.{IsRefusal}
-use Rattle.market_system.specs.MarketSystem.{name, block_columns, excess_columns, row_variables, variables, variable_of, system_over, row_name, in_order, dual_by, IsVariableOf}
+use Rattle.market_system.specs.MarketSystem.{name, block_columns, excess_columns, system_over, row_name, in_order, dual_by}
+use Rattle.market_dict.specs.EnergySystem.{row_variables, variables, variable_of, IsVariableOf}
 use Rattle.market_system.specs.declared.variables.Variable.{Variable}
 use Rattle.market_system.specs.declared.variables.Variable.TheVariants as variable
-use Rattle.market_system.proofs.VariableLaws.{mapped, in_mapped, in_places, of_more, by_block, by_excess, by_row, limit_in, variable_is, is_variable, variable_at}
+use Rattle.market_system.proofs.VariableLaws.{mapped, in_mapped, in_places}
 use Rattle.market_system.proofs.RowOrder.{in_order-from, row_place-below}
 use Rattle.market_dict.specs.Holding.{HoldsMarket}
+use Rattle.market_dict.proofs.EnergyLists.{of_more, by_block, by_excess, by_row, limit_in, variable_is, is_variable, variable_at, variables_alone}
 use Rattle.market_dict.proofs.EntryLemmas.{all_ordered}
 use Rattle.market_dict.proofs.HoldingLaws.{at_place}
 
@@ -63,14 +66,17 @@ early m variable.Balance is lt = Contains-append_right (block_columns m) (row_va
 early m (variable.Limit r) is lt = Contains-append_right (block_columns m) (row_variables (rows m)) (variable.Limit r) (limit_in m (rows m) r is)
 early m (variable.Over r) is lt = absurd (Prim.omega (arith, lt))
 early m (variable.Under r) is lt = absurd (Prim.omega (arith, lt))
+early m (variable.Offer n) is lt = absurd is
+early m variable.Need is lt = absurd is
+early m (variable.Room u) is lt = absurd is
 
-module _ (m : Parts) (g : List Row) (d : Dictionary) (market : IsMarket m) (holds : HoldsMarket m g d) where
+module _ (m : Parts) (g : List Row) (d : Dictionary) (market : IsMarket m) (alone : m.reserve ≡ no_reserve) (holds : HoldsMarket m g d) where
   abbrev pub listed : List Variable
   listed = variables m (in_order m g)
 
   names_are : d.names ≡ map (name m) listed
   unfolding system_in system_over
-  names_are = holds.same.variables
+  names_are = holds.same.variables ∙ ap (map (name m)) (variables_alone m (in_order m g) alone)
 
   pub name_count : length d.names ≡ length listed
   name_count = ap length names_are ∙ length-map listed (name m)
@@ -147,6 +153,9 @@ module _ (m : Parts) (cost : ℕ → Fraction) where
   dual_of (variable.Limit r) = dual_by (row_id m r) (cost (row_name m r)) (sign_of (cost (row_name m r)))
   dual_of (variable.Over r) = []
   dual_of (variable.Under r) = []
+  dual_of (variable.Offer n) = []
+  dual_of variable.Need = []
+  dual_of (variable.Room u) = []
 
   -- those of the columns of soft limits are none
   pub late_nothing : (v : Variable) → IsVariableOf m (rows m) v → length m.blocks + 1 + length (rows m) ≤ name m v → (dual_of v ≡ []) × (v ≢ variable.Balance)
@@ -155,6 +164,9 @@ module _ (m : Parts) (cost : ℕ → Fraction) where
   late_nothing (variable.Limit r) is late = absurd (Prim.omega (arith, row_place-below m r is, late))
   late_nothing (variable.Over r) is late = (refl, λ e. absurd Prim.cc)
   late_nothing (variable.Under r) is late = (refl, λ e. absurd Prim.cc)
+  late_nothing (variable.Offer n) is late = absurd is
+  late_nothing variable.Need is late = absurd is
+  late_nothing (variable.Room u) is late = absurd is
 
   abbrev pub duals_to : List Variable → ℕ → List (Dual Fraction)
   duals_to vs k = flat_map dual_of (take k vs)

@@ -12,46 +12,56 @@ use Rattle.market_model.specs.Dispatch.{empty}
 use Rattle.market_model.specs.declared.limits.Row.{Row}
 use Rattle.market_model.specs.LimitRows.{Carried, carried, rows, limit, flow, flow_terms}
 use Rattle.market_model.specs.Market.{IsMarket}
+use Rattle.market_model.specs.Optimality.{rows_alone}
 use Rattle.market_model.specs.NamedSums.{IsRefusedIn}
 use Rattle.linear_system.specs.Numbers.{Factor, Quantity, is_high, is_low}
 use Rattle.market_model.specs.SumTables.{IsFlowRefusal, factor_of_pickup, flow_in_limits, flow_of_row, limited_row}
 use Rattle.market_model.specs.Valued.{passed_at}
 use Rattle.market_system.specs.Growth.{Growth}
-use Rattle.market_system.specs.MarketSystem.{in_order, row_name, system_of}
+use Rattle.market_system.specs.MarketSystem.{in_order, row_name}
+use Rattle.market_dict.specs.EnergySystem.{system_of}
 use Rattle.market_system.specs.MarketNumbers.{ClearingNumber, of_kind, of_system, MarketNumber, factor_of, of_flow as flows_named, is_limit, of_opposite}
 use Rattle.market_system.specs.PairLaw.{RefusalsArePairs}
 use Rattle.market_system.specs.WorkingPairs.{IsRangeOf}
 use Rattle.limit_rows.proofs.ApartLemmas.{names_apart}
 use Rattle.market_system.proofs.DualLists.{rows_apart}
-use Rattle.market_system.proofs.MarketPoints.{high-row, low-row, row_in}
-use Rattle.market_system.proofs.RowOrder.{in_order-in}
+use Rattle.market_system.proofs.RowOrder.{AreOrdered, in_order-in, in_order-ordered}
 use Rattle.market_system.proofs.PairCases.{law_of_the_pairs, of_system_pair, row_flow_number}
+use Rattle.market_system.proofs.VariableLaws.{variable_in}
+use Rattle.market_system.specs.declared.variables.Variable.TheVariants.{Limit}
+use Rattle.market_dict.proofs.EnergyLists.{low-at, high-at}
 use Rattle.market_dict.specs.Refusals.{IsRoomRefusal, of_high, of_low, IsBoundsRefusal, of_sum, of_pickup, of_bound}
 
 -- of the market's system
 pub pair_range : {N : Type 0} (value : N → Fraction) (bound : ℕ) (m : Parts) (t g : List Row) (p : Passed N) → Growth m t g → IsPairOf value bound (system_of m g) p → IsRangeOf m t bound (passed_at value p)
-pair_range value bound m t g p grown pair = of_system_pair m t g grown bound (passed_at value p) pair
+pair_range value bound m t g p grown pair = of_system_pair m t (rows_alone g) grown bound (passed_at value p) pair
 
 -- where prices and bounds are made
 module _ (m : Parts) (t g : List Row) (h : Choice) (bound : ℕ) (p : Passed Fraction) (market : IsMarket m) (grown : Growth m t g) (choice : IsChoice (system_of m g) h) where
-  pairs : RefusalsArePairs m t g h bound p
-  pairs = law_of_the_pairs m t g h bound p market grown choice
+  pairs : RefusalsArePairs m t (rows_alone g) h bound p
+  pairs = law_of_the_pairs m t (rows_alone g) h bound p market grown choice
 
-  flow_number : (r : Row) → Contains (rows m) r → MarketNumber m g h Quantity (flow m (empty m) r)
-  flow_number r c = row_flow_number m t g grown h choice bound p market (empty m) (inl refl) r c
+  flow_number : (r : Row) → Contains (rows m) r → MarketNumber m (rows_alone g) h Quantity (flow m (empty m) r)
+  flow_number r c = row_flow_number m t (rows_alone g) grown h choice bound p market (empty m) (inl refl) r c
 
   -- a bound of a row in hand
   module _ (r : Row) (c : Contains (rows m) r) (taken : Contains g r) where
     listed : Contains (in_order m g) r
     listed = in_order-in m g r c taken
 
-    high_number : ClearingNumber m g h (limit m r -ℚ flow m (empty m) r)
-    high_number = subst (ClearingNumber m g h) (high-row m (rows_apart m (names_apart m market)) g r listed)
-        (of_kind Quantity ((system_of m g).high (row_name m r)) (of_system Quantity ((system_of m g).high (row_name m r)) (is_high (row_name m r) (row_in m (rows_apart m (names_apart m market)) g r listed))))
+    ordered : AreOrdered m (in_order m g)
+    ordered = in_order-ordered m (rows_apart m (names_apart m market)) g
 
-    low_number : ClearingNumber m g h (neg_ℚ (limit m r) -ℚ flow m (empty m) r)
-    low_number = subst (ClearingNumber m g h) (low-row m (rows_apart m (names_apart m market)) g r listed)
-        (of_kind Quantity ((system_of m g).low (row_name m r)) (of_system Quantity ((system_of m g).low (row_name m r)) (is_low (row_name m r) (row_in m (rows_apart m (names_apart m market)) g r listed))))
+    named : Contains (system_of m g).variables (row_name m r)
+    named = variable_in m (rows_alone (in_order m g)) (Limit r) listed
+
+    high_number : ClearingNumber m (rows_alone g) h (limit m r -ℚ flow m (empty m) r)
+    high_number = subst (ClearingNumber m (rows_alone g) h) (high-at m (in_order m g) ordered (Limit r) listed)
+        (of_kind Quantity ((system_of m g).high (row_name m r)) (of_system Quantity ((system_of m g).high (row_name m r)) (is_high (row_name m r) named)))
+
+    low_number : ClearingNumber m (rows_alone g) h (neg_ℚ (limit m r) -ℚ flow m (empty m) r)
+    low_number = subst (ClearingNumber m (rows_alone g) h) (low-at m (in_order m g) ordered (Limit r) listed)
+        (of_kind Quantity ((system_of m g).low (row_name m r)) (of_system Quantity ((system_of m g).low (row_name m r)) (is_low (row_name m r) named)))
 
     bound_range : IsRoomRefusal m bound r p → IsRangeOf m t bound p
     bound_range (of_high a) = pairs.less Quantity (limit m r) (flow m (empty m) r) (is_limit r c) (flow_number r c) high_number a

@@ -1,4 +1,4 @@
--- What a market comes to over some of its limit rows.
+-- What a market of energy alone comes to over some of its limit rows.
 use Rattle.std.specs.Prelude.{◌≡◌, ℕ, List}
 use Rattle.fraction_theory.specs.Fraction.{Fraction}
 use Rattle.linear_system.specs.Choices.{Choice, IsChoice}
@@ -10,10 +10,11 @@ use Rattle.market_model.specs.declared.stops.Stop.{Stop}
 use Rattle.market_model.specs.declared.answered.Duals.{Duals}
 use Rattle.market_model.specs.Dispatch.{Dispatch}
 use Rattle.market_model.specs.Infeasibility.{IsFarkas}
+use Rattle.market_model.specs.Optimality.{rows_alone}
 use Rattle.market_model.specs.Stops.{OnPassed}
 use Rattle.market_model.specs.declared.limits.Row.{Row}
 use Rattle.market_model.specs.Valued.{duals_at, farkas_at}
-use Rattle.market_system.specs.MarketSystem.{system_of, choice_dispatch, choice_duals}
+use Rattle.market_dict.specs.EnergySystem.{system_of, choice_dispatch, choice_duals}
 use Rattle.market_system.specs.Growth.{PricesOnly}
 use Rattle.market_system.specs.SolvedLaws.{AnswersBy}
 use Rattle.market_model.specs.PutIn.{dispatch_of}
@@ -27,7 +28,7 @@ pub record IsSolvedBy (m : Parts) (g : List Row) (x : Dispatch) (d : Duals Fract
   pub is_choice : IsChoice (system_of m g) choice
   pub dispatch : x ≡ choice_dispatch m g choice
   pub duals : d ≡ choice_duals m g choice
-  pub answers : AnswersBy m g choice
+  pub answers : AnswersBy m (rows_alone g) choice
 
 -- a dictionary that holds the market over these rows and a best dispatch for them, which the duals of its choice support; or one that still
 -- holds it, and duals that show that no dispatch of the market is feasible

@@ -1,4 +1,4 @@
--- A dictionary that holds a market over some of its limit rows.
+-- A dictionary that holds a market of energy alone over some of its limit rows.
 -- Source: dictionaries (Chvátal, Linear Programming); the form is own.
 use Rattle.std.specs.Prelude.{◌≡◌, false, List, ◌++◌, map, Contains}
 use Rattle.fraction_theory.specs.Fraction.{Fraction}
@@ -7,7 +7,8 @@ use Rattle.linear_dict.specs.Dictionaries.{Dictionary, IsDictionary, system_in}
 use Rattle.market_model.specs.declared.participants.Parts.{Parts}
 use Rattle.market_model.specs.declared.limits.Row.{Row}
 use Rattle.market_system.specs.declared.variables.Variable.{Variable}
-use Rattle.market_system.specs.MarketSystem.{name, coefficient, objective_price, low, high, columns as columns_of, row_variables, system_of}
+use Rattle.market_system.specs.MarketSystem.{name, coefficient, objective_price, low, high}
+use Rattle.market_dict.specs.EnergySystem.{columns as columns_of, row_variables, system_of}
 use Rattle.market_system.specs.SolvedLaws.{AreRows}
 
 -- These variables were put in as its columns, and as its rows the balance and then these limit rows, with the coefficients that they have.

@@ -1,3 +1,4 @@
+pub mod EnergySystem
 pub mod Findings
 pub mod Holding
 pub mod Refusals

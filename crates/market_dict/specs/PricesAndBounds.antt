@@ -5,7 +5,8 @@ use Rattle.market_model.specs.declared.participants.Parts.{Parts}
 use Rattle.market_model.specs.Dispatch.{empty}
 use Rattle.market_model.specs.declared.limits.Row.{Row}
 use Rattle.limit_screen.specs.Flows.{flows_at}
-use Rattle.market_system.specs.MarketSystem.{low, high, columns, row_variables}
+use Rattle.market_system.specs.MarketSystem.{low, high}
+use Rattle.market_dict.specs.EnergySystem.{columns, row_variables}
 use Rattle.market_dict.specs.Holding.{prices}
 use Rattle.market_dict.specs.declared.posing.PricesAndBounds.{PricesAndBounds}
 

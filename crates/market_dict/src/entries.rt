@@ -7,7 +7,8 @@ ghost use Rattle.market_model.specs.Stops.{StopsBy};
 ghost use Rattle.market_model.specs.SumTables.{FactorSum, IsRefusedAmong};
 ghost use Rattle.market_model.specs.Valued.{passed_at};
 ghost use Rattle.market_model.specs.declared.limits.Row.{Row};
-ghost use Rattle.market_system.specs.MarketSystem.{block_sign, block_coefficient, limit_coefficient, excess_columns, columns as columns_of};
+ghost use Rattle.market_system.specs.MarketSystem.{block_sign, block_coefficient, limit_coefficient, excess_columns};
+ghost use Rattle.market_dict.specs.EnergySystem.{columns as columns_of};
 
 use exact_fraction::{Exact, Passed};
 use limit_rows::{is_soft, unit_factor};

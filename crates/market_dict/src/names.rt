@@ -4,7 +4,8 @@
 ghost use Rattle.std.specs.Prelude.{◌≡◌, ◌++◌, length, map, Contains, IfOk};
 ghost use Rattle.market_model.specs.Dispatch.{places};
 ghost use Rattle.market_model.specs.LimitRows.{rows};
-ghost use Rattle.market_system.specs.MarketSystem.{name as name_in, IsVariableOf, over_name, block_columns, row_variables, variable_of as variable_named};
+ghost use Rattle.market_system.specs.MarketSystem.{name as name_in, over_name, block_columns};
+ghost use Rattle.market_dict.specs.EnergySystem.{IsVariableOf, row_variables, variable_of as variable_named};
 
 use limit_rows::{count, place_of, row_at};
 use market_model::{Market, Row};
@@ -34,6 +35,10 @@ pub(crate) fn name_of(market: &Market, variable: Variable) -> u32
         Variable::Limit(row) => (blocks + 1 + place_of(market, row)) as u32,
         Variable::Over(row) => over_name(market, row) as u32,
         Variable::Under(row) => (over_name(market, row) + 1) as u32,
+        // Nothing of reserve is a variable of a market of energy alone.
+        Variable::Offer(_) => unreachable!(),
+        Variable::Need => unreachable!(),
+        Variable::Room(_) => unreachable!(),
     }
 }
 

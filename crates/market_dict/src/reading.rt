@@ -11,8 +11,10 @@ ghost use Rattle.simplex_theory.specs.Stuck.{multiplier as multiplier_of, margin
 ghost use Rattle.market_model.specs.declared.limits.Row.{Row};
 ghost use Rattle.market_model.specs.Stops.{OnPassed};
 ghost use Rattle.market_model.specs.Valued.{dual_at, duals_at};
-ghost use Rattle.market_system.specs.MarketSystem.{dual_by, duals_by_cost, choice_dispatch, choice_duals, system_of};
+ghost use Rattle.market_system.specs.MarketSystem.{dual_by};
+ghost use Rattle.market_dict.specs.EnergySystem.{duals_by_cost, choice_dispatch, choice_duals, system_of};
 ghost use Rattle.market_system.specs.SolvedLaws.{stuck_duals};
+ghost use Rattle.market_model.specs.Optimality.{rows_alone};
 ghost use Rattle.market_model.specs.PutIn.{dispatch_of};
 ghost use Rattle.market_dict.specs.Holding.{HoldsMarket, HoldsSystem};
 
@@ -91,9 +93,17 @@ fn duals_by<N: Exact>(
             Variable::Limit(row) => push_dual(&mut limits, name_at(market, row), costs[rank])?,
             Variable::Over(_) => {}
             Variable::Under(_) => {}
+            Variable::Offer(_) => {}
+            Variable::Need => {}
+            Variable::Room(_) => {}
         }
     }
-    Ok(Duals { energy, limits })
+    Ok(Duals {
+        energy,
+        limits,
+        reserve: datum(0),
+        rooms: List::new(alloc),
+    })
 }
 
 /// The reduced prices noted, by rank.
@@ -182,7 +192,7 @@ pub(crate) fn farkas<N: Exact>(
     requires holds { (g : List Row) × HoldsSystem market.now g dict.now }
     requires shows { ShowsChoice dict.now }
     requires empty { IsEmptyAt dict.now row above }
-    ensures duals { (g : List Row) → HoldsSystem market.now g dict.now → IfOk result (λ farkas. duals_at N.value farkas.duals ≡ stuck_duals market.now g (choice_of dict.now) (slice_index dict.now.basics row) above) }
+    ensures duals { (g : List Row) → HoldsSystem market.now g dict.now → IfOk result (λ farkas. duals_at N.value farkas.duals ≡ stuck_duals market.now (rows_alone g) (choice_of dict.now) (slice_index dict.now.basics row) above) }
     ensures bound { (g : List Row) → HoldsSystem market.now g dict.now → IfOk result (λ farkas. N.value farkas.bound ≡ margin_of (system_of market.now g) (choice_of dict.now) (slice_index dict.now.basics row) above) }
     ensures pair { (g : List Row) → HoldsSystem market.now g dict.now → IfErr result (λ stop. OnPassed stop (IsPairOf N.value N.bound (system_of market.now g))) }
 {

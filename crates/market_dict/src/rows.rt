@@ -7,7 +7,7 @@ ghost use Rattle.linear_dict.specs.Causes.{IsPairOf};
 ghost use Rattle.market_model.specs.Stops.{OnPassed};
 ghost use Rattle.market_model.specs.SumTables.{FactorSum, IsRefusedAmong};
 ghost use Rattle.market_model.specs.Valued.{passed_at};
-ghost use Rattle.market_system.specs.MarketSystem.{columns as columns_of, system_of};
+ghost use Rattle.market_dict.specs.EnergySystem.{columns as columns_of, system_of};
 ghost use Rattle.market_dict.specs.Holding.{HasPutIn, HoldsMarket};
 
 use crate::entries::{balance_entries, row_entries};

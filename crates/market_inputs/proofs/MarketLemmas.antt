@@ -11,8 +11,10 @@ use Rattle.market_model.specs.declared.participants.Factor.{Factor}
 use Rattle.market_model.specs.declared.participants.Line.{Line}
 use Rattle.market_model.specs.Lines.{IsPenalty}
 use Rattle.market_model.specs.Market.{AreUnitOutages, IsLine, IsMarket, bare_parts}
+use Rattle.market_model.specs.Reserves.{no_reserve}
+use Rattle.market_model.specs.declared.participants.Reserve.{Reserve}
 use Rattle.market_model.proofs.LinePenalties.{no_cost}
-use Rattle.market_model.proofs.PlainMarkets.{plain_market, distinct_by_rise}
+use Rattle.market_model.proofs.PlainMarkets.{is_no_reserve, plain_market, distinct_by_rise}
 use Rattle.market_data.specs.declared.scales.FactorPlaces.{FactorPlaces}
 use Rattle.net_case.specs.Networks.{LiveNetwork, IsNetwork, IsNetBranch, IsLimit}
 use Rattle.net_case.specs.NetworkReading.{unit_within}
@@ -112,10 +114,10 @@ module _ (network : LiveNetwork) (offsets : List OffsetEntry) (penalties : List 
 
 -- ---- the market with limits
 -- parts whose lists are those of a network are its market
-pub market-is : (places : FactorPlaces) (network : LiveNetwork) (tables : Tables) (lost : UnitOutages) (offered : Offered) (offsets : List OffsetEntry) (penalties : List PenaltyEntry) (branches : List NetBranch) (buses whole : List Bus) (lines : List Line) (shift loss : List Factor)
-    → branches ≡ network.branches → buses ≡ network.buses → whole ≡ network.buses → lines ≡ map (line_of offsets penalties) branches → shift ≡ shift_by tables.shift.entries branches buses → loss ≡ loss_by tables.loss.entries branches
-    → record (bare_parts whole offered.units offered.blocks) { lines = lines; outages = tables.outages; places = places; shift = shift; loss = loss; unit_outages = lost.lost; pickups = lost.pickups } ≡ market_of places network tables lost offered offsets penalties
-market-is places network tables lost offered offsets penalties branches buses whole lines shift loss branches_are buses_are whole_is lines_are shift_is loss_is = rw (whole_is, lines_are, shift_is, loss_is, branches_are, buses_are) refl
+pub market-is : (places : FactorPlaces) (network : LiveNetwork) (tables : Tables) (lost : UnitOutages) (offered : Offered) (offsets : List OffsetEntry) (penalties : List PenaltyEntry) (branches : List NetBranch) (buses whole : List Bus) (lines : List Line) (shift loss : List Factor) (reserve : Reserve)
+    → branches ≡ network.branches → buses ≡ network.buses → whole ≡ network.buses → lines ≡ map (line_of offsets penalties) branches → shift ≡ shift_by tables.shift.entries branches buses → loss ≡ loss_by tables.loss.entries branches → reserve ≡ no_reserve
+    → record (bare_parts whole offered.units offered.blocks) { lines = lines; outages = tables.outages; places = places; shift = shift; loss = loss; unit_outages = lost.lost; pickups = lost.pickups; reserve = reserve } ≡ market_of places network tables lost offered offsets penalties
+market-is places network tables lost offered offsets penalties branches buses whole lines shift loss reserve branches_are buses_are whole_is lines_are shift_is loss_is none = rw (whole_is, lines_are, shift_is, loss_is, none, branches_are, buses_are) refl
 
 pub clear-market : (places : FactorPlaces) (network : LiveNetwork) (tables : Tables) (lost : UnitOutages) (offered : Offered) (offsets : List OffsetEntry) (penalties : List PenaltyEntry) → IsNetwork network → MayBeLost network tables.outages → MayLoseUnits network lost → AreOffered network offered
     → All IsTabled (map (line_of offsets penalties) network.branches) → AreSmall (shift_by tables.shift.entries network.branches network.buses) → AreSmall (loss_by tables.loss.entries network.branches)
@@ -144,4 +146,5 @@ clear-market places network tables lost offered offsets penalties net may units 
       shift = rw count (factors_by-are (λ branch bus. factor_at tables.shift.entries (branch.row, bus.number)) network.buses network.branches small_shift);
       loss = rw count (factors_by-are (λ branch other. factor_at tables.loss.entries (branch.row, other.row)) network.branches network.branches small_loss);
       unit_outages = lost-units network offered lost given units;
+      reserve = is_no_reserve (length offered.units);
     }

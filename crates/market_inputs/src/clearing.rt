@@ -2,6 +2,7 @@
 
 ghost use Rattle.std.specs.Prelude.{◌≡◌, IfOk};
 ghost use Rattle.market_model.specs.Market.{IsMarket};
+ghost use Rattle.market_model.specs.Reserves.{no_reserve};
 ghost use Rattle.net_case.specs.Networks.{IsNetwork};
 ghost use Rattle.market_tables.specs.Tables.{tables_lent};
 ghost use Rattle.market_inputs.specs.Clearing.{IsClearMarket, market_of};
@@ -18,7 +19,7 @@ use crate::tables::{
 };
 use factor_tables::{Offsets, Penalties};
 use market_data::FactorPlaces;
-use market_model::{Market, Memory, Parts, assemble};
+use market_model::{Market, Memory, Parts, Reserve, assemble};
 use market_tables::MarketTables;
 use net_case::{Network, PostRating};
 use outage_list::UnitOutages;
@@ -39,7 +40,7 @@ fn limited_parts(
     requires outages { MayBeLost network tables.outages }
     requires lost { MayLoseUnits network lost }
     requires offered { AreOffered network offered }
-    ensures kept { IfOk result IsMarket }
+    ensures kept { IfOk result (λ parts. IsMarket parts × (parts.reserve ≡ no_reserve)) }
     ensures is { IfOk result (λ parts. parts ≡ market_of places network tables lost offered offsets.now penalties.now) }
 {
     let branches = network.branches().slice();
@@ -57,6 +58,7 @@ fn limited_parts(
         loss,
         unit_outages: lost.lost,
         pickups: lost.pickups,
+        reserve: Reserve::none(alloc),
     })
 }
 

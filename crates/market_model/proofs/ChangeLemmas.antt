@@ -100,6 +100,7 @@ module _ (m : Parts) (market : IsMarket m) where
     shift = market.shift;
     loss = market.loss;
     unit_outages = market.unit_outages;
+    reserve = market.reserve;
   }
 
   -- a block in place of another of its unit and side
@@ -164,6 +165,7 @@ module _ (m : Parts) (market : IsMarket m) where
         shift = subst (λ (n : ℕ). AreTableFactors (length m.lines) n m.shift) long market.shift;
         loss = market.loss;
         unit_outages = market.unit_outages;
+        reserve = market.reserve;
       }
 
   pub kept_limit : (l : ℕ) (post : Bool) (mw : ℤ) → l < length m.lines → pos 0 ≤ℤ mw → IsMarket (with_limit m l post mw)
@@ -191,6 +193,7 @@ module _ (m : Parts) (market : IsMarket m) where
         shift = subst (λ (n : ℕ). AreTableFactors n (length m.buses) m.shift) long market.shift;
         loss = subst (λ (n : ℕ). AreTableFactors n n m.loss) long market.loss;
         unit_outages = market.unit_outages;
+        reserve = market.reserve;
       }
     where
       row_is : (k : Line) (t : Bool) → (line_with k t mw).row ≡ k.row

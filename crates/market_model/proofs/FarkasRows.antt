@@ -7,6 +7,7 @@ use Rattle.market_model.specs.declared.participants.Parts.{Parts}
 use Rattle.market_model.specs.declared.answered.Duals.{Duals}
 use Rattle.market_model.specs.Dispatch.{injection, balance}
 use Rattle.market_model.specs.Optimality.{congestion_by, price_by, unit_price}
+use Rattle.market_model.specs.Valued.{energy_duals}
 use Rattle.market_model.specs.LimitRows.{rows}
 use Rattle.market_model.specs.Infeasibility.{farkas_bound}
 use Rattle.market_model.proofs.Rows.{short}
@@ -14,7 +15,7 @@ use Rattle.market_model.specs.Market.{bare_parts}
 
 -- a plain price of energy, and no limit that has one
 abbrev energy_at : ℤ → Duals Fraction
-energy_at e = record { energy = whole e; limits = [] }
+energy_at e = energy_duals (whole e) []
 
 -- The short row: all that can be sold leaves 50 MW of the load.
 short-bound : farkas_bound short (energy_at (pos 1)) ≡ whole (neg_ℤ (pos (50 * 10 ^ 9)))

@@ -1,5 +1,6 @@
 mod BalanceSteps
 pub mod ChangeLemmas
+pub mod EnergyAlone
 pub mod Excesses
 pub mod FarkasLaw
 mod FarkasRows
@@ -15,6 +16,9 @@ pub mod PlaceLists
 pub mod PlaceSums
 pub mod PlainMarkets
 pub mod PutInSteps
+mod ReserveCases
+mod ReserveLaw
+pub mod ReserveSums
 pub mod RightFits
 mod RightsCases
 mod RightsLaw

@@ -16,6 +16,7 @@ use Rattle.market_model.specs.declared.limits.Row.{Row}
 use Rattle.market_model.specs.declared.limits.Cause.TheVariants.{Base, Branch}
 use Rattle.market_model.specs.LimitRows.{rows, row_id, line_flow, row_offset, row_factor, flow}
 use Rattle.market_model.specs.Optimality.{bus_price, welfare, congestion_by, price_by, welfare_for, unit_price}
+use Rattle.market_model.specs.Valued.{energy_duals}
 use Rattle.market_model.specs.Infeasibility.{farkas_bound}
 use Rattle.market_model.specs.Settlement.{rent, surplus}
 use Rattle.market_model.specs.Market.{bare_parts}
@@ -66,10 +67,10 @@ abbrev pub second_after : Row
 second_after = record { line = 1; cause = Branch 0 }
 
 abbrev pub up_alone : ℕ → ℕ → ℕ → Duals Fraction
-up_alone e outage u = record { energy = whole (price e); limits = record { row = record { branch = 2; outage = outage; unit = 0 }; up = whole (price u); down = whole (pos 0) } ∷ [] }
+up_alone e outage u = energy_duals (whole (price e)) (record { row = record { branch = 2; outage = outage; unit = 0 }; up = whole (price u); down = whole (pos 0) } ∷ [])
 
 abbrev pub down_alone : ℕ → ℕ → Duals Fraction
-down_alone e d = record { energy = whole (price e); limits = record { row = record { branch = 2; outage = 0; unit = 0 }; up = whole (pos 0); down = whole (price d) } ∷ [] }
+down_alone e d = energy_duals (whole (price e)) (record { row = record { branch = 2; outage = 0; unit = 0 }; up = whole (pos 0); down = whole (price d) } ∷ [])
 
 -- ---- a limit of 40 MW on branch 2, with a load of 50 MW and a shunt of 10 MW at bus 3
 abbrev pub shunted : Parts
@@ -265,7 +266,7 @@ narrow = record (bare_parts (buses 0 60 0) (units 0) blocks) {
 }
 
 abbrev pub narrow_duals : Duals Fraction
-narrow_duals = record { energy = whole (neg_ℤ (pos 1)); limits = record { row = record { branch = 2; outage = 0; unit = 0 }; up = whole (pos 2); down = whole (pos 0) } ∷ [] }
+narrow_duals = energy_duals (whole (neg_ℤ (pos 1))) (record { row = record { branch = 2; outage = 0; unit = 0 }; up = whole (pos 2); down = whole (pos 0) } ∷ [])
 
 narrow-bound : farkas_bound narrow narrow_duals ≡ whole (neg_ℤ (mw 10))
 unfolding rows line_flow row_offset row_factor injection balance output demand welfare_for congestion_by price_by rent surplus farkas_bound unit_price sign_of abs_ℚ ◌+ℚ◌ ◌*ℚ◌ neg_ℚ over whole gcd gcd_in

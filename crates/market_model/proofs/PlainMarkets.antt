@@ -1,13 +1,15 @@
 -- Markets without branches keep what every market keeps.
-use Rattle.std.specs.Prelude.{◌≢◌, ℕ, ◌<◌, ◌≤◌, List, [], ◌∷◌, length, map, All, AllPairs, slice_index_or}
+use Rattle.std.specs.Prelude.{◌≢◌, ℕ, ◌<◌, ◌≤◌, List, [], ◌∷◌, length, map, All, AllPairs, slice_index_or, refl}
 use Rattle.std.proofs.Common.{arith, zero, suc}
+use Rattle.std.proofs.lemmas.Int.{ints}
 use Rattle.std.proofs.lemmas.List.Elements.{All-cons, All-nil}
 use Rattle.market_data.specs.Participants.{IsBus, IsUnit}
 use Rattle.market_data.specs.Scales.{most_blocks, most_buses, most_units}
 use Rattle.market_data.specs.declared.participants.Bus.{Bus}
 use Rattle.market_data.specs.declared.participants.Unit as unit
 use Rattle.market_model.specs.declared.participants.Block.{Block}
-use Rattle.market_model.specs.Market.{bare_parts, AreUnitOutages, IsMarket, IsBlock, HasRoom}
+use Rattle.market_model.specs.Market.{bare_parts, AreUnitOutages, IsMarket, IsBlock, IsReserve, HasRoom}
+use Rattle.market_model.specs.Reserves.{no_reserve}
 
 -- numbers that rise are distinct
 pub distinct_by_rise : (xs : List ℕ) → AllPairs (λ a b. a < b) xs → AllPairs (λ a b. a ≢ b) xs
@@ -21,6 +23,16 @@ no_unit_outages units = record {
   distinct = λ i j d p q. absurd (Prim.omega (arith, q));
   record_count = Prim.omega arith;
   pickups = λ i d lt. absurd (Prim.omega (arith, lt));
+}
+
+-- no reserve is cleared
+pub is_no_reserve : (units : ℕ) → IsReserve units no_reserve
+is_no_reserve units = record {
+  count = Prim.omega arith;
+  each = λ i d lt. absurd (Prim.omega (arith, lt));
+  distinct = λ i j d p q. absurd (Prim.omega (arith, q));
+  need = Prim.omega (arith, ints);
+  unlisted = λ e. refl;
 }
 
 pub record IsPlain (bs : List Bus) (us : List unit.Unit) (ks : List Block) : Type 0 where
@@ -54,6 +66,7 @@ plain_market buses units blocks h = record {
   shift = record { each = λ i d lt. absurd (Prim.omega (arith, lt)); distinct = λ i j d p q. absurd (Prim.omega (arith, q)) };
   loss = record { each = λ i d lt. absurd (Prim.omega (arith, lt)); distinct = λ i j d p q. absurd (Prim.omega (arith, q)) };
   unit_outages = no_unit_outages (length units);
+  reserve = is_no_reserve (length units);
 }
 
 -- a market of one bus, unit and block, and one of nothing

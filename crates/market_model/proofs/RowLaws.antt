@@ -19,11 +19,13 @@ use Rattle.market_model.specs.declared.limits.Cause.{Cause}
 use Rattle.market_model.specs.declared.limits.Row.{Row}
 use Rattle.market_model.specs.declared.limits.Cause.TheVariants.{Base, Branch, UnitOutage}
 use Rattle.market_model.specs.LimitRows.{IsCauseOf, causes, bears, rows_of, rows, row_id, limit, lost_output, lost_unit, loses, most_flow, penalty, picked_up, pickup_factor, row_flow, row_offset, row_factor, row_pickup, line_flow, line_offset, shift_factor, loss_factor, flow, taker_factor, taker_terms, unit_factor}
-use Rattle.market_model.specs.Optimality.{Feasible, Supports, SideSupported, BlockSupported, Gains, Loses, price, IsOneSided, ProperDuals, names_row, named_rows, own_terms, up_of, down_of, net_shadow_price, congestion, bus_price, congestion_by, price_by, unit_price}
+use Rattle.market_model.specs.Optimality.{Feasible, all_of, Supports, SideSupported, BlockSupported, Gains, Loses, price, IsOneSided, ProperDuals, names_row, named_rows, own_terms, up_of, down_of, net_shadow_price, congestion, bus_price, congestion_by, price_by, unit_price}
 use Rattle.market_model.specs.Market.{IsMarket}
 use Rattle.market_model.specs.Overrun.{excess, excess_by, Within}
 use Rattle.market_model.specs.Settlement.{priced_flow, rent}
 use Rattle.market_model.specs.Laws.{LawOfTheFlows, HasOffsetsWithin}
+use Rattle.market_model.specs.Reserves.{no_reserve}
+use Rattle.market_model.proofs.EnergyAlone.{block_alone, feasible_alone, full_alone, none_alone, proper_alone, supports_alone}
 use Rattle.market_model.proofs.Excesses.{limit_least, nil_or_above, paid_down, paid_up, penalty_least, priced_flow-least, side_most, sides_most}
 use Rattle.market_model.proofs.MarketSums.{balance-by_injections, priced_injections-by_outputs, sum_by-minus, sum_by-neg}
 use Rattle.market_model.proofs.PlaceSums.{sum_by-one_place}
@@ -57,37 +59,33 @@ unit_price-bare m d u e =
     ∙ by_ring ring_ℚ (bus_price m d (unit_at m u).bus ∷ []) (at 0 ⊕ pnil) (at 0) refl
     ∙ bus_price-bare m d (unit_at m u).bus e
 
-module _ (m : Parts) (d : Duals Fraction) (x : Dispatch) (bare : rows m ≡ []) where
+module _ (m : Parts) (d : Duals Fraction) (x : Dispatch) (bare : rows m ≡ []) (alone : m.reserve ≡ no_reserve) where
   pub supported_bare : (j : ℕ) → (Gains (block_at m j).side (price m j) d.energy → accepted x j ≡ quantity m j) → (Loses (block_at m j).side (price m j) d.energy → accepted x j ≡ zero) → BlockSupported m x d j
-  supported_bare j full empty = record {
-    full = λ g. full (subst (Gains (block_at m j).side (price m j)) (unit_price-bare m d (block_at m j).unit bare) g);
-    empty = λ g. empty (subst (Loses (block_at m j).side (price m j)) (unit_price-bare m d (block_at m j).unit bare) g);
-  }
+  supported_bare j full empty =
+      block_alone m alone x d j
+      (λ g. full (subst (Gains (block_at m j).side (price m j)) (unit_price-bare m d (block_at m j).unit bare) g))
+      (λ g. empty (subst (Loses (block_at m j).side (price m j)) (unit_price-bare m d (block_at m j).unit bare) g))
 
-  pub supports_bare : ((j : ℕ) → j < length m.blocks → BlockSupported m x d j) → Supports m x d
-  supports_bare h = record { blocks = h; rows = λ r c. let k : Contains [] r = subst (λ (rs : List Row). Contains rs r) bare c in absurd (Prim.omega (arith, k.1)) }
+  pub supports_bare : d.reserve ≡ zero → ((j : ℕ) → j < length m.blocks → BlockSupported m x d j) → Supports m x d
+  supports_bare free h = supports_alone m alone x d free h (λ r c. absurd (no_row m r bare c))
 
   pub full_bare : (j : ℕ) → BlockSupported m x d j → Gains (block_at m j).side (price m j) d.energy → accepted x j ≡ quantity m j
-  full_bare j s g = s.full (subst (Gains (block_at m j).side (price m j)) (sym (unit_price-bare m d (block_at m j).unit bare)) g)
+  full_bare j s g = full_alone m alone x d j s (subst (Gains (block_at m j).side (price m j)) (sym (unit_price-bare m d (block_at m j).unit bare)) g)
 
   pub empty_bare : (j : ℕ) → BlockSupported m x d j → Loses (block_at m j).side (price m j) d.energy → accepted x j ≡ zero
-  empty_bare j s g = s.empty (subst (Loses (block_at m j).side (price m j)) (sym (unit_price-bare m d (block_at m j).unit bare)) g)
+  empty_bare j s g = none_alone m alone x d j s (subst (Loses (block_at m j).side (price m j)) (sym (unit_price-bare m d (block_at m j).unit bare)) g)
 
-pub feasible_bare : (m : Parts) (x : Dispatch) → rows m ≡ [] → IsDispatch m x → balance m x ≡ zero → Feasible m x
-feasible_bare m x bare h e = record {
-  blocks = h;
-  balanced = e;
-  limits = λ r c. let k : Contains [] r = subst (λ (rs : List Row). Contains rs r) bare c in absurd (Prim.omega (arith, k.1));
-}
+pub feasible_bare : (m : Parts) (x : Dispatch) → rows m ≡ [] → m.reserve ≡ no_reserve → IsDispatch m x → balance m x ≡ zero → Feasible m x
+feasible_bare m x bare alone h e = feasible_alone m alone (all_of m) x (λ u c. c) h e (λ r c. absurd (no_row m r bare c))
 
 pub named_rows-bare : (m : Parts) (d : Duals Fraction) → rows m ≡ [] → named_rows m d ≡ []
 named_rows-bare m d bare = ap (λ (rs : List Row). filter (λ r. names_row d.limits (row_id m r)) rs) bare
 
-pub proper_bare : (m : Parts) (d : Duals Fraction) → rows m ≡ [] → d.limits ≡ [] → ProperDuals m d
-proper_bare m d bare e = record {
-  named = ap (λ (ds : List (Dual Fraction)). map (λ f. f.row) ds) e ∙ sym (ap (λ (rs : List Row). map (row_id m) rs) (named_rows-bare m d bare));
-  one_sided = subst (All IsOneSided) (sym e) (λ i f lt. absurd (Prim.omega (arith, lt)));
-}
+pub proper_bare : (m : Parts) (d : Duals Fraction) → rows m ≡ [] → m.reserve ≡ no_reserve → d.reserve ≡ zero → d.rooms ≡ [] → d.limits ≡ [] → ProperDuals m d
+proper_bare m d bare alone free none e =
+    proper_alone m alone d free none
+    (ap (λ (ds : List (Dual Fraction)). map (λ f. f.row) ds) e ∙ sym (ap (λ (rs : List Row). map (row_id m) rs) (named_rows-bare m d bare)))
+    (subst (All IsOneSided) (sym e) (λ i f lt. absurd (Prim.omega (arith, lt))))
 
 -- what is proper names nothing where there are no rows
 pub no_limits : (m : Parts) (d : Duals Fraction) → rows m ≡ [] → ProperDuals m d → d.limits ≡ []

@@ -15,6 +15,7 @@ use Rattle.std.proofs.lemmas.List.Kept.{AllPairs-from_increasing}
 use Rattle.market_data.specs.Participants.{IsBus, IsUnit}
 use Rattle.market_data.specs.declared.participants.Unit as unit
 use Rattle.market_model.specs.Stairs.{stair_in}
+use Rattle.market_model.specs.Valued.{energy_duals}
 use Rattle.market_model.proofs.PlainMarkets.{plain_market, distinct_by_rise}
 use Rattle.market_model.specs.Market.{bare_parts, IsMarket, IsBlock, HasRoom}
 use Rattle.market_model.specs.Dispatch.{Dispatch, places, injection, balance, output, demand, accepted, quantity, dispatch_by}
@@ -24,6 +25,7 @@ use Rattle.market_model.proofs.MarketSums.{fixed_part, most_raised, needed-at_mo
 use Rattle.market_model.proofs.WholeDispatch.{from_whole-<ℚ, from_whole-≤ℚ}
 use Rattle.market_model.proofs.Optimum.{law_of_the_optimum, law_of_no_limits}
 use Rattle.market_model.specs.LimitRows.{rows}
+use Rattle.market_model.proofs.EnergyAlone.{is_energy_dispatch}
 use Rattle.market_model.proofs.RowLaws.{no_rows, supported_bare, supports_bare, empty_bare, full_bare, feasible_bare}
 
 -- whole numbers in order are not the other way
@@ -43,7 +45,7 @@ first_only = dispatch_by (whole (pos (60 * 10 ^ 9)) ∷ whole (pos 0) ∷ [])
 
 -- a price of energy of 10, and no limit that has one
 abbrev pub energy_at_ten : Duals Fraction
-energy_at_ten = record { energy = whole (pos (10 * 10 ^ 6)); limits = [] }
+energy_at_ten = energy_duals (whole (pos (10 * 10 ^ 6))) []
 
 pub three_buses-welfare : welfare three_buses first_only ≡ whole (neg_ℤ (pos (600 * 10 ^ 15)))
 unfolding welfare_for rows ◌+ℚ◌ ◌*ℚ◌ neg_ℚ over whole gcd gcd_in
@@ -63,7 +65,7 @@ unfolding pays demand price_by congestion_by rows ◌+ℚ◌ ◌*ℚ◌ neg_ℚ 
 three_buses-pays = same_fraction (pays three_buses energy_at_ten 2) (whole (pos (600 * 10 ^ 15))) refl refl
 
 pub three_buses-feasible : Feasible three_buses first_only
-three_buses-feasible = feasible_bare three_buses first_only (no_rows three_buses refl) (record { count = refl; above = above; within = within }) three_buses-balance
+three_buses-feasible = feasible_bare three_buses first_only (no_rows three_buses refl) refl (is_energy_dispatch three_buses refl first_only refl refl above within) three_buses-balance
   where
     above : (j : ℕ) → j < 2 → whole (pos 0) ≤ℚ accepted first_only j
     above zero h = whole-≤ℚ (pos 0) (pos (60 * 10 ^ 9)) (Prim.omega (arith, ints))
@@ -76,13 +78,13 @@ three_buses-feasible = feasible_bare three_buses first_only (no_rows three_buses
     within (suc (suc j)) h = absurd (Prim.omega arith)
 
 pub three_buses-supports : Supports three_buses first_only energy_at_ten
-three_buses-supports = supports_bare three_buses energy_at_ten first_only (no_rows three_buses refl) blocks
+three_buses-supports = supports_bare three_buses energy_at_ten first_only (no_rows three_buses refl) refl refl blocks
   where
     blocks : (j : ℕ) → j < 2 → BlockSupported three_buses first_only energy_at_ten j
-    blocks zero h = supported_bare three_buses energy_at_ten first_only (no_rows three_buses refl) 0
+    blocks zero h = supported_bare three_buses energy_at_ten first_only (no_rows three_buses refl) refl 0
         (λ k. absurd (<ℚ_irrefl (whole (pos (10 * 10 ^ 6))) k))
         (λ k. absurd (<ℚ_irrefl (whole (pos (10 * 10 ^ 6))) k))
-    blocks (suc zero) h = supported_bare three_buses energy_at_ten first_only (no_rows three_buses refl) 1
+    blocks (suc zero) h = supported_bare three_buses energy_at_ten first_only (no_rows three_buses refl) refl 1
         (λ k. absurd (not_below (pos (10 * 10 ^ 6)) (pos (30 * 10 ^ 6)) (Prim.omega (arith, ints)) k))
         (λ k. refl)
     blocks (suc (suc j)) h = absurd (Prim.omega arith)
@@ -94,10 +96,10 @@ whole-apart m n e = ap (λ (f : Fraction). f.num) e
 -- no other price of energy supports it
 pub three_buses-one_price : (d : Duals Fraction) → Supports three_buses first_only d → d.energy ≡ whole (pos (10 * 10 ^ 6))
 three_buses-one_price d s = elim (three_ways d.energy (whole (pos (10 * 10 ^ 6)))) [
-  | inl below ↦ let wrong : pos (60 * 10 ^ 9) ≡ pos 0 = whole-apart (pos (60 * 10 ^ 9)) (pos 0) (empty_bare three_buses d first_only (no_rows three_buses refl) 0 (s.blocks 0 (Prim.omega arith)) below) in absurd (Prim.omega (arith, ints))
+  | inl below ↦ let wrong : pos (60 * 10 ^ 9) ≡ pos 0 = whole-apart (pos (60 * 10 ^ 9)) (pos 0) (empty_bare three_buses d first_only (no_rows three_buses refl) refl 0 (s.blocks 0 (Prim.omega arith)) below) in absurd (Prim.omega (arith, ints))
   | inr rest ↦ elim rest [
     | inl same ↦ same
-    | inr above ↦ let wrong : pos (60 * 10 ^ 9) ≡ pos (100 * 10 ^ 9) = whole-apart (pos (60 * 10 ^ 9)) (pos (100 * 10 ^ 9)) (full_bare three_buses d first_only (no_rows three_buses refl) 0 (s.blocks 0 (Prim.omega arith)) above) in absurd (Prim.omega (arith, ints))
+    | inr above ↦ let wrong : pos (60 * 10 ^ 9) ≡ pos (100 * 10 ^ 9) = whole-apart (pos (60 * 10 ^ 9)) (pos (100 * 10 ^ 9)) (full_bare three_buses d first_only (no_rows three_buses refl) refl 0 (s.blocks 0 (Prim.omega arith)) above) in absurd (Prim.omega (arith, ints))
   ]
 ]
 
@@ -189,7 +191,7 @@ unfolding surplus demand output price_by congestion_by rows ◌+ℚ◌ ◌*ℚ�
 with_buyer-surplus = same_fraction (surplus with_buyer bought energy_at_ten) (whole (pos 0)) refl refl
 
 pub with_buyer-feasible : Feasible with_buyer bought
-with_buyer-feasible = feasible_bare with_buyer bought (no_rows with_buyer refl) (record { count = refl; above = above; within = within }) with_buyer-balance
+with_buyer-feasible = feasible_bare with_buyer bought (no_rows with_buyer refl) refl (is_energy_dispatch with_buyer refl bought refl refl above within) with_buyer-balance
   where
     above : (j : ℕ) → j < 4 → whole (pos 0) ≤ℚ accepted bought j
     above zero h = whole-≤ℚ (pos 0) (pos (90 * 10 ^ 9)) (Prim.omega (arith, ints))
@@ -206,19 +208,19 @@ with_buyer-feasible = feasible_bare with_buyer bought (no_rows with_buyer refl) 
     within (suc (suc (suc (suc j)))) h = absurd (Prim.omega arith)
 
 pub with_buyer-supports : Supports with_buyer bought energy_at_ten
-with_buyer-supports = supports_bare with_buyer energy_at_ten bought (no_rows with_buyer refl) blocks
+with_buyer-supports = supports_bare with_buyer energy_at_ten bought (no_rows with_buyer refl) refl refl blocks
   where
     blocks : (j : ℕ) → j < 4 → BlockSupported with_buyer bought energy_at_ten j
-    blocks zero h = supported_bare with_buyer energy_at_ten bought (no_rows with_buyer refl) 0
+    blocks zero h = supported_bare with_buyer energy_at_ten bought (no_rows with_buyer refl) refl 0
         (λ k. absurd (<ℚ_irrefl (whole (pos (10 * 10 ^ 6))) k))
         (λ k. absurd (<ℚ_irrefl (whole (pos (10 * 10 ^ 6))) k))
-    blocks (suc zero) h = supported_bare with_buyer energy_at_ten bought (no_rows with_buyer refl) 1
+    blocks (suc zero) h = supported_bare with_buyer energy_at_ten bought (no_rows with_buyer refl) refl 1
         (λ k. absurd (not_below (pos (10 * 10 ^ 6)) (pos (30 * 10 ^ 6)) (Prim.omega (arith, ints)) k))
         (λ k. refl)
-    blocks (suc (suc zero)) h = supported_bare with_buyer energy_at_ten bought (no_rows with_buyer refl) 2
+    blocks (suc (suc zero)) h = supported_bare with_buyer energy_at_ten bought (no_rows with_buyer refl) refl 2
         (λ k. refl)
         (λ k. absurd (not_below (pos (10 * 10 ^ 6)) (pos (40 * 10 ^ 6)) (Prim.omega (arith, ints)) k))
-    blocks (suc (suc (suc zero))) h = supported_bare with_buyer energy_at_ten bought (no_rows with_buyer refl) 3
+    blocks (suc (suc (suc zero))) h = supported_bare with_buyer energy_at_ten bought (no_rows with_buyer refl) refl 3
         (λ k. absurd (not_below (pos (5 * 10 ^ 6)) (pos (10 * 10 ^ 6)) (Prim.omega (arith, ints)) k))
         (λ k. refl)
     blocks (suc (suc (suc (suc j)))) h = absurd (Prim.omega arith)
@@ -248,13 +250,13 @@ unfolding balance injection ◌+ℚ◌ ◌*ℚ◌ neg_ℚ over whole gcd gcd_in
 with_shunt-balance = same_fraction (balance with_shunt less_sold) (whole (pos 0)) refl refl
 
 pub with_shunt-supports : Supports with_shunt less_sold energy_at_ten
-with_shunt-supports = supports_bare with_shunt energy_at_ten less_sold (no_rows with_shunt refl) blocks
+with_shunt-supports = supports_bare with_shunt energy_at_ten less_sold (no_rows with_shunt refl) refl refl blocks
   where
     blocks : (j : ℕ) → j < 2 → BlockSupported with_shunt less_sold energy_at_ten j
-    blocks zero h = supported_bare with_shunt energy_at_ten less_sold (no_rows with_shunt refl) 0
+    blocks zero h = supported_bare with_shunt energy_at_ten less_sold (no_rows with_shunt refl) refl 0
         (λ k. absurd (<ℚ_irrefl (whole (pos (10 * 10 ^ 6))) k))
         (λ k. absurd (<ℚ_irrefl (whole (pos (10 * 10 ^ 6))) k))
-    blocks (suc zero) h = supported_bare with_shunt energy_at_ten less_sold (no_rows with_shunt refl) 1
+    blocks (suc zero) h = supported_bare with_shunt energy_at_ten less_sold (no_rows with_shunt refl) refl 1
         (λ k. absurd (not_below (pos (10 * 10 ^ 6)) (pos (30 * 10 ^ 6)) (Prim.omega (arith, ints)) k))
         (λ k. refl)
     blocks (suc (suc j)) h = absurd (Prim.omega arith)

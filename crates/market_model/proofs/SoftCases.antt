@@ -16,6 +16,7 @@ use Rattle.market_model.specs.Dispatch.{Dispatch, injection, balance, output, de
 use Rattle.market_model.specs.Infeasibility.{farkas_bound}
 use Rattle.market_model.specs.LimitRows.{rows, line_flow, row_offset, row_factor, flow, limit, most_flow, penalty}
 use Rattle.market_model.specs.Optimality.{SideSupported, RowSupported, up_of, down_of, bus_price, welfare, welfare_for, congestion_by, price_by, unit_price}
+use Rattle.market_model.specs.Valued.{energy_duals}
 use Rattle.market_model.specs.Settlement.{rent, surplus}
 use Rattle.market_model.proofs.LimitCases.{mw, price, money, line, narrow, narrow_duals, turned, after_outage, sold, second, second_after, up_alone, down_alone}
 
@@ -158,7 +159,7 @@ abbrev soft_after : Parts
 soft_after = with_second after_outage (record (line 2 (Some (mw 40)) (Some (mw 45)) 0) { post_price = price 5; post_excess = mw 20 })
 
 abbrev both_prices : Duals Fraction
-both_prices = record { energy = whole (price 10); limits = record { row = record { branch = 2; outage = 0; unit = 0 }; up = whole (price 30); down = whole (pos 0) } ∷ record { row = record { branch = 2; outage = 1; unit = 0 }; up = whole (price 5); down = whole (pos 0) } ∷ [] }
+both_prices = energy_duals (whole (price 10)) (record { row = record { branch = 2; outage = 0; unit = 0 }; up = whole (price 30); down = whole (pos 0) } ∷ record { row = record { branch = 2; outage = 1; unit = 0 }; up = whole (price 5); down = whole (pos 0) } ∷ [])
 
 after-flow : flow soft_after (sold 50 10) second_after ≡ whole (mw 50)
 unfolding rows line_flow row_offset row_factor injection balance output demand welfare_for congestion_by price_by rent surplus farkas_bound unit_price sign_of abs_ℚ ◌+ℚ◌ ◌*ℚ◌ neg_ℚ over whole gcd gcd_in

@@ -14,6 +14,7 @@ use Rattle.market_model.specs.Dispatch.{Dispatch, dispatch_by, injection, balanc
 use Rattle.market_model.specs.LimitRows.{rows, row_id, flow, line_flow, pickup_factor, row_factor, row_offset, taker_factor}
 use Rattle.market_model.specs.Market.{bare_parts}
 use Rattle.market_model.specs.Optimality.{bus_price, congestion_by, price_by, unit_price, welfare, welfare_for}
+use Rattle.market_model.specs.Valued.{energy_duals}
 use Rattle.market_model.specs.Settlement.{paid, rent, surplus}
 use Rattle.market_model.proofs.LimitCases.{buses, line, losses, money, mw, price, shifts}
 
@@ -42,7 +43,7 @@ abbrev dispatch : Dispatch
 dispatch = dispatch_by (whole (mw 56) ∷ whole (pos 0) ∷ whole (mw 4) ∷ [])
 
 abbrev duals : Duals Fraction
-duals = record { energy = whole (price 20); limits = record { row = record { branch = 3; outage = 0; unit = 1 }; up = whole (price 80); down = whole (pos 0) } ∷ [] }
+duals = energy_duals (whole (price 20)) (record { row = record { branch = 3; outage = 0; unit = 1 }; up = whole (price 80); down = whole (pos 0) } ∷ [])
 
 lost-rows : map (row_id lost) (rows lost) ≡ record { branch = 3; outage = 0; unit = 1 } ∷ []
 unfolding rows

@@ -20,3 +20,7 @@ line_with line post mw = if post then record line { post = Some mw } else record
 
 abbrev pub with_limit : Parts → ℕ → Bool → ℤ → Parts
 with_limit m line post mw = record m { lines = slice_set m.lines line (line_with (line_at m line) post mw) }
+
+-- the reserve that is needed
+abbrev pub with_need : Parts → ℤ → Parts
+with_need m mw = record m { reserve = record m.reserve { need = mw } }

@@ -10,6 +10,7 @@ use Rattle.market_data.specs.declared.participants.Bus.{Bus}
 use Rattle.market_data.specs.declared.participants.Unit as unit
 use Rattle.market_model.specs.declared.participants.Block.{Block}
 use Rattle.market_model.specs.declared.participants.Line.{Line}
+use Rattle.market_model.specs.declared.participants.ReserveOffer.{ReserveOffer}
 use Rattle.market_model.specs.Lines.{hard_line}
 use Rattle.market_model.specs.declared.participants.Side.{Side}
 use Rattle.market_model.specs.declared.participants.Side.TheVariants.{Sell, Buy}
@@ -35,6 +36,9 @@ block_at m j = slice_index_or m.blocks j (record { unit = 0; side = Sell; quanti
 abbrev pub line_at : Parts → ℕ → Line
 line_at m l = slice_index_or m.lines l (hard_line 0 None None (pos 0))
 
+abbrev pub offer_at : Parts → ℕ → ReserveOffer
+offer_at m n = slice_index_or m.reserve.offers n (record { unit = 0; quantity = pos 0; price = pos 0 })
+
 -- the bus of a block's unit
 abbrev pub block_bus : Parts → ℕ → ℕ
 block_bus m j = (unit_at m (block_at m j).unit).bus
@@ -44,13 +48,18 @@ abbrev pub signed_by_side : Side → Fraction → Fraction
 signed_by_side Sell x = x
 signed_by_side Buy x = neg_ℚ x
 
--- the accepted MW of each block
+-- the accepted MW of each block, and of each offer of reserve
 pub record Dispatch : Type 0 where
   pub blocks : List Fraction
+  pub reserve : List Fraction
 
--- the dispatch that accepts so many MW of each block
+-- the dispatch that accepts so many MW of each block, and so many of each offer of reserve
+abbrev pub dispatch_with : List Fraction → List Fraction → Dispatch
+dispatch_with mws reserve = record { blocks = mws; reserve = reserve }
+
+-- the same of energy alone
 abbrev pub dispatch_by : List Fraction → Dispatch
-dispatch_by mws = record { blocks = mws }
+dispatch_by mws = dispatch_with mws []
 
 -- the accepted MW of a block
 abbrev pub accepted : Dispatch → ℕ → Fraction
@@ -59,15 +68,25 @@ accepted x j = slice_index_or x.blocks j zero
 abbrev pub quantity : Parts → ℕ → Fraction
 quantity m j = whole (block_at m j).quantity
 
--- one number for each block, from 0 to its quantity
+-- the accepted MW of an offer of reserve
+abbrev pub reserved : Dispatch → ℕ → Fraction
+reserved x n = slice_index_or x.reserve n zero
+
+abbrev pub reserve_quantity : Parts → ℕ → Fraction
+reserve_quantity m n = whole (offer_at m n).quantity
+
+-- one number for each block and for each offer of reserve, from 0 to its quantity
 pub record IsDispatch (m : Parts) (x : Dispatch) : Type 0 where
   pub count : length x.blocks ≡ length m.blocks
   pub above : (j : ℕ) → j < length m.blocks → zero ≤ℚ accepted x j
   pub within : (j : ℕ) → j < length m.blocks → accepted x j ≤ℚ quantity m j
+  pub reserve_count : length x.reserve ≡ length m.reserve.offers
+  pub reserve_above : (n : ℕ) → n < length m.reserve.offers → zero ≤ℚ reserved x n
+  pub reserve_within : (n : ℕ) → n < length m.reserve.offers → reserved x n ≤ℚ reserve_quantity m n
 
 -- nothing accepted
 abbrev pub empty : Parts → Dispatch
-empty m = dispatch_by (replicate (length m.blocks) zero)
+empty m = dispatch_with (replicate (length m.blocks) zero) (replicate (length m.reserve.offers) zero)
 
 -- by how much a block's acceptance raises its unit's output
 abbrev pub raised_by : Parts → Dispatch → ℕ → Fraction

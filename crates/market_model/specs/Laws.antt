@@ -12,7 +12,8 @@ use Rattle.market_model.specs.Dispatch.{Dispatch, zero, places, balance}
 use Rattle.market_model.specs.declared.limits.Row.{Row}
 use Rattle.market_model.specs.LimitRows.{rows, limit, picked_up, row_flow, row_offset, row_factor}
 use Rattle.market_model.specs.Optimality.{Feasible, Supports, up_of, down_of, welfare}
-use Rattle.market_model.specs.Settlement.{rent, surplus}
+use Rattle.market_model.specs.Reserves.{offer_places, reserve_need}
+use Rattle.market_model.specs.Settlement.{pay_of_reserve, rent, surplus}
 use Rattle.market_model.specs.Infeasibility.{ShowsInfeasible}
 use Rattle.market_model.specs.declared.participants.TransmissionRight.{TransmissionRight}
 use Rattle.market_model.specs.Rights.{IsTransmissionRight, AreFeasibleTogether, paid_to_rights}
@@ -22,7 +23,7 @@ use Rattle.market_model.specs.Overrun.{Within}
 abbrev pub LawOfTheOptimum : Type 0
 LawOfTheOptimum = (m : Parts) (d : Duals Fraction) (x y : Dispatch) → IsMarket m → Feasible m x → Supports m x d → Feasible m y → welfare m y ≤ℚ welfare m x
 
--- where duals support a feasible dispatch, loads pay what units are paid and what limits earn
+-- where duals support a feasible dispatch, loads pay what units are paid for energy and what limits earn
 abbrev pub LawOfTheSurplus : Type 0
 LawOfTheSurplus = (m : Parts) (d : Duals Fraction) (x : Dispatch) → IsMarket m → Feasible m x → Supports m x d → surplus m x d ≡ sum_by (rent m x d) (rows m)
 
@@ -30,7 +31,7 @@ LawOfTheSurplus = (m : Parts) (d : Duals Fraction) (x : Dispatch) → IsMarket m
 abbrev pub HasOffsetsWithin : Parts → Duals Fraction → Type 0
 HasOffsetsWithin m d = (r : Row) → Contains (rows m) r → (zero <ℚ up_of m d r) ⊎ (zero <ℚ down_of m d r) → Within (limit m r) (row_offset m r)
 
--- and then nothing is short
+-- and then nothing is short for energy
 abbrev pub LawOfItsSign : Type 0
 LawOfItsSign = (m : Parts) (d : Duals Fraction) (x : Dispatch) → IsMarket m → Feasible m x → Supports m x d → HasOffsetsWithin m d → zero ≤ℚ surplus m x d
 
@@ -47,6 +48,11 @@ LawOfTheFlows = (m : Parts) (p lost : ℕ → Fraction) (r : Row)
 abbrev pub LawOfTheRights : Type 0
 LawOfTheRights = (m : Parts) (d : Duals Fraction) (x : Dispatch) (rights : List TransmissionRight) → IsMarket m → Feasible m x → Supports m x d
     → All (IsTransmissionRight (length m.buses)) rights → AreFeasibleTogether m rights → paid_to_rights m d rights ≤ℚ surplus m x d
+
+-- where duals support a feasible dispatch, reserve is paid its price for what is needed
+abbrev pub LawOfTheReserve : Type 0
+LawOfTheReserve = (m : Parts) (d : Duals Fraction) (x : Dispatch) → IsMarket m → Feasible m x → Supports m x d
+    → sum_by (λ n. (pay_of_reserve x d n).paid) (offer_places m) ≡ d.reserve *ℚ reserve_need m
 
 -- where duals show that nothing is feasible, no dispatch is (Farkas)
 abbrev pub LawOfInfeasibility : Type 0

@@ -14,6 +14,7 @@ pub mod NamedSums
 pub mod Optimality
 pub mod PutIn
 pub mod RightAnswers
+pub mod Reserves
 pub mod Rights
 pub mod Settlement
 pub mod Stairs

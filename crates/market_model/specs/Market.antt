@@ -1,5 +1,5 @@
 -- What every market keeps.
-use Rattle.std.specs.Prelude.{◌≡◌, ◌≢◌, ℕ, ◌<◌, ◌≤◌, pos, ◌≤ℤ◌, ◌<ℤ◌, List, [], length, map, slice_index_or, All, AllPairs, IfSome, Contains, unsigned_abs}
+use Rattle.std.specs.Prelude.{false, ◌≡◌, ◌≢◌, ℕ, ◌<◌, ◌≤◌, pos, ◌≤ℤ◌, ◌<ℤ◌, List, [], length, map, slice_index_or, All, AllPairs, IfSome, Contains, unsigned_abs}
 use Rattle.market_data.specs.Participants.{IsDatum, IsBus, IsUnit}
 use Rattle.market_data.specs.Scales.{share_one, most_blocks, most_buses, most_factor, most_lines, most_outages, most_pickups, most_units}
 use Rattle.market_data.specs.declared.participants.Bus.{Bus}
@@ -10,8 +10,11 @@ use Rattle.market_model.specs.declared.participants.Factor.{Factor}
 use Rattle.market_model.specs.declared.participants.Line.{Line}
 use Rattle.market_model.specs.declared.participants.Parts.{Parts}
 use Rattle.market_model.specs.declared.participants.Pickup.{Pickup}
+use Rattle.market_model.specs.declared.participants.Reserve.{Reserve}
+use Rattle.market_model.specs.declared.participants.ReserveOffer.{ReserveOffer}
 use Rattle.market_model.specs.declared.participants.Side.{Side}
 use Rattle.market_model.specs.Lines.{IsPenalty}
+use Rattle.market_model.specs.Reserves.{no_reserve}
 use Rattle.market_model.specs.Stairs.{stair_in, offered, room_of}
 
 -- a block of one of so many units
@@ -62,9 +65,23 @@ pub record AreUnitOutages (units : ℕ) (outages : List ℕ) (records : List Pic
   pub record_count : length records ≤ most_pickups
   pub pickups : All (IsPickup (length outages) units) records
 
+-- an offer of reserve of one of so many units
+pub record IsReserveOffer (units : ℕ) (offer : ReserveOffer) : Type 0 where
+  pub unit : offer.unit < units
+  pub quantity : pos 0 ≤ℤ offer.quantity
+  pub price : IsDatum offer.price
+
+-- offers of some of so many units, no unit twice, and a need; or none of it
+pub record IsReserve (units : ℕ) (r : Reserve) : Type 0 where
+  pub count : length r.offers ≤ most_units
+  pub each : All (IsReserveOffer units) r.offers
+  pub distinct : AllPairs (λ a b. a ≢ b) (map (λ offer. offer.unit) r.offers)
+  pub need : pos 0 ≤ℤ r.need
+  pub unlisted : r.listed ≡ false → r ≡ no_reserve
+
 -- the parts of a market that has nothing but buses, units and blocks, and tables of six places
 abbrev pub bare_parts : List Bus → List unit.Unit → List Block → Parts
-bare_parts buses units blocks = record { buses = buses; units = units; blocks = blocks; lines = []; outages = []; shift = []; loss = []; unit_outages = []; pickups = []; places = Six }
+bare_parts buses units blocks = record { buses = buses; units = units; blocks = blocks; lines = []; outages = []; shift = []; loss = []; unit_outages = []; pickups = []; places = Six; reserve = no_reserve }
 
 pub record IsMarket (parts : Parts) : Type 0 where
   pub bus_count : length parts.buses ≤ most_buses
@@ -85,3 +102,4 @@ pub record IsMarket (parts : Parts) : Type 0 where
   pub shift : AreTableFactors (length parts.lines) (length parts.buses) parts.shift
   pub loss : AreTableFactors (length parts.lines) (length parts.lines) parts.loss
   pub unit_outages : AreUnitOutages (length parts.units) parts.unit_outages parts.pickups
+  pub reserve : IsReserve (length parts.units) parts.reserve

@@ -9,7 +9,7 @@ use Rattle.market_model.specs.Dispatch.{Dispatch, zero, places, injection, dispa
 use Rattle.market_model.specs.LimitRows.{Carried, line_flows, lost_outputs}
 use Rattle.market_model.specs.NamedSums.{IsRefusal}
 
--- the accepted MW of each block, as numbers
+-- the accepted MW of each block, as numbers, and no reserve
 abbrev pub dispatch_of : {N : Type 0} → (N → Fraction) → List N → Dispatch
 dispatch_of value xs = dispatch_by (map value xs)
 

@@ -14,12 +14,13 @@ use Rattle.market_model.specs.declared.answered.Outcome.TheVariants as outcome
 use Rattle.market_model.specs.declared.answered.Price.{Price}
 use Rattle.market_model.specs.declared.answered.Rent.{Rent}
 use Rattle.market_model.specs.declared.answered.UnitPay.{UnitPay}
-use Rattle.market_model.specs.Dispatch.{Dispatch, zero, places, dispatch_by}
+use Rattle.market_model.specs.Dispatch.{Dispatch, zero, places, dispatch_with}
 use Rattle.market_model.specs.Infeasibility.{IsFarkas}
 use Rattle.market_model.specs.declared.limits.Row.{Row}
 use Rattle.market_model.specs.LimitRows.{Carried, carried, row_id, flow_by, lost_unit}
 use Rattle.market_model.specs.Optimality.{Feasible, Supports, ProperDuals, named_rows, own_price, up_of, down_of, welfare, congestion, bus_price}
-use Rattle.market_model.specs.Settlement.{pay_of_unit, pay_of_load, left_terms, rent_terms_by}
+use Rattle.market_model.specs.Reserves.{offer_places}
+use Rattle.market_model.specs.Settlement.{pay_of_unit, pay_of_load, pay_of_reserve, left_terms, rent_terms_by}
 use Rattle.market_model.specs.Overrun.{excess_by}
 
 -- an answer's entries by place; one past the end stands for zeros
@@ -35,9 +36,9 @@ pay_of a u = slice_index_or a.money.units u (record { mw = zero; paid = zero })
 abbrev pub load_of : Answer Fraction → ℕ → Load Fraction
 load_of a i = slice_index_or a.money.loads i (record { mw = zero; pays = zero })
 
--- the accepted MW of an answer
+-- the accepted MW of an answer, and its reserve
 abbrev pub dispatch_in : Answer Fraction → Dispatch
-dispatch_in a = dispatch_by a.dispatch
+dispatch_in a = dispatch_with a.dispatch a.reserve
 
 -- the flow of a row where this is carried, by how much it exceeds its limit, and what that earns at the prices of a dual
 abbrev pub rent_by : Parts → Carried → Dual Fraction → Row → Rent Fraction
@@ -48,7 +49,7 @@ abbrev pub rent_of : Parts → Dispatch → Duals Fraction → Row → Rent Frac
 rent_of m x d r = rent_by m (carried m x) (record { row = row_id m r; up = up_of m d r; down = down_of m d r }) r
 
 -- the settlement of a dispatch at prices by bus: units and buses in their order, the own prices of lost units, the rows that duals name in
--- theirs, and what loads pay less what units are paid
+-- theirs, what loads pay less what units are paid for energy, and what offers of reserve are paid
 abbrev pub settlement_at : Parts → Dispatch → (ℕ → Fraction) → Duals Fraction → Money Fraction
 settlement_at m x price d = record {
   units = map (pay_of_unit m x price d) (places (length m.units));
@@ -56,6 +57,7 @@ settlement_at m x price d = record {
   loads = map (pay_of_load m price) (places (length m.buses));
   rents = map (rent_of m x d) (named_rows m d);
   surplus = total (left_terms m x price d);
+  reserve = map (pay_of_reserve x d) (offer_places m);
 }
 
 -- a price of its two parts
@@ -70,6 +72,7 @@ price_made m d i = price_of_parts d.energy (congestion m d i)
 abbrev pub answer_of : Parts → Dispatch → Duals Fraction → Answer Fraction
 answer_of m x d = record {
   dispatch = x.blocks;
+  reserve = x.reserve;
   duals = d;
   prices = map (price_made m d) (places (length m.buses));
   welfare = welfare m x;

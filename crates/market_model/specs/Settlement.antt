@@ -1,20 +1,21 @@
--- What units are paid, what loads pay, what is left, and what limits earn.
+-- What units are paid, for energy and for reserve, what loads pay, what is left, and what limits earn.
 -- Schweppe and others, Spot Pricing of Electricity: the merchandising surplus. The offsets in rents are own.
 use Rattle.std.specs.Prelude.{ℕ, List, [], ◌∷◌, length, map, ◌++◌}
 use Rattle.fraction_theory.specs.Fraction.{Fraction, neg_ℚ, ◌+ℚ◌, ◌-ℚ◌}
 use Rattle.fraction_theory.specs.Sums.{Term, Plain, Product, term_value, total}
 use Rattle.market_model.specs.declared.answered.Load.{Load}
+use Rattle.market_model.specs.declared.answered.ReservePay.{ReservePay}
 use Rattle.market_model.specs.declared.answered.UnitPay.{UnitPay}
 use Rattle.market_model.specs.declared.participants.Parts.{Parts}
 use Rattle.market_model.specs.declared.answered.Duals.{Duals}
-use Rattle.market_model.specs.Dispatch.{Dispatch, places, output, demand}
+use Rattle.market_model.specs.Dispatch.{Dispatch, places, output, demand, reserved}
 use Rattle.market_model.specs.Optimality.{bus_price, own_price, up_of, down_of}
 use Rattle.market_model.specs.declared.limits.Row.{Row}
 use Rattle.market_model.specs.LimitRows.{Carried, carried, flow_by, limit, row_offset}
 use Rattle.market_model.specs.Overrun.{excess_by}
 
 -- ---- at prices by bus, and the prices of rows
--- what a unit is paid: its own price for its output
+-- what a unit is paid for energy: its own price for its output
 abbrev pub unit_term : Parts → Dispatch → (ℕ → Fraction) → Duals Fraction → ℕ → Term
 unit_term m x price d u = Product (own_price m d price u) (output m x u)
 
@@ -42,8 +43,15 @@ left_terms m x price d =
     map (load_term m price) (places (length m.buses))
     ++ map (λ u. Product (neg_ℚ (own_price m d price u)) (output m x u)) (places (length m.units))
 
+-- what an offer of reserve is paid: the price of reserve for what is accepted of it
+abbrev pub reserve_term : Dispatch → Duals Fraction → ℕ → Term
+reserve_term x d n = Product d.reserve (reserved x n)
+
+abbrev pub pay_of_reserve : Dispatch → Duals Fraction → ℕ → ReservePay Fraction
+pay_of_reserve x d n = record { mw = reserved x n; paid = term_value (reserve_term x d n) }
+
 -- ---- at the prices of duals
--- what a unit is paid for its output
+-- what a unit is paid for energy
 unfoldable pub paid : Parts → Dispatch → Duals Fraction → ℕ → Fraction
 paid m x d u = (pay_of_unit m x (bus_price m d) d u).paid
 
@@ -54,7 +62,7 @@ pays m d i = (pay_of_load m (bus_price m d) i).pays
 abbrev pub surplus_terms : Parts → Dispatch → Duals Fraction → List Term
 surplus_terms m x d = left_terms m x (bus_price m d) d
 
--- what loads pay less what units are paid
+-- what loads pay less what units are paid for energy
 unfoldable pub surplus : Parts → Dispatch → Duals Fraction → Fraction
 surplus m x d = total (surplus_terms m x d)
 

@@ -1,6 +1,6 @@
 -- The sums of a market that are added up, each by its terms in order and in one place. A part is some of them, or other parts together.
 -- Wood and Wollenberg: injections and flows; Schweppe and others, Spot Pricing of Electricity: prices and money.
-use Rattle.std.specs.Prelude.{◌≡◌, ◌≢◌, ◌⊎◌, ℕ, ◌<◌, List, length, Contains}
+use Rattle.std.specs.Prelude.{◌≡◌, ◌≢◌, ◌⊎◌, ℕ, ◌<◌, List, [], ◌∷◌, length, Contains}
 use Rattle.fraction_theory.specs.Fraction.{Fraction}
 use Rattle.fraction_theory.specs.Sums.{Term}
 use Rattle.exact_fraction.specs.declared.Passed.{Passed}
@@ -12,8 +12,9 @@ use Rattle.market_model.specs.Dispatch.{Dispatch, injection, injection_terms, ba
 use Rattle.market_model.specs.Infeasibility.{farkas_terms}
 use Rattle.market_model.specs.LimitRows.{Carried, carried, rows, line_terms, flow_by, flow_terms, lost_unit, offset_terms, factor_terms, pickup_terms, row_offset}
 use Rattle.market_model.specs.NamedSums.{IsRefusedIn}
-use Rattle.market_model.specs.Optimality.{bus_price, congestion_terms, named_rows, own_terms, price_terms}
-use Rattle.market_model.specs.Settlement.{left_terms, load_terms, lower_terms, priced_flow, rent_terms, unit_terms, upper_terms}
+use Rattle.market_model.specs.Optimality.{bus_price, congestion_terms, named_rows, own_terms, price_terms, reserve_worth_terms, worth_terms}
+use Rattle.market_model.specs.Reserves.{reserve_terms, reserve_units, room_terms}
+use Rattle.market_model.specs.Settlement.{left_terms, load_terms, lower_terms, priced_flow, rent_terms, reserve_term, unit_terms, upper_terms}
 
 -- an operation refused where one of these sums is added up
 abbrev pub IsRefusedAmong : (List Term → Type 0) → ℕ → Passed Fraction → Type 0
@@ -83,6 +84,11 @@ IsFactorRefusal m g bound p = (r : Row) × Contains g r × IsRefusedAmong (Facto
 pub data OutputSum (m : Parts) (x : Dispatch) : List Term → Type 0 where
   output_of_unit : (u : ℕ) → u < length m.units → OutputSum m x (output_terms m x u)
 
+-- of a dispatch: the reserve that is accepted in all, and what a unit that offers some uses of its room
+pub data ReserveSum (m : Parts) (x : Dispatch) : List Term → Type 0 where
+  reserve_of_all : ReserveSum m x (reserve_terms m x)
+  room_of_unit : (u : ℕ) → Contains (reserve_units m) u → ReserveSum m x (room_terms m x u)
+
 -- ---- prices
 -- of duals: what limits take from the price at a bus, and that price
 pub data BusPriceSum (m : Parts) (d : Duals Fraction) (i : ℕ) : List Term → Type 0 where
@@ -98,6 +104,11 @@ pub data PriceSum (m : Parts) (d : Duals Fraction) : List Term → Type 0 where
   price_of_bus : (i : ℕ) (terms : List Term) → i < length m.buses → BusPriceSum m d i terms → PriceSum m d terms
   price_of_unit : (terms : List Term) → OwnPriceSum m d (bus_price m d) terms → PriceSum m d terms
 
+-- of a unit that offers reserve: what a MW of its energy is worth, and of its reserve
+pub data WorthSum (m : Parts) (d : Duals Fraction) : List Term → Type 0 where
+  energy_of_unit : (u : ℕ) → Contains (reserve_units m) u → WorthSum m d (worth_terms m d u)
+  reserve_of_unit : (u : ℕ) → Contains (reserve_units m) u → WorthSum m d (reserve_worth_terms m d u)
+
 -- an operation refused in the prices at buses and of units: in one of their sums, or in the factor of a row that duals name
 abbrev pub IsRefusedInPrices : Parts → Duals Fraction → ℕ → Passed Fraction → Type 0
 IsRefusedInPrices m d bound p = IsRefusedAmong (PriceSum m d) bound p ⊎ IsFactorRefusal m (named_rows m d) bound p
@@ -107,12 +118,13 @@ pub data BoundSum (m : Parts) (d : Duals Fraction) : List Term → Type 0 where
   farkas_bound_of_all : BoundSum m d (farkas_terms m d)
 
 -- ---- money
--- of payments at prices by bus: what a load pays, what a unit is paid, what is left, and the rents of the rows that duals name
+-- of payments at prices by bus: what a load pays, what a unit is paid, what is left, the rents of the rows that duals name, and what an offer of reserve is paid
 pub data PaymentSum (m : Parts) (x : Dispatch) (price : ℕ → Fraction) (d : Duals Fraction) : List Term → Type 0 where
   paid_by_load : (i : ℕ) → i < length m.buses → PaymentSum m x price d (load_terms m price i)
   paid_to_unit : (u : ℕ) → u < length m.units → PaymentSum m x price d (unit_terms m x price d u)
   left_of_all : PaymentSum m x price d (left_terms m x price d)
   rent_of_row : (r : Row) → Contains (named_rows m d) r → PaymentSum m x price d (rent_terms m x d r)
+  paid_for_reserve : (n : ℕ) → n < length m.reserve.offers → PaymentSum m x price d (reserve_term x d n ∷ [])
 
 -- of a row whose prices are paid, where this is carried: its flow after an outage, its fixed offset, and what each of its prices is paid for
 pub data PaidRowSum (m : Parts) (c : Carried) (r : Row) : List Term → Type 0 where

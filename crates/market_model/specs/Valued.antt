@@ -1,10 +1,12 @@
 -- An answer with each number as the fraction that it stands for.
-use Rattle.std.specs.Prelude.{ℕ, List, map, slice_index_or}
+use Rattle.std.specs.Prelude.{ℕ, List, [], map, slice_index_or}
 use Rattle.fraction_theory.specs.Fraction.{Fraction}
 use Rattle.market_model.specs.declared.answered.Dual.{Dual}
 use Rattle.market_model.specs.declared.answered.Duals.{Duals}
 use Rattle.market_model.specs.declared.answered.Price.{Price}
 use Rattle.market_model.specs.declared.answered.UnitPay.{UnitPay}
+use Rattle.market_model.specs.declared.answered.ReservePay.{ReservePay}
+use Rattle.market_model.specs.declared.answered.RoomDual.{RoomDual}
 use Rattle.market_model.specs.declared.answered.Load.{Load}
 use Rattle.market_model.specs.declared.answered.Rent.{Rent}
 use Rattle.market_model.specs.declared.answered.Money.{Money}
@@ -18,8 +20,15 @@ use Rattle.market_model.specs.Dispatch.{zero}
 abbrev pub dual_at : {N : Type 0} → (N → Fraction) → Dual N → Dual Fraction
 dual_at value d = record { row = d.row; up = value d.up; down = value d.down }
 
+abbrev pub room_dual_at : {N : Type 0} → (N → Fraction) → RoomDual N → RoomDual Fraction
+room_dual_at value d = record { unit = d.unit; price = value d.price }
+
+-- duals of energy alone
+abbrev pub energy_duals : Fraction → List (Dual Fraction) → Duals Fraction
+energy_duals energy limits = record { energy = energy; limits = limits; reserve = zero; rooms = [] }
+
 abbrev pub duals_at : {N : Type 0} → (N → Fraction) → Duals N → Duals Fraction
-duals_at value d = record { energy = value d.energy; limits = map (dual_at value) d.limits }
+duals_at value d = record { energy = value d.energy; limits = map (dual_at value) d.limits; reserve = value d.reserve; rooms = map (room_dual_at value) d.rooms }
 
 abbrev pub price_at : {N : Type 0} → (N → Fraction) → Price N → Price Fraction
 price_at value p = record { energy = value p.energy; congestion = value p.congestion; total = value p.total }
@@ -30,6 +39,9 @@ total_at value prices bus = slice_index_or (map (λ p. value p.total) prices) bu
 
 abbrev pub unit_pay_at : {N : Type 0} → (N → Fraction) → UnitPay N → UnitPay Fraction
 unit_pay_at value p = record { mw = value p.mw; paid = value p.paid }
+
+abbrev pub reserve_pay_at : {N : Type 0} → (N → Fraction) → ReservePay N → ReservePay Fraction
+reserve_pay_at value p = record { mw = value p.mw; paid = value p.paid }
 
 abbrev pub load_at : {N : Type 0} → (N → Fraction) → Load N → Load Fraction
 load_at value l = record { mw = value l.mw; pays = value l.pays }
@@ -44,11 +56,13 @@ money_at value m = record {
   loads = map (load_at value) m.loads;
   rents = map (rent_at value) m.rents;
   surplus = value m.surplus;
+  reserve = map (reserve_pay_at value) m.reserve;
 }
 
 abbrev pub answer_at : {N : Type 0} → (N → Fraction) → Answer N → Answer Fraction
 answer_at value a = record {
   dispatch = map value a.dispatch;
+  reserve = map value a.reserve;
   duals = duals_at value a.duals;
   prices = map (price_at value) a.prices;
   welfare = value a.welfare;

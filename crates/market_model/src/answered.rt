@@ -21,11 +21,21 @@ pub struct Dual<N> {
     pub down: N,
 }
 
-/// The price of energy, and of each limit that has one.
+/// The price of a unit's room, which its energy and its reserve share.
+#[derive(Clone, Copy, Debug)]
+pub struct RoomDual<N> {
+    /// The unit's row in the case's gen matrix.
+    pub unit: u32,
+    pub price: N,
+}
+
+/// The price of energy and of each limit that has one; and the price of reserve, and of each room that has one.
 #[derive(Drop, Debug)]
 pub struct Duals<N> {
     pub energy: N,
     pub limits: List<Dual<N>>,
+    pub reserve: N,
+    pub rooms: List<RoomDual<N>>,
 }
 
 /// A bus price in its two parts.
@@ -36,9 +46,16 @@ pub struct Price<N> {
     pub total: N,
 }
 
-/// A unit's output and what it is paid.
+/// A unit's output and what it is paid for it.
 #[derive(Clone, Copy, Debug)]
 pub struct UnitPay<N> {
+    pub mw: N,
+    pub paid: N,
+}
+
+/// The reserve that is accepted of an offer and what it is paid.
+#[derive(Clone, Copy, Debug)]
+pub struct ReservePay<N> {
     pub mw: N,
     pub paid: N,
 }
@@ -60,7 +77,7 @@ pub struct Rent<N> {
     pub rent: N,
 }
 
-/// The settlement: an entry for each live unit, each live bus and each limit with a dual.
+/// The settlement: an entry for each live unit, each lost one, each live bus, each limit with a dual and each offer of reserve.
 #[derive(Drop, Debug)]
 pub struct Money<N> {
     pub units: List<UnitPay<N>>,
@@ -68,8 +85,10 @@ pub struct Money<N> {
     pub own: List<N>,
     pub loads: List<Load<N>>,
     pub rents: List<Rent<N>>,
-    /// What loads pay less what units are paid.
+    /// What loads pay less what units are paid for energy.
     pub surplus: N,
+    /// One for each offer of reserve.
+    pub reserve: List<ReservePay<N>>,
 }
 
 /// A cleared market.
@@ -77,6 +96,8 @@ pub struct Money<N> {
 pub struct Answer<N> {
     /// The accepted MW of each block.
     pub dispatch: List<N>,
+    /// The accepted MW of each offer of reserve.
+    pub reserve: List<N>,
     pub duals: Duals<N>,
     /// One for each live bus.
     pub prices: List<Price<N>>,

@@ -7,7 +7,7 @@ use plain_list::{List, Memory};
 use std::alloc::Global;
 use std::marker::Model;
 
-/// The market of one interval.
+/// The market of one interval. It is of energy alone for now: no reserve is cleared.
 #[derive(Drop, Debug)]
 pub struct Market {
     parts: Parts,
@@ -22,17 +22,18 @@ pub struct Market {
 }
 
 impl Model for Market {
-    ghost use Rattle.std.specs.Prelude.{length};
+    ghost use Rattle.std.specs.Prelude.{◌≡◌, length};
     ghost use Rattle.market_model.specs.declared.participants.Parts.{Parts};
     ghost use Rattle.market_model.specs.Factors.{factor_in, IsTable};
     ghost use Rattle.market_model.specs.LostLines.{AreLostLines};
     ghost use Rattle.market_model.specs.Market.{IsMarket};
+    ghost use Rattle.market_model.specs.Reserves.{no_reserve};
 
     ghost Value = { Parts };
 
     ghost view = { λ m. m.parts };
 
-    ghost invariant = { λ m. IsMarket m.parts × IsTable (length m.parts.lines) (length m.parts.buses) (factor_in m.parts.shift) m.shift.items × AreLostLines m.parts m.lost m.index.items m.loss.items };
+    ghost invariant = { λ m. IsMarket m.parts × IsTable (length m.parts.lines) (length m.parts.buses) (factor_in m.parts.shift) m.shift.items × AreLostLines m.parts m.lost m.index.items m.loss.items × (m.parts.reserve ≡ no_reserve) };
 }
 
 impl Market {
@@ -43,12 +44,14 @@ impl Market {
     ghost use Rattle.market_model.specs.Factors.{factor_in};
     ghost use Rattle.market_model.specs.LimitRows.{limit_of, lost_lines, place_of_line};
     ghost use Rattle.market_model.specs.Market.{IsMarket};
+    ghost use Rattle.market_model.specs.Reserves.{no_reserve};
     ghost use Rattle.market_model.specs.Stairs.{stair_in, offered, room_of};
 
     /// The live buses, in the order in which they were given.
     pub fn buses(&self) -> &List<Bus>
         ensures list { result.now ≡ self.now.buses }
         ensures market { IsMarket self.now }
+        ensures energy_alone { self.now.reserve ≡ no_reserve }
     {
         &self.parts.buses
     }
@@ -57,6 +60,7 @@ impl Market {
     pub fn units(&self) -> &List<Unit>
         ensures list { result.now ≡ self.now.units }
         ensures market { IsMarket self.now }
+        ensures energy_alone { self.now.reserve ≡ no_reserve }
     {
         &self.parts.units
     }
@@ -65,6 +69,7 @@ impl Market {
     pub fn blocks(&self) -> &List<Block>
         ensures list { result.now ≡ self.now.blocks }
         ensures market { IsMarket self.now }
+        ensures energy_alone { self.now.reserve ≡ no_reserve }
     {
         &self.parts.blocks
     }
@@ -73,6 +78,7 @@ impl Market {
     pub fn lines(&self) -> &List<Line>
         ensures list { result.now ≡ self.now.lines }
         ensures market { IsMarket self.now }
+        ensures energy_alone { self.now.reserve ≡ no_reserve }
     {
         &self.parts.lines
     }
@@ -81,6 +87,7 @@ impl Market {
     pub fn outages(&self) -> &List<u32>
         ensures list { result.now ≡ self.now.outages }
         ensures market { IsMarket self.now }
+        ensures energy_alone { self.now.reserve ≡ no_reserve }
     {
         &self.parts.outages
     }
@@ -89,6 +96,7 @@ impl Market {
     pub fn lost_lines(&self) -> &List<usize>
         ensures list { result.now ≡ lost_lines self.now }
         ensures market { IsMarket self.now }
+        ensures energy_alone { self.now.reserve ≡ no_reserve }
     {
         &self.lost
     }
@@ -97,6 +105,7 @@ impl Market {
     pub fn unit_outages(&self) -> &List<usize>
         ensures list { result.now ≡ self.now.unit_outages }
         ensures market { IsMarket self.now }
+        ensures energy_alone { self.now.reserve ≡ no_reserve }
     {
         &self.parts.unit_outages
     }
@@ -105,6 +114,7 @@ impl Market {
     pub fn pickups(&self) -> &List<Pickup>
         ensures list { result.now ≡ self.now.pickups }
         ensures market { IsMarket self.now }
+        ensures energy_alone { self.now.reserve ≡ no_reserve }
     {
         &self.parts.pickups
     }
@@ -197,6 +207,7 @@ impl Market {
 ghost use Rattle.std.specs.Prelude.{◌≡◌, IfOk};
 ghost use Rattle.market_model.specs.Changes.{line_with};
 ghost use Rattle.market_model.specs.Market.{IsMarket};
+ghost use Rattle.market_model.specs.Reserves.{no_reserve};
 
 /// A line with another limit.
 fn limited(line: Line, post: bool, mw: i64) -> Line
@@ -217,7 +228,7 @@ fn limited(line: Line, post: bool, mw: i64) -> Line
 
 /// The market of these parts. They are dropped where memory is refused.
 pub fn assemble(alloc: Global, parts: Parts) -> Result<Market, Memory>
-    requires { IsMarket parts }
+    requires { IsMarket parts × (parts.reserve ≡ no_reserve) }
     ensures { IfOk result (λ m. m ≡ parts) }
 {
     let lines = parts.lines.len();

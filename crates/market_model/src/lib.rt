@@ -15,13 +15,16 @@ mod stops;
 
 pub use amounts::{datum, zeros};
 pub use answered::{
-    Answer, Dual, Duals, Farkas, Load, Money, Outcome, Price, Rent, RowId, UnitPay,
+    Answer, Dual, Duals, Farkas, Load, Money, Outcome, Price, Rent, ReservePay, RoomDual, RowId,
+    UnitPay,
 };
 pub use assembled::{Market, assemble};
 pub use blocks::{block_price, block_quantity, block_value, by_side};
 pub use limits::{Cause, Row};
 pub use market_data::{Bus, FactorPlaces, MONEY_PLACES, MW_PLACES, PRICE_PLACES, Unit, UnitList};
-pub use participants::{Block, Factor, Line, Parts, Pickup, Side, TransmissionRight};
+pub use participants::{
+    Block, Factor, Line, Parts, Pickup, Reserve, ReserveOffer, Side, TransmissionRight,
+};
 pub use plain_list::{List, Memory};
 pub use putting::{balance, injections, output};
 pub use stops::Stop;

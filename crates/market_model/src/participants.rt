@@ -3,6 +3,7 @@
 ghost use Rattle.std.specs.Prelude.{◌≡◌};
 ghost use Rattle.market_model.specs.Lines.{hard_line};
 ghost use Rattle.market_model.specs.Market.{bare_parts};
+ghost use Rattle.market_model.specs.Reserves.{no_reserve};
 
 use market_data::{Bus, FactorPlaces, Unit};
 use plain_list::List;
@@ -87,6 +88,40 @@ pub struct Pickup {
     pub share: i64,
 }
 
+/// What a unit offers to keep ready beside what it puts out (spinning reserve).
+#[derive(Clone, Copy, PartialEq, Eq, Debug)]
+pub struct ReserveOffer {
+    /// The place of its unit among the live units.
+    pub unit: usize,
+    /// In 10^-9 MW.
+    pub quantity: i64,
+    /// In 10^-6 per MWh. It may be negative.
+    pub price: i64,
+}
+
+/// Spinning reserve: what units offer of it, and how much is needed.
+#[derive(Drop, Debug)]
+pub struct Reserve {
+    /// Whether it is cleared together with energy; where not, none is offered or needed.
+    pub listed: bool,
+    pub offers: List<ReserveOffer>,
+    /// In 10^-9 MW.
+    pub need: i64,
+}
+
+impl Reserve {
+    /// That of a market of energy alone.
+    pub fn none(alloc: Global) -> Reserve
+        ensures { result ≡ no_reserve }
+    {
+        Reserve {
+            listed: false,
+            offers: List::new(alloc),
+            need: 0,
+        }
+    }
+}
+
 /// A right to what limits earn (financial transmission right): it is paid, for so many MW, the price where it ends less that where it
 /// begins.
 #[derive(Clone, Copy, PartialEq, Eq, Debug)]
@@ -118,6 +153,7 @@ pub struct Parts {
     pub pickups: List<Pickup>,
     /// How many decimal places a factor in the tables may have.
     pub places: FactorPlaces,
+    pub reserve: Reserve,
 }
 
 impl Parts {
@@ -136,6 +172,7 @@ impl Parts {
             unit_outages: List::new(alloc),
             pickups: List::new(alloc),
             places: FactorPlaces::Six,
+            reserve: Reserve::none(alloc),
         }
     }
 }

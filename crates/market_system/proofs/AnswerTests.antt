@@ -1,7 +1,7 @@
 -- Tests that compute whether an answer with its numbers written out is right, and what they show.
 use Rattle.std.specs.Prelude.{◌≡◌, ◌⊎◌, ℕ, ◌<◌, ◌==◌, ◌&&◌, ◌||◌, ℤ, pos, ◌*ℤ◌, ◌≤ℤ◌, ◌<ℤ◌, int_le, int_lt, Bool, true, false, List, [], ◌∷◌, length, map, All, Contains, refl}
 use Rattle.std.specs.List.{list_all}
-use Rattle.std.proofs.Common.{arith, inl, inr, sym, subst}
+use Rattle.std.proofs.Common.{arith, inl, inr, sym, subst, ◌∙◌}
 use Rattle.std.proofs.lemmas.Bool.{true≢false, eqb-true, and_parts, or_cases}
 use Rattle.std.proofs.lemmas.Int.{ints}
 use Rattle.std.proofs.lemmas.List.Elements.{All-cons, All-nil, All-contains}
@@ -15,16 +15,19 @@ use Rattle.market_model.specs.declared.answered.Farkas.{Farkas}
 use Rattle.market_model.specs.declared.answered.Load.{Load}
 use Rattle.market_model.specs.declared.answered.Price.{Price}
 use Rattle.market_model.specs.declared.answered.Rent.{Rent}
+use Rattle.market_model.specs.declared.answered.ReservePay.{ReservePay}
+use Rattle.market_model.specs.declared.answered.RoomDual.{RoomDual}
 use Rattle.market_model.specs.declared.answered.RowId.{RowId}
 use Rattle.market_model.specs.declared.answered.UnitPay.{UnitPay}
 use Rattle.market_model.specs.declared.participants.Parts.{Parts}
 use Rattle.market_model.specs.declared.participants.Side.{Side}
 use Rattle.market_model.specs.declared.participants.Side.TheVariants.{Sell, Buy}
-use Rattle.market_model.specs.Dispatch.{Dispatch, zero, places, block_at, accepted, quantity, balance}
+use Rattle.market_model.specs.Dispatch.{Dispatch, zero, places, block_at, offer_at, unit_at, accepted, quantity, reserved, reserve_quantity, balance}
 use Rattle.market_model.specs.Infeasibility.{IsFarkas, farkas_bound}
 use Rattle.market_model.specs.declared.limits.Row.{Row}
 use Rattle.market_model.specs.LimitRows.{rows, row_id, limit, penalty, flow, most_flow}
-use Rattle.market_model.specs.Optimality.{BlockSupported, Feasible, Gains, IsOneSided, Loses, ProperDuals, RowSupported, SideSupported, Supports, down_of, named_rows, price, same_id, unit_price, up_of}
+use Rattle.market_model.specs.Optimality.{BlockSupported, Feasible, Gains, IsOneSided, Loses, OfferSupported, ProperDuals, RoomSupported, RowSupported, SideSupported, Supports, down_of, energy_worth, named_rooms, named_rows, price, reserve_worth, room_price, same_id, up_of}
+use Rattle.market_model.specs.Reserves.{offer_places, reserve, reserve_need, offer_price, reserve_units, room, room_used}
 use Rattle.market_model.specs.RightAnswers.{IsRight, answer_of, dispatch_in}
 use Rattle.market_system.proofs.LawsOfSolving.{law_of_the_answer}
 use Rattle.market_system.proofs.VariableLaws.{in_places}
@@ -101,20 +104,47 @@ is_within-true m x r e =
     let parts = both (at_most-true (neg_ℚ (most_flow m r)) (flow m x r)) (at_most-true (flow m x r) (most_flow m r)) e in
     record { above = parts.0; below = parts.1 }
 
-abbrev pub is_feasible : Parts → Dispatch → Bool
-is_feasible m x =
+abbrev is_reserved : Parts → Dispatch → ℕ → Bool
+is_reserved m x n = at_most zero (reserved x n) && at_most (reserved x n) (reserve_quantity m n)
+
+abbrev has_room : Parts → Dispatch → ℕ → Bool
+has_room m x u = at_most (room_used m x u) (room m u)
+
+abbrev is_energy_feasible : Parts → Dispatch → Bool
+is_energy_feasible m x =
     (length x.blocks == length m.blocks) && (list_all (is_accepted m x) (places (length m.blocks)) && (same (balance m x) zero && list_all (is_within m x) (rows m)))
+
+abbrev is_reserve_feasible : Parts → Dispatch → Bool
+is_reserve_feasible m x =
+    (length x.reserve == length m.reserve.offers) && (list_all (is_reserved m x) (offer_places m) && (at_most (reserve_need m) (reserve m x) && list_all (has_room m x) (reserve_units m)))
+
+abbrev pub is_feasible : Parts → Dispatch → Bool
+is_feasible m x = is_energy_feasible m x && is_reserve_feasible m x
 
 is_feasible-true : (m : Parts) (x : Dispatch) → is_feasible m x ≡ true → Feasible m x
 is_feasible-true m x e =
     let bounds = λ (j : ℕ). both (at_most-true zero (accepted x j)) (at_most-true (accepted x j) (quantity m j)) in
     let blocks = each_place (is_accepted m x) (λ j. (zero ≤ℚ accepted x j) × (accepted x j ≤ℚ quantity m j)) bounds (length m.blocks) in
     let limits = each_of (is_within m x) (λ r. Within (most_flow m r) (flow m x r)) (is_within-true m x) (rows m) in
-    let parts = both (eqb-true (length x.blocks) (length m.blocks)) (both blocks (both (same-true (balance m x) zero) limits)) e in
+    let energy = both (eqb-true (length x.blocks) (length m.blocks)) (both blocks (both (same-true (balance m x) zero) limits)) in
+    let reserve_bounds = λ (n : ℕ). both (at_most-true zero (reserved x n)) (at_most-true (reserved x n) (reserve_quantity m n)) in
+    let offers = each_place (is_reserved m x) (λ n. (zero ≤ℚ reserved x n) × (reserved x n ≤ℚ reserve_quantity m n)) reserve_bounds (length m.reserve.offers) in
+    let rooms = each_of (has_room m x) (λ u. room_used m x u ≤ℚ room m u) (λ u. at_most-true (room_used m x u) (room m u)) (reserve_units m) in
+    let of_reserve = both (eqb-true (length x.reserve) (length m.reserve.offers)) (both offers (both (at_most-true (reserve_need m) (reserve m x)) rooms)) in
+    let parts = both energy of_reserve e in
     record {
-      blocks = record { count = parts.0; above = λ j lt. (parts.1.0 j lt).0; within = λ j lt. (parts.1.0 j lt).1 };
-      balanced = parts.1.1.0;
-      limits = parts.1.1.1;
+      blocks = record {
+        count = parts.0.0;
+        above = λ j lt. (parts.0.1.0 j lt).0;
+        within = λ j lt. (parts.0.1.0 j lt).1;
+        reserve_count = parts.1.0;
+        reserve_above = λ n lt. (parts.1.1.0 n lt).0;
+        reserve_within = λ n lt. (parts.1.1.0 n lt).1;
+      };
+      balanced = parts.0.1.1.0;
+      limits = parts.0.1.1.1;
+      need = parts.1.1.1.0;
+      rooms = parts.1.1.1.1;
     }
 
 -- ---- supported
@@ -139,7 +169,7 @@ refutes_loss Sell p w e h = not_below w p e h
 refutes_loss Buy p w e h = not_below p w e h
 
 abbrev worth : Parts → Duals Fraction → ℕ → Fraction
-worth m d j = unit_price m d (block_at m j).unit
+worth m d j = energy_worth m d (block_at m j).unit
 
 abbrev is_block_supported : Parts → Dispatch → Duals Fraction → ℕ → Bool
 is_block_supported m x d j = (same (accepted x j) (quantity m j) || gains_not (block_at m j).side (price m j) (worth m d j))
@@ -182,15 +212,48 @@ is_row_supported-true m x d r e =
     let parts = both (is_side_supported-true m r (up_of m d r) (flow m x r)) (is_side_supported-true m r (down_of m d r) (neg_ℚ (flow m x r))) e in
     record { up = parts.0; down = parts.1 }
 
+abbrev is_offer_supported : Parts → Dispatch → Duals Fraction → ℕ → Bool
+is_offer_supported m x d n = (same (reserved x n) (reserve_quantity m n) || at_most (reserve_worth m d (offer_at m n).unit) (offer_price m n))
+    && (same (reserved x n) zero || at_most (offer_price m n) (reserve_worth m d (offer_at m n).unit))
+
+is_offer_supported-true : (m : Parts) (x : Dispatch) (d : Duals Fraction) (n : ℕ) → is_offer_supported m x d n ≡ true → OfferSupported m x d n
+is_offer_supported-true m x d n e =
+    let full = same_or (reserved x n) (reserve_quantity m n) (not_below (offer_price m n) (reserve_worth m d (offer_at m n).unit)) in
+    let empty = same_or (reserved x n) zero (not_below (reserve_worth m d (offer_at m n).unit) (offer_price m n)) in
+    let parts = both full empty e in
+    record { full = parts.0; empty = parts.1 }
+
+-- a price of at least 0, and above 0 only where two numbers are the same
+abbrev binds_where : Fraction → Fraction → Fraction → Bool
+binds_where price a b = at_most zero price && (same a b || at_most price zero)
+
+binds_where-true : (price a b : Fraction) → binds_where price a b ≡ true → (zero ≤ℚ price) × (zero <ℚ price → a ≡ b)
+binds_where-true price a b e = both (at_most-true zero price) (same_or a b (not_below zero price)) e
+
+abbrev is_room_supported : Parts → Dispatch → Duals Fraction → ℕ → Bool
+is_room_supported m x d u = binds_where (room_price m d u) (room_used m x u) (room m u)
+
+is_room_supported-true : (m : Parts) (x : Dispatch) (d : Duals Fraction) (u : ℕ) → is_room_supported m x d u ≡ true → RoomSupported m x d u
+is_room_supported-true m x d u e = let parts = binds_where-true (room_price m d u) (room_used m x u) (room m u) e in record { sign = parts.0; used_up = parts.1 }
+
 abbrev pub is_supported : Parts → Dispatch → Duals Fraction → Bool
-is_supported m x d = list_all (is_block_supported m x d) (places (length m.blocks)) && list_all (is_row_supported m x d) (rows m)
+is_supported m x d = (list_all (is_block_supported m x d) (places (length m.blocks)) && list_all (is_row_supported m x d) (rows m))
+    && (list_all (is_offer_supported m x d) (offer_places m) && (binds_where d.reserve (reserve m x) (reserve_need m) && list_all (is_room_supported m x d) (reserve_units m)))
 
 is_supported-true : (m : Parts) (x : Dispatch) (d : Duals Fraction) → is_supported m x d ≡ true → Supports m x d
 is_supported-true m x d e =
     let blocks = each_place (is_block_supported m x d) (BlockSupported m x d) (is_block_supported-true m x d) (length m.blocks) in
     let limits = each_of (is_row_supported m x d) (RowSupported m x d) (is_row_supported-true m x d) (rows m) in
-    let parts = both blocks limits e in
-    record { blocks = parts.0; rows = parts.1 }
+    let offers = each_place (is_offer_supported m x d) (OfferSupported m x d) (is_offer_supported-true m x d) (length m.reserve.offers) in
+    let rooms = each_of (is_room_supported m x d) (RoomSupported m x d) (is_room_supported-true m x d) (reserve_units m) in
+    let parts = both (both blocks limits) (both offers (both (binds_where-true d.reserve (reserve m x) (reserve_need m)) rooms)) e in
+    record {
+      blocks = parts.0.0;
+      rows = parts.0.1;
+      offers = parts.1.0;
+      need = record { sign = parts.1.1.0.0; met = parts.1.1.0.1 };
+      rooms = parts.1.1.1;
+    }
 
 -- ---- proper duals
 same_id-true : (a b : RowId) → same_id a b ≡ true → a ≡ b
@@ -208,14 +271,21 @@ is_one_sided-true d e =
     let parts = both (has_prices-true d.up d.down) (either up down) e in
     record { up = parts.0.0; down = parts.0.1; one = parts.1 }
 
+-- a number is 0 where none is asked for
+nil_unless : (asked : Bool) (x : Fraction) → (asked || same x zero) ≡ true → asked ≡ false → x ≡ zero
+nil_unless asked x e none = elim (or_cases asked (same x zero) e) [ inl h ↦ absurd (true≢false (sym h ∙ none)) | inr h ↦ same-true x zero h ]
+
 abbrev pub are_proper : Parts → Duals Fraction → Bool
-are_proper m d = same_list same_id (map (λ e. e.row) d.limits) (map (row_id m) (named_rows m d)) && list_all is_one_sided d.limits
+are_proper m d = (same_list same_id (map (λ e. e.row) d.limits) (map (row_id m) (named_rows m d)) && list_all is_one_sided d.limits)
+    && (same_list ◌==◌ (map (λ e. e.unit) d.rooms) (map (λ u. (unit_at m u).row) (named_rooms m d)) && (list_all (λ e. below zero e.price) d.rooms && (m.reserve.listed || same d.reserve zero)))
 
 are_proper-true : (m : Parts) (d : Duals Fraction) → are_proper m d ≡ true → ProperDuals m d
 are_proper-true m d e =
     let named = same_list-true same_id same_id-true (map (λ e. e.row) d.limits) (map (row_id m) (named_rows m d)) in
-    let parts = both named (all_of is_one_sided IsOneSided is_one_sided-true d.limits) e in
-    record { named = parts.0; one_sided = parts.1 }
+    let rooms = same_list-true ◌==◌ eqb-true (map (λ e. e.unit) d.rooms) (map (λ u. (unit_at m u).row) (named_rooms m d)) in
+    let priced = all_of (λ (r : RoomDual Fraction). below zero r.price) (λ (r : RoomDual Fraction). zero <ℚ r.price) (λ r. below-true zero r.price) d.rooms in
+    let parts = both (both named (all_of is_one_sided IsOneSided is_one_sided-true d.limits)) (both rooms (both priced (nil_unless m.reserve.listed d.reserve))) e in
+    record { named = parts.0.0; one_sided = parts.0.1; rooms_named = parts.1.0; rooms_priced = parts.1.1.0; energy_alone = parts.1.1.1 }
 
 -- ---- an answer
 abbrev same_price : Price Fraction → Price Fraction → Bool
@@ -231,6 +301,12 @@ same_pay a b = same a.mw b.mw && same a.paid b.paid
 
 same_pay-true : (a b : UnitPay Fraction) → same_pay a b ≡ true → a ≡ b
 same_pay-true a b e = let parts = both (same-true a.mw b.mw) (same-true a.paid b.paid) e in λ i. record { mw = parts.0 i; paid = parts.1 i }
+
+abbrev same_reserve_pay : ReservePay Fraction → ReservePay Fraction → Bool
+same_reserve_pay a b = same a.mw b.mw && same a.paid b.paid
+
+same_reserve_pay-true : (a b : ReservePay Fraction) → same_reserve_pay a b ≡ true → a ≡ b
+same_reserve_pay-true a b e = let parts = both (same-true a.mw b.mw) (same-true a.paid b.paid) e in λ i. record { mw = parts.0 i; paid = parts.1 i }
 
 abbrev same_load : Load Fraction → Load Fraction → Bool
 same_load a b = same a.mw b.mw && same a.pays b.pays
@@ -249,7 +325,8 @@ same_rent-true a b e =
 -- prices, welfare and settlement are the same
 abbrev pub same_money : Answer Fraction → Answer Fraction → Bool
 same_money a b = same_list same_price a.prices b.prices && (same a.welfare b.welfare && (same_list same_pay a.money.units b.money.units
-    && (same_list same a.money.own b.money.own && (same_list same_load a.money.loads b.money.loads && (same_list same_rent a.money.rents b.money.rents && same a.money.surplus b.money.surplus)))))
+    && (same_list same a.money.own b.money.own && (same_list same_load a.money.loads b.money.loads && (same_list same_rent a.money.rents b.money.rents
+    && (same a.money.surplus b.money.surplus && same_list same_reserve_pay a.money.reserve b.money.reserve))))))
 
 -- an answer with the prices, the welfare and the settlement that its dispatch and duals make
 abbrev pub made_of : Parts → Answer Fraction → Answer Fraction
@@ -263,14 +340,23 @@ same_money-true m a e =
     let own = same_list-true same same-true b.money.own a.money.own in
     let loads = same_list-true same_load same_load-true b.money.loads a.money.loads in
     let rents = same_list-true same_rent same_rent-true b.money.rents a.money.rents in
-    let settled = both units (both own (both loads (both rents (same-true b.money.surplus a.money.surplus)))) in
+    let reserve_pays = same_list-true same_reserve_pay same_reserve_pay-true b.money.reserve a.money.reserve in
+    let settled = both units (both own (both loads (both rents (both (same-true b.money.surplus a.money.surplus) reserve_pays)))) in
     let parts = both prices (both (same-true b.welfare a.welfare) settled) e in
     λ i. record {
       dispatch = a.dispatch;
+      reserve = a.reserve;
       duals = a.duals;
       prices = parts.0 i;
       welfare = parts.1.0 i;
-      money = record { units = parts.1.1.0 i; own = parts.1.1.1.0 i; loads = parts.1.1.1.1.0 i; rents = parts.1.1.1.1.1.0 i; surplus = parts.1.1.1.1.1.1 i };
+      money = record {
+        units = parts.1.1.0 i;
+        own = parts.1.1.1.0 i;
+        loads = parts.1.1.1.1.0 i;
+        rents = parts.1.1.1.1.1.0 i;
+        surplus = parts.1.1.1.1.1.1.0 i;
+        reserve = parts.1.1.1.1.1.1.1 i;
+      };
     }
 
 -- an answer that passes all of these is right
@@ -285,17 +371,28 @@ right_by m a feasible supported proper money =
 abbrev has_prices_at : Parts → Duals Fraction → Row → Bool
 has_prices_at m d r = has_prices (up_of m d r) (down_of m d r)
 
+abbrev has_room_price : Parts → Duals Fraction → ℕ → Bool
+has_room_price m d u = at_most zero (room_price m d u)
+
 abbrev pub shows_infeasible : Parts → Farkas Fraction → Bool
-shows_infeasible m f = list_all (has_prices_at m f.duals) (rows m) && (below f.bound zero && same f.bound (farkas_bound m f.duals))
+shows_infeasible m f =
+    list_all (has_prices_at m f.duals) (rows m) && (at_most zero f.duals.reserve && (list_all (has_room_price m f.duals) (reserve_units m) && (below f.bound zero && same f.bound (farkas_bound m f.duals))))
 
 -- duals with a bound that pass both tests show it
 pub infeasible_by : (m : Parts) (f : Farkas Fraction) → shows_infeasible m f ≡ true → are_proper m f.duals ≡ true → IsFarkas m f
 infeasible_by m f shows proper =
     let d = f.duals in
     let signs = each_of (has_prices_at m d) (λ r. (zero ≤ℚ up_of m d r) × (zero ≤ℚ down_of m d r)) (λ r. has_prices-true (up_of m d r) (down_of m d r)) (rows m) in
-    let parts = both signs (both (below-true f.bound zero) (same-true f.bound (farkas_bound m d))) shows in
+    let rooms = each_of (has_room_price m d) (λ u. zero ≤ℚ room_price m d u) (λ u. at_most-true zero (room_price m d u)) (reserve_units m) in
+    let parts = both signs (both (at_most-true zero d.reserve) (both rooms (both (below-true f.bound zero) (same-true f.bound (farkas_bound m d))))) shows in
     record {
-      shows = record { up_signs = λ r c. (parts.0 r c).0; down_signs = λ r c. (parts.0 r c).1; below = subst (λ t. t <ℚ zero) parts.1.1 parts.1.0 };
+      shows = record {
+        up_signs = λ r c. (parts.0 r c).0;
+        down_signs = λ r c. (parts.0 r c).1;
+        need_sign = parts.1.0;
+        room_signs = parts.1.1.0;
+        below = subst (λ t. t <ℚ zero) parts.1.1.1.1 parts.1.1.1.0;
+      };
       proper = are_proper-true m d proper;
-      bound = parts.1.1;
+      bound = parts.1.1.1.1;
     }

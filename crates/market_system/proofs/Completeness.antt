@@ -14,6 +14,6 @@ pub law_of_the_numbers : LawOfTheNumbers
 law_of_the_numbers m taken bound fit p range =
     let pair = range.pair in
     elim pair.large.is_number [
-      | inl n ↦ fit range.rows pair.one pair.large.number range.reached pair.is_choice n pair.large.too_large
-      | inr n ↦ fit range.rows pair.near pair.large.number range.reached pair.near_is_choice n pair.large.too_large
+      | inl n ↦ fit range.over pair.one pair.large.number range.reached pair.is_choice n pair.large.too_large
+      | inr n ↦ fit range.over pair.near pair.large.number range.reached pair.near_is_choice n pair.large.too_large
     ]

@@ -13,19 +13,26 @@ use Rattle.fraction_theory.proofs.Ring.{by_ring, at, pnil, pone, pneg, ◌⊕◌
 use Rattle.fraction_theory.proofs.FieldLaws.{ring_ℚ}
 use Rattle.fraction_theory.proofs.OrderLaws.{≤ℚ_refl, ≤ℚ_of_same, <ℚ-≤ℚ, <ℚ_irrefl, by_le1, NonNeg-one}
 use Rattle.fraction_theory.proofs.SignLaws.{sign_of_is, part_at_least, part_at_most, part_least}
-use Rattle.fraction_theory.proofs.ListSums.{Contains-head, Contains-cons, filter-members}
+use Rattle.fraction_theory.proofs.ListSums.{kept, Contains-head, Contains-cons, Contains-filter, Contains-from_filter, filter-members}
 use Rattle.simplex_theory.proofs.Signs.{neg_above}
 use Rattle.market_model.specs.declared.answered.Dual.{Dual}
 use Rattle.market_model.specs.declared.answered.Duals.{Duals}
+use Rattle.market_model.specs.declared.answered.RoomDual.{RoomDual}
 use Rattle.market_model.specs.declared.answered.RowId.{RowId}
 use Rattle.market_model.specs.declared.participants.Parts.{Parts}
-use Rattle.market_model.specs.Dispatch.{zero as nil}
+use Rattle.market_model.specs.declared.participants.ReserveOffer.{ReserveOffer}
+use Rattle.market_model.specs.Dispatch.{zero as nil, places, unit_at}
 use Rattle.market_model.specs.declared.limits.Row.{Row}
 use Rattle.market_model.specs.LimitRows.{rows, row_id}
-use Rattle.market_model.specs.Optimality.{same_id, up_in, down_in, up_of, down_of, net_shadow_price, names_row, IsOneSided, ProperDuals}
+use Rattle.market_model.specs.Market.{IsMarket, IsReserveOffer}
+use Rattle.market_model.specs.Optimality.{Taken, same_id, up_in, down_in, up_of, down_of, net_shadow_price, names_row, room_price, room_price_in, names_room, IsOneSided, ProperDuals}
+use Rattle.market_model.specs.Reserves.{offers_among, offers_reserve, reserve_units}
+use Rattle.limit_rows.proofs.ApartLemmas.{unit_of_row}
 use Rattle.market_system.specs.Growth.{PricesOnly}
-use Rattle.market_system.specs.MarketSystem.{row_name, is_in, in_order, dual_by, duals_by_cost}
-use Rattle.market_system.proofs.RowOrder.{RowsApart, row_or_not, is_in-in, is_in-from, in_order-in, in_order-from, in_order-filter, and_true, same_number, same_row-not, same_row-itself}
+use Rattle.market_system.specs.MarketSystem.{row_name, room_name, need_name, is_in, in_order, is_among, rooms_in_order, dual_by, room_dual_by, duals_by_cost}
+use Rattle.market_system.proofs.RoomBounds.{reserve_unit-in}
+use Rattle.market_system.proofs.RowOrder.{RowsApart, row_or_not, is_in-in, is_in-from, in_order-in, in_order-from, in_order-filter, is_among-in, is_among-from, rooms_in_order-filter, and_true, same_number, same_row-not, same_row-itself}
+use Rattle.market_system.proofs.VariableLaws.{in_places}
 
 -- rows of a market have different names
 abbrev pub NamesApart : Parts → Type 0
@@ -144,6 +151,192 @@ one_is_nil x = by (sign_of x)
     by Below = inl refl
     by Zero = inl refl
     by Above = inr refl
+
+-- ---- units that offer reserve, and the rooms of some of them
+offers_among-offer : (os : List ReserveOffer) (u : ℕ) → offers_among os u ≡ true → (o : ReserveOffer) × Contains os o × (o.unit ≡ u)
+offers_among-offer [] u h = absurd Prim.cc
+offers_among-offer (o ∷ os) u h = by (eqb_tells o.unit u) h (offers_among-offer os u)
+  where
+    behind : (p : ReserveOffer) × Contains os p × (p.unit ≡ u) → (p : ReserveOffer) × Contains (o ∷ os) p × (p.unit ≡ u)
+    behind (p, c, e) = (p, Contains-cons o os p c, e)
+
+    by : ((o.unit == u ≡ true) × (o.unit ≡ u)) ⊎ ((o.unit == u ≡ false) × (o.unit ≢ u)) → ((o.unit == u) || offers_among os u) ≡ true
+        → (offers_among os u ≡ true → (p : ReserveOffer) × Contains os p × (p.unit ≡ u)) → (p : ReserveOffer) × Contains (o ∷ os) p × (p.unit ≡ u)
+    by (inl t) k more = (o, Contains-head o os, t.1)
+    by (inr t) k more = behind (more (sym (ap (λ (b : Bool). b || offers_among os u) t.0) ∙ k))
+
+-- a unit that offers reserve is one of the market's
+pub reserve_unit-below : (m : Parts) → IsMarket m → (u : ℕ) → offers_reserve m u ≡ true → u < length m.units
+reserve_unit-below m market u h =
+    let (o, c, e) = offers_among-offer m.reserve.offers u h in
+    let is : IsReserveOffer (length m.units) o = subst (IsReserveOffer (length m.units)) c.2 (market.reserve.each c.0 o c.1) in
+    subst (λ (w : ℕ). w < length m.units) e is.unit
+
+pub both_filters : {T : Type 0} (p q : T → Bool) (xs : List T) → filter q (filter p xs) ≡ filter (λ x. p x && q x) xs
+both_filters p q [] = refl
+both_filters {T} p q (r ∷ rs) = by (p r) (both_filters p q rs)
+  where
+    by : (b : Bool) → filter q (filter p rs) ≡ filter (λ x. p x && q x) rs → filter q (cond b (r ∷ filter p rs) (filter p rs)) ≡ cond (b && q r) (r ∷ filter (λ x. p x && q x) rs) (filter (λ x. p x && q x) rs)
+    by true more = ap (λ (rest : List T). cond (q r) (r ∷ rest) rest) more
+    by false more = more
+
+-- whether a unit's room is taken: it offers reserve, and is in the list
+abbrev pub takes_room : Parts → List ℕ → ℕ → Bool
+takes_room m ws u = offers_reserve m u && is_among ws u
+
+-- these are the units whose rooms are taken
+pub rooms_in_order-places : (m : Parts) (ws : List ℕ) → rooms_in_order m ws ≡ filter (takes_room m ws) (places (length m.units))
+rooms_in_order-places m ws = rooms_in_order-filter m ws ∙ both_filters (offers_reserve m) (is_among ws) (places (length m.units))
+
+among_kept : (p : ℕ → Bool) (xs : List ℕ) (u : ℕ) → Contains xs u → is_among (filter p xs) u ≡ p u
+among_kept p xs u c = by (p u) refl (is_among (filter p xs) u) refl
+  where
+    by : (b : Bool) → p u ≡ b → (t : Bool) → is_among (filter p xs) u ≡ t → is_among (filter p xs) u ≡ p u
+    by true e true f = f ∙ sym e
+    by true e false f = let wrong : true ≡ false = sym (is_among-in (filter p xs) u (Contains-filter p xs u c e)) ∙ f in absurd cc
+    by false e true f = let wrong : true ≡ false = sym (Contains-from_filter p xs u (is_among-from (filter p xs) u f)).1 ∙ e in absurd cc
+    by false e false f = f ∙ sym e
+
+-- ---- lists of prices of rooms
+priced_by : Sign → Bool
+priced_by Below = false
+priced_by Zero = false
+priced_by Above = true
+
+pub same_itself : (n : ℕ) → (n == n) ≡ true
+same_itself n = elim (eqb_tells n n) [ inl t ↦ t.0 | inr t ↦ absurd (t.1 refl) ]
+
+module _ (m : Parts) (market : IsMarket m) (cost_of : ℕ → Fraction) where
+  abbrev room_cost : ℕ → Fraction
+  room_cost u = cost_of (room_name m u)
+
+  abbrev room_duals_of : ℕ → List (RoomDual Fraction)
+  room_duals_of u = room_dual_by (unit_at m u).row (room_cost u) (sign_of (room_cost u))
+
+  abbrev room_duals : List ℕ → List (RoomDual Fraction)
+  room_duals ws = flat_map room_duals_of ws
+
+  rows_differ : (w u : ℕ) → w < length m.units → u < length m.units → w ≢ u → ((unit_at m w).row == (unit_at m u).row) ≡ false
+  rows_differ w u p q n = elim (eqb_tells (unit_at m w).row (unit_at m u).row) [ inl t ↦ absurd (n (unit_of_row m market w u p q t.1)) | inr t ↦ t.0 ]
+
+  price_in_list : (ws : List ℕ) → ((w : ℕ) → Contains ws w → w < length m.units) → (u : ℕ) → u < length m.units
+      → room_price_in (room_duals ws) (unit_at m u).row ≡ (if is_among ws u then part_above (room_cost u) else nil)
+  price_in_list [] all u lt = refl
+  price_in_list (w ∷ ws) all u lt = by (eqb_tells w u) (price_in_list ws (λ v c. all v (Contains-cons w ws v c)) u lt)
+    where
+      nothing : (b : Bool) → (if b then nil else nil) ≡ nil
+      nothing true = refl
+      nothing false = refl
+
+      at_head : (t : Sign) → sign_of (room_cost u) ≡ t → room_price_in (room_duals ws) (unit_at m u).row ≡ (if is_among ws u then part_above (room_cost u) else nil) → room_price_in (room_dual_by (unit_at m u).row (room_cost u) t ++ room_duals ws) (unit_at m u).row ≡ where_above t (room_cost u)
+      at_head Below e more = more ∙ ap (λ (s : Sign). if is_among ws u then where_above s (room_cost u) else nil) e ∙ nothing (is_among ws u)
+      at_head Zero e more = more ∙ ap (λ (s : Sign). if is_among ws u then where_above s (room_cost u) else nil) e ∙ nothing (is_among ws u)
+      at_head Above e more = ap (λ (b : Bool). if b then room_cost u else room_price_in (room_duals ws) (unit_at m u).row) (same_itself (unit_at m u).row)
+
+      skipped : w ≢ u → (t : Sign) → room_price_in (room_dual_by (unit_at m w).row (room_cost w) t ++ room_duals ws) (unit_at m u).row ≡ room_price_in (room_duals ws) (unit_at m u).row
+      skipped n Below = refl
+      skipped n Zero = refl
+      skipped n Above = ap (λ (b : Bool). if b then room_cost w else room_price_in (room_duals ws) (unit_at m u).row) (rows_differ w u (all w (Contains-head w ws)) lt n)
+
+      by : ((w == u ≡ true) × (w ≡ u)) ⊎ ((w == u ≡ false) × (w ≢ u)) → room_price_in (room_duals ws) (unit_at m u).row ≡ (if is_among ws u then part_above (room_cost u) else nil)
+          → room_price_in (room_duals_of w ++ room_duals ws) (unit_at m u).row ≡ (if (w == u) || is_among ws u then part_above (room_cost u) else nil)
+      by (inl t) more =
+          ap (λ (x : ℕ). room_price_in (room_duals_of x ++ room_duals ws) (unit_at m u).row) t.1
+          ∙ at_head (sign_of (room_cost u)) refl more
+          ∙ sym (ap (λ (b : Bool). if b || is_among ws u then part_above (room_cost u) else nil) t.0)
+      by (inr t) more =
+          skipped t.1 (sign_of (room_cost w)) ∙ more
+          ∙ sym (ap (λ (b : Bool). if b || is_among ws u then part_above (room_cost u) else nil) t.0)
+
+  named_room_in_list : (ws : List ℕ) → ((w : ℕ) → Contains ws w → w < length m.units) → (u : ℕ) → u < length m.units
+      → names_room (room_duals ws) (unit_at m u).row ≡ (is_among ws u && priced_by (sign_of (room_cost u)))
+  unfolding priced_by
+  named_room_in_list [] all u lt = refl
+  named_room_in_list (w ∷ ws) all u lt = by (eqb_tells w u) (named_room_in_list ws (λ v c. all v (Contains-cons w ws v c)) u lt)
+    where
+      nothing : (b : Bool) → (b && false) ≡ false
+      nothing true = refl
+      nothing false = refl
+
+      at_head : (t : Sign) → sign_of (room_cost u) ≡ t → names_room (room_duals ws) (unit_at m u).row ≡ (is_among ws u && priced_by (sign_of (room_cost u))) → names_room (room_dual_by (unit_at m u).row (room_cost u) t ++ room_duals ws) (unit_at m u).row ≡ priced_by t
+      at_head Below e more = more ∙ ap (λ (s : Sign). is_among ws u && priced_by s) e ∙ nothing (is_among ws u)
+      at_head Zero e more = more ∙ ap (λ (s : Sign). is_among ws u && priced_by s) e ∙ nothing (is_among ws u)
+      at_head Above e more = ap (λ (b : Bool). b || names_room (room_duals ws) (unit_at m u).row) (same_itself (unit_at m u).row)
+
+      skipped : w ≢ u → (t : Sign) → names_room (room_dual_by (unit_at m w).row (room_cost w) t ++ room_duals ws) (unit_at m u).row ≡ names_room (room_duals ws) (unit_at m u).row
+      skipped n Below = refl
+      skipped n Zero = refl
+      skipped n Above = ap (λ (b : Bool). b || names_room (room_duals ws) (unit_at m u).row) (rows_differ w u (all w (Contains-head w ws)) lt n)
+
+      by : ((w == u ≡ true) × (w ≡ u)) ⊎ ((w == u ≡ false) × (w ≢ u)) → names_room (room_duals ws) (unit_at m u).row ≡ (is_among ws u && priced_by (sign_of (room_cost u)))
+          → names_room (room_duals_of w ++ room_duals ws) (unit_at m u).row ≡ (((w == u) || is_among ws u) && priced_by (sign_of (room_cost u)))
+      by (inl t) more =
+          ap (λ (x : ℕ). names_room (room_duals_of x ++ room_duals ws) (unit_at m u).row) t.1
+          ∙ at_head (sign_of (room_cost u)) refl more
+          ∙ sym (ap (λ (b : Bool). (b || is_among ws u) && priced_by (sign_of (room_cost u))) t.0)
+      by (inr t) more =
+          skipped t.1 (sign_of (room_cost w)) ∙ more
+          ∙ sym (ap (λ (b : Bool). (b || is_among ws u) && priced_by (sign_of (room_cost u))) t.0)
+
+  rooms_named_of : (ws : List ℕ) → map (λ d. d.unit) (room_duals ws) ≡ map (λ u. (unit_at m u).row) (filter (λ u. priced_by (sign_of (room_cost u))) ws)
+  unfolding priced_by
+  rooms_named_of [] = refl
+  rooms_named_of (w ∷ ws) = by (sign_of (room_cost w)) (rooms_named_of ws)
+    where
+      by : (t : Sign) → map (λ d. d.unit) (room_duals ws) ≡ map (λ u. (unit_at m u).row) (filter (λ u. priced_by (sign_of (room_cost u))) ws)
+          → map (λ d. d.unit) (room_dual_by (unit_at m w).row (room_cost w) t ++ room_duals ws)
+          ≡ map (λ u. (unit_at m u).row) (cond (priced_by t) (w ∷ filter (λ u. priced_by (sign_of (room_cost u))) ws) (filter (λ u. priced_by (sign_of (room_cost u))) ws))
+      by Below more = more
+      by Zero more = more
+      by Above more = ap (λ rows. (unit_at m w).row ∷ rows) more
+
+  abbrev IsPriced : RoomDual Fraction → Type 0
+  IsPriced e = nil <ℚ e.price
+
+  rooms_priced_of : (ws : List ℕ) → All IsPriced (room_duals ws)
+  rooms_priced_of [] = All-nil IsPriced
+  rooms_priced_of (w ∷ ws) = All-append IsPriced (room_duals_of w) (room_duals ws) (by (sign_of (room_cost w)) refl) (rooms_priced_of ws)
+    where
+      by : (t : Sign) → t ≡ sign_of (room_cost w) → All IsPriced (room_dual_by (unit_at m w).row (room_cost w) t)
+      by Below e = All-nil IsPriced
+      by Zero e = All-nil IsPriced
+      by Above e = All-cons IsPriced (record { unit = (unit_at m w).row; price = room_cost w }) [] (sign_of_is (room_cost w) Above e) (All-nil IsPriced)
+
+  -- ---- of the rooms that are taken
+  module _ (t : Taken) where
+    -- what a MW on a unit's room costs, where it is taken
+    abbrev pub room_cost_of : ℕ → Fraction
+    room_cost_of u = kept (takes_room m t.rooms u) (cost_of (room_name m u))
+
+    in_units : (w : ℕ) → Contains (rooms_in_order m t.rooms) w → w < length m.units
+    in_units w c = reserve_unit-in m w (Contains-from_filter (is_among t.rooms) (reserve_units m) w (subst (λ ws. Contains ws w) (rooms_in_order-filter m t.rooms) c)).0
+
+    among_in_order : (u : ℕ) → Contains (reserve_units m) u → is_among (rooms_in_order m t.rooms) u ≡ is_among t.rooms u
+    among_in_order u c = ap (λ ws. is_among ws u) (rooms_in_order-filter m t.rooms) ∙ among_kept (is_among t.rooms) (reserve_units m) u c
+
+    pub room_price-made : (u : ℕ) → room_price m (duals_by_cost m t cost_of) u ≡ part_above (room_cost_of u)
+    room_price-made u = by (offers_reserve m u) refl
+      where
+        chosen : (b : Bool) (x : Fraction) → (if b then part_above x else nil) ≡ part_above (kept b x)
+        chosen true x = refl
+        chosen false x = sym (part_at_most nil (≤ℚ_refl nil))
+
+        by : (b : Bool) → offers_reserve m u ≡ b → (if b then room_price_in (room_duals (rooms_in_order m t.rooms)) (unit_at m u).row else nil) ≡ part_above (kept (b && is_among t.rooms u) (room_cost u))
+        by true e =
+            let lt = reserve_unit-below m market u e in
+            price_in_list (rooms_in_order m t.rooms) in_units u lt
+            ∙ ap (λ (b : Bool). if b then part_above (room_cost u) else nil) (among_in_order u (Contains-filter (offers_reserve m) (places (length m.units)) u (in_places (length m.units) u lt) e))
+            ∙ chosen (is_among t.rooms u) (room_cost u)
+        by false e = sym (part_at_most nil (≤ℚ_refl nil))
+
+    rooms_named-made : map (λ e. e.unit) (room_duals (rooms_in_order m t.rooms)) ≡ map (λ u. (unit_at m u).row) (filter (λ u. names_room (room_duals (rooms_in_order m t.rooms)) (unit_at m u).row) (reserve_units m))
+    rooms_named-made =
+        rooms_named_of (rooms_in_order m t.rooms)
+        ∙ ap (λ ws. map (λ u. (unit_at m u).row) (filter (λ u. priced_by (sign_of (room_cost u))) ws)) (rooms_in_order-filter m t.rooms)
+        ∙ ap (map (λ u. (unit_at m u).row))
+        (both_filters (is_among t.rooms) (λ u. priced_by (sign_of (room_cost u))) (reserve_units m)
+        ∙ filter-members (λ u. is_among t.rooms u && priced_by (sign_of (room_cost u))) (λ u. names_room (room_duals (rooms_in_order m t.rooms)) (unit_at m u).row) (reserve_units m)
+        (λ u c. sym (named_room_in_list (rooms_in_order m t.rooms) in_units u (reserve_unit-in m u c) ∙ ap (λ (b : Bool). b && priced_by (sign_of (room_cost u))) (among_in_order u c))))
 
 -- ---- lists of duals by rows
 module _ (m : Parts) (names : NamesApart m) (cost_of : ℕ → Fraction) where
@@ -305,9 +498,12 @@ module _ (m : Parts) (names : NamesApart m) (cost_of : ℕ → Fraction) where
           ∙ sym (ap (λ (b : Bool). b && named_by (sign_of (cost r))) (in_more s r rs n))
 
   -- ---- duals of the rows of a list
-  module _ (g : List Row) where
+  module _ (t : Taken) where
+    abbrev g : List Row
+    g = t.limits
+
     abbrev pub made : Duals Fraction
-    made = duals_by_cost m g cost_of
+    made = duals_by_cost m t cost_of
 
     over_rows : (r : Row) → Contains (in_order m g) r → Contains (rows m) r
     over_rows r c = (in_order-from m g r c).0
@@ -363,14 +559,6 @@ module _ (m : Parts) (names : NamesApart m) (cost_of : ℕ → Fraction) where
         by Zero more = more
         by Above more = ap (λ ids. row_id m r ∷ ids) more
 
-    both_filters : (p q : Row → Bool) (rs : List Row) → filter q (filter p rs) ≡ filter (λ r. p r && q r) rs
-    both_filters p q [] = refl
-    both_filters p q (r ∷ rs) = by (p r) (both_filters p q rs)
-      where
-        by : (b : Bool) → filter q (filter p rs) ≡ filter (λ r. p r && q r) rs → filter q (cond b (r ∷ filter p rs) (filter p rs)) ≡ cond (b && q r) (r ∷ filter (λ r. p r && q r) rs) (filter (λ r. p r && q r) rs)
-        by true more = ap (λ (rest : List Row). cond (q r) (r ∷ rest) rest) more
-        by false more = more
-
     sides : (rs : List Row) → All IsOneSided (limits_of rs)
     sides [] = All-nil IsOneSided
     sides (r ∷ rs) = All-append IsOneSided (duals_of r) (limits_of rs) (by (sign_of (cost r)) refl) (sides rs)
@@ -385,8 +573,8 @@ module _ (m : Parts) (names : NamesApart m) (cost_of : ℕ → Fraction) where
             (All-nil IsOneSided)
 
     -- such duals are proper
-    pub proper-made : ProperDuals m made
-    proper-made = record {
+    pub proper-made : IsMarket m → ProperDuals m made
+    proper-made market = record {
       named =
           named_rows_of (in_order m g)
           ∙ ap (λ rs. map (row_id m) (filter (λ r. named_by (sign_of (cost r))) rs)) (in_order-filter m g)
@@ -395,4 +583,7 @@ module _ (m : Parts) (names : NamesApart m) (cost_of : ℕ → Fraction) where
           ∙ filter-members (λ r. is_in g r && named_by (sign_of (cost r))) (λ r. names_row (limits_of (in_order m g)) (row_id m r)) (rows m)
           (λ r c. sym (named_in_list (in_order m g) over_rows r c ∙ ap (λ (b : Bool). b && named_by (sign_of (cost r))) (in_order-tells r c))));
       one_sided = sides (in_order m g);
+      rooms_named = rooms_named-made m market cost_of t;
+      rooms_priced = rooms_priced_of m market cost_of (rooms_in_order m t.rooms);
+      energy_alone = λ e. ap (λ (b : Bool). if b then part_above (neg_ℚ (cost_of (need_name m))) else nil) e;
     }

@@ -21,7 +21,8 @@ use Rattle.linear_system.proofs.SameSystems.{rows_turned_round}
 use Rattle.market_system.specs.declared.variables.Variable.{Variable}
 use Rattle.market_system.specs.declared.variables.Variable.TheVariants as variable
 use Rattle.market_system.specs.FrameLaw.{LawOfTheFrame}
-use Rattle.market_system.specs.MarketSystem.{balance_name, row_name, is_in, in_order, block_sign, block_coefficient, same_row, over_name, name, balance_coefficient, limit_coefficient, coefficient, block_columns, excess_columns, columns, row_variables, variables, named, variable_of, system_over, system_of}
+use Rattle.market_model.specs.Optimality.{Taken}
+use Rattle.market_system.specs.MarketSystem.{balance_name, row_name, offer_name, need_name, room_name, is_in, in_order, rooms_in_order, taken_in_order, block_sign, block_coefficient, same_row, over_name, at_unit, name, balance_coefficient, limit_coefficient, room_coefficient, coefficient, block_columns, excess_columns, offer_columns, columns, energy_rows, reserve_rows, row_variables, variables, named, variable_of, system_over, system_of}
 use Rattle.market_model.specs.Lines.{hard_line}
 
 mapped_at : {X Y : Type 0} (f : X → Y) (d : X) (e : Y) → f d ≡ e → (xs : List X) (i : ℕ) → slice_index_or (map f xs) i e ≡ f (slice_index_or xs i d)
@@ -96,12 +97,31 @@ module _ (m : Parts) where
   in_order_framed [] = refl
   in_order_framed (t ∷ ts) = ap (filter (is_in (t ∷ ts))) rows_framed
 
+  rooms_framed : (us : List ℕ) → rooms_in_order (frame m) us ≡ rooms_in_order m us
+  rooms_framed [] = refl
+  rooms_framed (u ∷ us) = refl
+
+  taken_framed : (t : Taken) → taken_in_order (frame m) t ≡ taken_in_order m t
+  taken_framed t = ap₂ (λ (rs : List Row) (us : List ℕ). taken rs us) (in_order_framed t.limits) (rooms_framed t.rooms)
+    where
+      taken : List Row → List ℕ → Taken
+      taken rs us = record { limits = rs; rooms = us }
+
   soft_framed : is_soft (frame m) ≡ is_soft m
   soft_framed = fun_ext (λ r. ap (λ (k : Line). is_positive (penalty_of (is_outage r.cause) k)) (line_framed r.line))
 
   -- the variables, their names and their coefficients
   over_framed : over_name (frame m) ≡ over_name m
   over_framed = fun_ext (λ r. ap₂ (λ (n : ℕ) (rs : List Row). n + 1 + length rs + 2 * position_or_len (same_row r) rs) block_count rows_framed)
+
+  offer_framed : offer_name (frame m) ≡ offer_name m
+  offer_framed = fun_ext (λ k. ap₂ (λ (n : ℕ) (rs : List Row). n + 1 + 3 * length rs + k) block_count rows_framed)
+
+  need_framed : need_name (frame m) ≡ need_name m
+  need_framed = ap (λ (f : ℕ → ℕ). f (length m.reserve.offers)) offer_framed
+
+  room_framed : room_name (frame m) ≡ room_name m
+  room_framed = fun_ext (λ u. ap (λ (n : ℕ). n + 1 + u) need_framed)
 
   names_framed : name (frame m) ≡ name m
   names_framed = fun_ext by
@@ -112,6 +132,9 @@ module _ (m : Parts) where
       by (variable.Limit r) = ap (λ (f : Row → ℕ). f r) name_framed
       by (variable.Over r) = ap (λ (f : Row → ℕ). f r) over_framed
       by (variable.Under r) = ap (λ (f : Row → ℕ). f r + 1) over_framed
+      by (variable.Offer k) = ap (λ (f : ℕ → ℕ). f k) offer_framed
+      by variable.Need = need_framed
+      by (variable.Room u) = ap (λ (f : ℕ → ℕ). f u) room_framed
 
   entries_framed : coefficient (frame m) ≡ coefficient m
   entries_framed = fun_ext (λ r. fun_ext (by r))
@@ -122,6 +145,9 @@ module _ (m : Parts) where
       in_balance (variable.Limit q) = refl
       in_balance (variable.Over q) = refl
       in_balance (variable.Under q) = refl
+      in_balance (variable.Offer k) = refl
+      in_balance variable.Need = refl
+      in_balance (variable.Room u) = refl
 
       in_limit : (r : Row) (j : Variable) → limit_coefficient (frame m) r j ≡ limit_coefficient m r j
       in_limit r (variable.Block j) = ap (λ (f : Row → ℕ → Fraction). f r j) coefficient_framed
@@ -129,6 +155,19 @@ module _ (m : Parts) where
       in_limit r (variable.Limit q) = refl
       in_limit r (variable.Over q) = refl
       in_limit r (variable.Under q) = refl
+      in_limit r (variable.Offer k) = refl
+      in_limit r variable.Need = refl
+      in_limit r (variable.Room u) = refl
+
+      in_room : (u : ℕ) (j : Variable) → room_coefficient (frame m) u j ≡ room_coefficient m u j
+      in_room u (variable.Block j) = ap₂ (λ (b : Block) (x : Fraction). at_unit u b.unit x) (block_framed j) (ap (λ (f : ℕ → Fraction). f j) sign_framed)
+      in_room u variable.Balance = refl
+      in_room u (variable.Limit q) = refl
+      in_room u (variable.Over q) = refl
+      in_room u (variable.Under q) = refl
+      in_room u (variable.Offer k) = refl
+      in_room u variable.Need = refl
+      in_room u (variable.Room w) = refl
 
       by : (r j : Variable) → coefficient (frame m) r j ≡ coefficient m r j
       by (variable.Block i) j = refl
@@ -136,6 +175,9 @@ module _ (m : Parts) where
       by (variable.Limit r) j = in_limit r j
       by (variable.Over q) j = refl
       by (variable.Under q) j = refl
+      by (variable.Offer k) j = refl
+      by variable.Need j = refl
+      by (variable.Room u) j = in_room u j
 
   blocks_framed : block_columns (frame m) ≡ block_columns m
   blocks_framed = ap (λ (n : ℕ). map variable.Block (places n)) block_count
@@ -143,25 +185,25 @@ module _ (m : Parts) where
   excess_framed : (rs : List Row) → excess_columns (frame m) rs ≡ excess_columns m rs
   excess_framed rs = ap (λ (soft : Row → Bool). flat_map (λ (r : Row). variable.Over r ∷ variable.Under r ∷ []) (filter soft rs)) soft_framed
 
-  columns_framed : (rs : List Row) → columns (frame m) rs ≡ columns m rs
-  columns_framed rs = ap₂ ◌++◌ blocks_framed (excess_framed rs)
+  columns_framed : (t : Taken) → columns (frame m) t ≡ columns m t
+  columns_framed t = ap₂ (λ (bs es : List Variable). bs ++ es ++ offer_columns m) blocks_framed (excess_framed t.limits)
 
-  variables_framed : (g : List Row) → variables (frame m) (in_order (frame m) g) ≡ variables m (in_order m g)
-  variables_framed g =
-      ap (variables (frame m)) (in_order_framed g)
-      ∙ ap₂ (λ (bs es : List Variable). bs ++ row_variables (in_order m g) ++ es) blocks_framed (excess_framed (in_order m g))
+  variables_framed : (t : Taken) → variables (frame m) (taken_in_order (frame m) t) ≡ variables m (taken_in_order m t)
+  variables_framed t =
+      ap (variables (frame m)) (taken_framed t)
+      ∙ ap₂ (λ (bs es : List Variable). bs ++ energy_rows (taken_in_order m t) ++ es ++ offer_columns m ++ reserve_rows m (taken_in_order m t)) blocks_framed (excess_framed (in_order m t.limits))
 
-  variable_framed : (g : List Row) → variable_of (frame m) (in_order (frame m) g) ≡ variable_of m (in_order m g)
-  variable_framed g = ap₂ named names_framed (variables_framed g)
+  variable_framed : (t : Taken) → variable_of (frame m) (taken_in_order (frame m) t) ≡ variable_of m (taken_in_order m t)
+  variable_framed t = ap₂ named names_framed (variables_framed t)
 
   -- the system of the frame has the same rows
-  frame_rows : (g : List Row) → SameRows (system_of (frame m) g) (system_of m g)
+  frame_rows : (t : Taken) → SameRows (system_of (frame m) t) (system_of m t)
   unfolding system_over
-  frame_rows g = record {
-    variables = ap₂ map names_framed (variables_framed g);
-    columns = ap₂ map names_framed (ap (columns (frame m)) (in_order_framed g) ∙ columns_framed (in_order m g));
-    rows = ap₂ (λ (f : Variable → ℕ) (rs : List Row). map f (row_variables rs)) names_framed (in_order_framed g);
-    coefficient = λ r j _ _. ap₂ (λ (f : Variable → Variable → Fraction) (v : ℕ → Variable). f (v r) (v j)) entries_framed (variable_framed g);
+  frame_rows t = record {
+    variables = ap₂ map names_framed (variables_framed t);
+    columns = ap₂ map names_framed (ap (columns (frame m)) (taken_framed t) ∙ columns_framed (taken_in_order m t));
+    rows = ap₂ (λ (f : Variable → ℕ) (taken : Taken). map f (row_variables m taken)) names_framed (taken_framed t);
+    coefficient = λ r j _ _. ap₂ (λ (f : Variable → Variable → Fraction) (v : ℕ → Variable). f (v r) (v j)) entries_framed (variable_framed t);
   }
 
 pub rows_in_turn : (s t u : System) → SameRows s t → SameRows t u → SameRows s u
@@ -173,15 +215,15 @@ rows_in_turn s t u first second = record {
 }
 
 -- systems over the same rows of markets of one frame have the same rows
-same_rows : (m n : Parts) (g : List Row) → SameFrame m n → SameRows (system_of m g) (system_of n g)
+same_rows : (m n : Parts) (g : Taken) → SameFrame m n → SameRows (system_of m g) (system_of n g)
 same_rows m n g same =
     rows_in_turn (system_of m g) (system_of (frame n) g) (system_of n g)
     (subst (λ (p : Parts). SameRows (system_of m g) (system_of p g)) same (rows_turned_round (system_of (frame m) g) (system_of m g) (frame_rows m g)))
     (frame_rows n g)
 
 -- they have the same columns, and the same names of variables
-pub same_columns : (m n : Parts) → SameFrame m n → (rs : List Row) → columns m rs ≡ columns n rs
-same_columns m n same rs = sym (columns_framed m rs) ∙ ap (λ (p : Parts). columns p rs) same ∙ columns_framed n rs
+pub same_columns : (m n : Parts) → SameFrame m n → (t : Taken) → columns m t ≡ columns n t
+same_columns m n same t = sym (columns_framed m t) ∙ ap (λ (p : Parts). columns p t) same ∙ columns_framed n t
 
 pub same_names : (m n : Parts) → SameFrame m n → name m ≡ name n
 same_names m n same = sym (names_framed m) ∙ ap name same ∙ names_framed n
@@ -193,6 +235,9 @@ law_of_the_frame m n g same = (
     ids = sym (id_framed m) ∙ ap row_id same ∙ id_framed n;
     balance = sym (block_count m) ∙ ap balance_name same ∙ block_count n;
     names = sym (name_framed m) ∙ ap row_name same ∙ name_framed n;
+    offers = sym (offer_framed m) ∙ ap offer_name same ∙ offer_framed n;
+    need = sym (need_framed m) ∙ ap need_name same ∙ need_framed n;
+    rooms = sym (room_framed m) ∙ ap room_name same ∙ room_framed n;
   },
   same_rows m n g same,
 )

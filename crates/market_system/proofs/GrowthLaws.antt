@@ -8,8 +8,8 @@ use Rattle.market_model.specs.declared.participants.Parts.{Parts}
 use Rattle.market_model.specs.Dispatch.{Dispatch}
 use Rattle.market_model.specs.declared.limits.Row.{Row}
 use Rattle.market_model.specs.LimitRows.{rows, flow, most_flow}
-use Rattle.market_model.specs.Optimality.{FeasibleFor}
-use Rattle.market_system.specs.Growth.{Broken, BestFor, GrowsBy, Growth}
+use Rattle.market_model.specs.Optimality.{Taken, FeasibleFor}
+use Rattle.market_system.specs.Growth.{Broken, IsBestOver, GrowsBy, Growth}
 use Rattle.market_system.specs.SolvedLaws.{AreRows}
 use Rattle.market_system.proofs.RowOrder.{pairs-append}
 use Rattle.market_model.specs.Overrun.{IsBeyond}
@@ -17,8 +17,8 @@ use Rattle.fraction_theory.specs.Signs.{abs_ℚ}
 use Rattle.fraction_theory.proofs.SignLaws.{abs_within}
 
 -- a row whose flow at a feasible dispatch is beyond what it may be is not in the list
-pub beyond_is_new : (m : Parts) (g : List Row) (x : Dispatch) (r : Row) → FeasibleFor m g x → IsBeyond m g r (flow m x r) → ¬ (Contains g r)
-beyond_is_new m g x r f beyond c =
+pub beyond_is_new : (m : Parts) (t : Taken) (x : Dispatch) (r : Row) → FeasibleFor m t x → IsBeyond m t.limits r (flow m x r) → ¬ (Contains t.limits r)
+beyond_is_new m t x r f beyond c =
     let w = f.limits r c in <ℚ-not-≤ℚ (most_flow m r) (abs_ℚ (flow m x r)) (beyond.most c) (abs_within (flow m x r) (most_flow m r) w.above w.below)
 
 -- nothing more is grown
@@ -26,15 +26,15 @@ pub growth_none : (m : Parts) (g : List Row) → Growth m g g
 growth_none m g = ([], sym (append-nil g), tt)
 
 -- a row behind a grown list
-pub growth_more : (m : Parts) (t g : List Row) (x : Dispatch) (r : Row) → Growth m t g → BestFor m g x → Broken m x r → Contains (rows m) r → ¬ (Contains g r) → Growth m t (g ++ r ∷ [])
+pub growth_more : (m : Parts) (t g : List Row) (x : Dispatch) (r : Row) → Growth m t g → IsBestOver m g x → Broken m x r → Contains (rows m) r → ¬ (Contains g r) → Growth m t (g ++ r ∷ [])
 growth_more m t g x r (more, e, by) best broken c new =
-    (more ++ r ∷ [], ap (λ rs. rs ++ r ∷ []) e ∙ append_assoc t more (r ∷ []), grown t more by (subst (λ rs. BestFor m rs x) e best) (subst (λ rs. ¬ (Contains rs r)) e new))
+    (more ++ r ∷ [], ap (λ rs. rs ++ r ∷ []) e ∙ append_assoc t more (r ∷ []), grown t more by (subst (λ rs. IsBestOver m rs x) e best) (subst (λ rs. ¬ (Contains rs r)) e new))
   where
-    grown : (old news : List Row) → GrowsBy m old news → BestFor m (old ++ news) x → ¬ (Contains (old ++ news) r) → GrowsBy m old (news ++ r ∷ [])
-    grown old [] by b n = ((x, subst (λ rs. BestFor m rs x) (append-nil old) b, broken), c, subst (λ rs. ¬ (Contains rs r)) (append-nil old) n, tt)
+    grown : (old news : List Row) → GrowsBy m old news → IsBestOver m (old ++ news) x → ¬ (Contains (old ++ news) r) → GrowsBy m old (news ++ r ∷ [])
+    grown old [] by b n = ((x, subst (λ rs. IsBestOver m rs x) (append-nil old) b, broken), c, subst (λ rs. ¬ (Contains rs r)) (append-nil old) n, tt)
     grown old (s ∷ news) by b n =
         let along = sym (append_assoc old (s ∷ []) news) in
-        (by.0, by.1, by.2, grown (old ++ s ∷ []) news by.3 (subst (λ rs. BestFor m rs x) along b) (subst (λ rs. ¬ (Contains rs r)) along n))
+        (by.0, by.1, by.2, grown (old ++ s ∷ []) news by.3 (subst (λ rs. IsBestOver m rs x) along b) (subst (λ rs. ¬ (Contains rs r)) along n))
 
 -- grown from grown is grown
 pub growth_again : (m : Parts) (t g h : List Row) → Growth m t g → Growth m g h → Growth m t h

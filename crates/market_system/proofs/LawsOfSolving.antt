@@ -1,57 +1,47 @@
 -- The laws of solving a market's system.
 use Rattle.std.specs.Prelude.{length, refl}
-use Rattle.std.proofs.Common.{sym}
 use Rattle.market_system.specs.SolvedLaws.{LawOfTheSystem, LawOfThePoints, LawOfTheSolved, LawOfTheAnswer, LawOfTheStuck, LawOfGrowth}
 use Rattle.limit_rows.proofs.ApartLemmas.{names_apart}
 use Rattle.market_system.proofs.DualLists.{rows_apart}
 use Rattle.market_system.proofs.GrowthLaws.{beyond_is_new, growth_none, growth_more, growth_again, growth_rows, rows_few}
-use Rattle.market_system.proofs.MarketPoints.{is_system_of, point_of, point_meets, point_within, point_welfare, point-block, dispatch_feasible, dispatch_welfare}
-use Rattle.market_system.proofs.SolvedMarkets.{solved_best, solved_proper, solved_supports, reduced-block}
-use Rattle.market_system.proofs.StuckMarkets.{stuck_bound, stuck_shows, stuck_proper, stuck_of_choice}
+use Rattle.market_system.proofs.MarketPoints.{is_system_of, points_are}
+use Rattle.market_system.proofs.SolvedMarkets.{solved_best, solved_block, solved_proper, solved_supports}
+use Rattle.market_system.proofs.StuckMarkets.{stuck_bound, stuck_bound_alone, stuck_shows, stuck_proper, stuck_of_choice}
 use Rattle.market_system.proofs.VariableLaws.{from_places}
 
 pub law_of_the_system : LawOfTheSystem
-law_of_the_system m g market = is_system_of m (rows_apart m (names_apart m market)) g
+law_of_the_system m t market = is_system_of m (rows_apart m (names_apart m market)) t
 
 pub law_of_the_points : LawOfThePoints
-law_of_the_points m g market are =
-    let apart = rows_apart m (names_apart m market) in
-    record {
-      point = λ x f. (
-        point_of m apart g market x,
-        point_meets m apart g market x,
-        point_within m apart g market x f,
-        point_welfare m apart g market are x,
-        λ j c. point-block m apart g market x j (from_places (length m.blocks) j c),
-      );
-      dispatch = λ v meets within. (dispatch_feasible m apart g market v meets are.rows within, dispatch_welfare m apart g market v meets are within);
-    }
+law_of_the_points m t market are = points_are m (rows_apart m (names_apart m market)) t market are
 
 pub law_of_the_solved : LawOfTheSolved
-law_of_the_solved m g h market are choice solved =
+law_of_the_solved m t h market are choice solved =
     let names = names_apart m market in
     record {
-      best = solved_best m names g h choice market are solved;
-      proper = solved_proper m names g h choice market are solved;
-      supported = solved_supports m names g h choice market are solved;
-      blocks = λ j c. reduced-block m names g h choice j (from_places (length m.blocks) j c);
+      best = solved_best m names market t h choice are solved;
+      proper = solved_proper m names market t h choice are solved;
+      supported = solved_supports m names market t h choice are solved;
+      blocks = λ j c. solved_block m names market t h choice are solved j (from_places (length m.blocks) j c);
     }
 
 pub law_of_the_stuck : LawOfTheStuck
-law_of_the_stuck m g h b above market all choice stuck =
+law_of_the_stuck m t h b above market all choice stuck =
     let names = names_apart m market in
     record {
       farkas = record {
-        shows = stuck_shows m names market g h choice b above stuck;
-        proper = stuck_proper m names market g h choice b above stuck;
-        bound = sym (stuck_bound m names market g h choice b above stuck);
+        shows = stuck_shows m names market t h choice b above stuck;
+        proper = stuck_proper m names market t h choice b above stuck;
+        bound = refl;
       };
-      of_choice = stuck_of_choice m names market g h choice b above stuck all;
+      bound = stuck_bound m names market t h choice b above stuck;
+      energy_bound = stuck_bound_alone m names market t h choice b above stuck;
+      of_choice = stuck_of_choice m names market t h choice b above stuck all;
     }
 
 pub law_of_growth : LawOfGrowth
 law_of_growth m = record {
-  beyond_is_new = λ g x r best beyond. beyond_is_new m g x r best.feasible beyond;
+  beyond_is_new = λ t x r best beyond. beyond_is_new m t x r best.feasible beyond;
   none = growth_none m;
   more = growth_more m;
   again = growth_again m;

@@ -1,5 +1,6 @@
 mod AnswerTests
 pub mod BlockChoices
+pub mod Clamps
 pub mod Completeness
 pub mod DualLists
 pub mod FrameLaws
@@ -12,6 +13,7 @@ mod ModestNumbers
 pub mod ModestClears
 pub mod PairCases
 mod RangeRows
+pub mod RoomBounds
 pub mod RowOrder
 pub mod RowSums
 pub mod SoftRows

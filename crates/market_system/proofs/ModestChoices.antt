@@ -1,4 +1,4 @@
--- A choice of a market's system without limit rows has one basic variable, and its entries are 1 or -1.
+-- A choice of the system of a market of energy alone, without limit rows, has one basic variable, and its entries are 1 or -1.
 use Rattle.std.specs.Prelude.{◌≡◌, ◌≢◌, ℕ, ◌<◌, ◌==◌, pos, neg_ℤ, Bool, true, false, [], ◌∷◌, ◌⊎◌, length, if◌then◌else◌, refl}
 use Rattle.std.specs.List.{Contains}
 use Rattle.std.proofs.Common.{zero, suc, arith, ap, sym, ◌∙◌, subst, inl, inr}
@@ -19,8 +19,9 @@ use Rattle.market_model.specs.declared.participants.Side.TheVariants.{Sell, Buy}
 use Rattle.market_model.specs.declared.participants.Parts.{Parts}
 use Rattle.market_model.specs.Dispatch.{block_at, signed_by_side}
 use Rattle.market_model.specs.Optimality.{price}
+use Rattle.market_model.specs.Reserves.{no_reserve}
 use Rattle.market_system.specs.MarketSystem.{balance_name, block_sign, system_of}
-use Rattle.market_system.proofs.SystemLaws.{variable_in, variable_below, block_or_balance, is_system, balance_is, not_balance, balance_choice, balance_choice_is, block_is_other, block_choice, block_choice_is, block_is_basic, the_block_is_basic}
+use Rattle.market_system.proofs.SystemLaws.{nothing, variable_in, variable_below, block_or_balance, is_system, balance_is, not_balance, balance_choice, balance_choice_is, block_is_other, block_choice, block_choice_is, block_is_basic, the_block_is_basic}
 use Rattle.market_system.proofs.BlockChoices.{energy_is}
 use Rattle.market_system.proofs.ModestNumbers.{IsWholeWithin, whole_within, nil_within, neg_within, times_within}
 
@@ -52,11 +53,11 @@ no_smaller s distinct h k hh kk o c e more =
     one_not_nil
     (sym (column_entry-itself k o (others_are s k o c).1)
     ∙ (hh.to_table (unit_point k o) (kk.to_rows (unit_point k o) (unit_meets s distinct k o c))).basic o (is_basic s h o (others_are s k o c).0 e)
-    ∙ sum_by-members (λ w. h.entry o w *ℚ column_entry k w o) (λ w. whole (pos 0)) (others s h) nothing
+    ∙ sum_by-members (λ w. h.entry o w *ℚ column_entry k w o) (λ w. whole (pos 0)) (others s h) vanishes
     ∙ sum_by-nil (others s h))
   where
-    nothing : (w : ℕ) → Contains (others s h) w → h.entry o w *ℚ column_entry k w o ≡ whole (pos 0)
-    nothing w d =
+    vanishes : (w : ℕ) → Contains (others s h) w → h.entry o w *ℚ column_entry k w o ≡ whole (pos 0)
+    vanishes w d =
         let r = others_are s h w d in
         let other : k.basic w ≡ false = by_bool (k.basic w) (λ b. absurd (not_both (h.basic w) (more w (is_basic s k w r.0 b)) r.1)) (λ b. b) in
         let apart : w ≢ o = λ same. not_both (h.basic o) e (ap h.basic (sym same) ∙ r.1) in
@@ -79,9 +80,9 @@ recip_sign_within : (m : Parts) (j : ℕ) → IsWholeWithin 1 (recip_ℚ (block_
 recip_sign_within m j = subst (IsWholeWithin 1) (recip_one (block_at m j).side) (block_sign_within m j)
 
 -- the entries of the block that is basic in place of the balance
-block_entry_within : (m : Parts) (high : ℕ → Bool) (p : ℕ) (inside : p < length m.blocks) (w : ℕ) → IsWholeWithin 1 ((block_choice m high p inside).entry p w)
+block_entry_within : (m : Parts) (energy : m.reserve ≡ no_reserve) (high : ℕ → Bool) (p : ℕ) (inside : p < length m.blocks) (w : ℕ) → IsWholeWithin 1 ((block_choice m energy high p inside).entry p w)
 unfolding exchanged entering_entry
-block_entry_within m high p inside w = at_test (p == p) (elim (eqb_tells p p) [ inl t ↦ t.0 | inr t ↦ absurd (t.1 refl) ]) (w == balance_name m)
+block_entry_within m energy high p inside w = at_test (p == p) (elim (eqb_tells p p) [ inl t ↦ t.0 | inr t ↦ absurd (t.1 refl) ]) (w == balance_name m)
   where
     at_test : (b : Bool) → b ≡ true → (c : Bool)
         → IsWholeWithin 1 (if b then (if c then recip_ℚ (block_sign m p) else neg_ℚ (block_sign m w) *ℚ recip_ℚ (block_sign m p))
@@ -90,9 +91,9 @@ block_entry_within m high p inside w = at_test (p == p) (elim (eqb_tells p p) [ 
     at_test true e false = times_within 1 1 (neg_ℚ (block_sign m w)) (recip_ℚ (block_sign m p)) (neg_within 1 (block_sign m w) (block_sign_within m w)) (recip_sign_within m p)
     at_test false e c = let wrong : false ≡ true = e in absurd cc
 
-module _ (m : Parts) (h : Choice) (is : IsChoice (system_of m []) h) where
+module _ (m : Parts) (energy : m.reserve ≡ no_reserve) (h : Choice) (is : IsChoice (system_of m nothing) h) where
   abbrev s : System
-  s = system_of m []
+  s = system_of m nothing
 
   distinct : Distinct s.variables
   distinct = Distinct-increasing s.variables (is_system m).ascending
@@ -100,33 +101,33 @@ module _ (m : Parts) (h : Choice) (is : IsChoice (system_of m []) h) where
   -- the balance alone is basic, or one block
   data IsSplit : Type 0 where
     by_balance : ((w : ℕ) → Contains s.variables w → h.basic w ≡ (balance_choice m h.high).basic w) → h.basic (balance_name m) ≡ true → IsSplit
-    by_block : (p : ℕ) (inside : p < length m.blocks) → ((w : ℕ) → Contains s.variables w → h.basic w ≡ (block_choice m h.high p inside).basic w) → h.basic (balance_name m) ≡ false → IsSplit
+    by_block : (p : ℕ) (inside : p < length m.blocks) → ((w : ℕ) → Contains s.variables w → h.basic w ≡ (block_choice m energy h.high p inside).basic w) → h.basic (balance_name m) ≡ false → IsSplit
 
   balance_alone : h.basic (balance_name m) ≡ true → IsSplit
   balance_alone e = by_balance same e
     where
       same : (w : ℕ) → Contains s.variables w → h.basic w ≡ (w == balance_name m)
-      same w c = elim (block_or_balance m w (variable_below m w c)) [
+      same w c = elim (block_or_balance m w (variable_below m energy w c)) [
         | inr at_balance ↦ ap h.basic at_balance ∙ e ∙ sym (balance_is m w at_balance)
         | inl lt ↦ by_bool (h.basic w)
-            (λ b. absurd (no_smaller s distinct h (balance_choice m h.high) is (balance_choice_is m h.high) w (block_is_other m h.high w lt) b (λ x k. ap h.basic (only_balance x k) ∙ e)))
+            (λ b. absurd (no_smaller s distinct h (balance_choice m h.high) is (balance_choice_is m energy h.high) w (block_is_other m energy h.high w lt) b (λ x k. ap h.basic (only_balance x k) ∙ e)))
             (λ b. b ∙ sym (not_balance m w lt))
       ]
         where
           only_balance : (x : ℕ) → Contains (basics s (balance_choice m h.high)) x → x ≡ balance_name m
           only_balance x k = let r = basics_are s (balance_choice m h.high) x k in
-              elim (block_or_balance m x (variable_below m x r.0)) [ inr q ↦ q | inl lt ↦ absurd (not_both (x == balance_name m) r.1 (not_balance m x lt)) ]
+              elim (block_or_balance m x (variable_below m energy x r.0)) [ inr q ↦ q | inl lt ↦ absurd (not_both (x == balance_name m) r.1 (not_balance m x lt)) ]
 
   block_alone : (p : ℕ) (inside : p < length m.blocks) → h.basic p ≡ true → h.basic (balance_name m) ≡ false → IsSplit
   block_alone p inside e rest = by_block p inside same rest
     where
-      same : (w : ℕ) → Contains s.variables w → h.basic w ≡ (block_choice m h.high p inside).basic w
+      same : (w : ℕ) → Contains s.variables w → h.basic w ≡ (block_choice m energy h.high p inside).basic w
       same w c = elim (same_or_not w p) [
-        | inl at_p ↦ ap h.basic at_p ∙ e ∙ sym (ap (block_choice m h.high p inside).basic at_p ∙ block_is_basic m h.high p inside)
+        | inl at_p ↦ ap h.basic at_p ∙ e ∙ sym (ap (block_choice m energy h.high p inside).basic at_p ∙ block_is_basic m energy h.high p inside)
         | inr apart ↦
-            let other : (block_choice m h.high p inside).basic w ≡ false = by_bool ((block_choice m h.high p inside).basic w) (λ b. absurd (apart (the_block_is_basic m h.high p inside w (is_basic s (block_choice m h.high p inside) w c b)))) (λ b. b) in
+            let other : (block_choice m energy h.high p inside).basic w ≡ false = by_bool ((block_choice m energy h.high p inside).basic w) (λ b. absurd (apart (the_block_is_basic m energy h.high p inside w (is_basic s (block_choice m energy h.high p inside) w c b)))) (λ b. b) in
             by_bool (h.basic w)
-            (λ b. absurd (no_smaller s distinct h (block_choice m h.high p inside) is (block_choice_is m h.high p inside) w (is_other s (block_choice m h.high p inside) w c other) b (λ x d. ap h.basic (the_block_is_basic m h.high p inside x d) ∙ e)))
+            (λ b. absurd (no_smaller s distinct h (block_choice m energy h.high p inside) is (block_choice_is m energy h.high p inside) w (is_other s (block_choice m energy h.high p inside) w c other) b (λ x d. ap h.basic (the_block_is_basic m energy h.high p inside x d) ∙ e)))
             (λ b. b ∙ sym other)
       ]
 
@@ -134,8 +135,8 @@ module _ (m : Parts) (h : Choice) (is : IsChoice (system_of m []) h) where
   split = by_bool (h.basic (balance_name m)) balance_alone (λ rest. elim (find h.basic (length m.blocks)) [
     | inl found ↦ block_alone found.0 found.1 found.2 rest
     | inr none ↦ absurd
-        (no_smaller s distinct (balance_choice m h.high) h (balance_choice_is m h.high) is (balance_name m) (is_other s h (balance_name m) (variable_in m (balance_name m) (Prim.omega arith)) rest) (balance_is m (balance_name m) refl)
-        (λ b c. let r = basics_are s h b c in elim (block_or_balance m b (variable_below m b r.0)) [
+        (no_smaller s distinct (balance_choice m h.high) h (balance_choice_is m energy h.high) is (balance_name m) (is_other s h (balance_name m) (variable_in m energy (balance_name m) (Prim.omega arith)) rest) (balance_is m (balance_name m) refl)
+        (λ b c. let r = basics_are s h b c in elim (block_or_balance m b (variable_below m energy b r.0)) [
           | inl lt ↦ absurd (not_both (h.basic b) r.1 (none b lt))
           | inr q ↦ absurd (not_both (h.basic b) r.1 (ap h.basic q ∙ rest))
         ]))
@@ -145,12 +146,12 @@ module _ (m : Parts) (h : Choice) (is : IsChoice (system_of m []) h) where
   entry_within b w cb cw = at_split split
     where
       at_split : IsSplit → IsWholeWithin 1 (h.entry b w)
-      at_split (by_balance same e) = subst (IsWholeWithin 1) (sym (entries_are_one s distinct h (balance_choice m h.high) is (balance_choice_is m h.high) same b w cb cw)) (block_sign_within m w)
+      at_split (by_balance same e) = subst (IsWholeWithin 1) (sym (entries_are_one s distinct h (balance_choice m h.high) is (balance_choice_is m energy h.high) same b w cb cw)) (block_sign_within m w)
       at_split (by_block p inside same e) =
           let r = basics_are s h b cb in
-          let at_p : b ≡ p = the_block_is_basic m h.high p inside b (is_basic s (block_choice m h.high p inside) b r.0 (sym (same b r.0) ∙ r.1)) in
-          subst (IsWholeWithin 1) (sym (entries_are_one s distinct h (block_choice m h.high p inside) is (block_choice_is m h.high p inside) same b w cb cw))
-          (subst (λ (x : ℕ). IsWholeWithin 1 ((block_choice m h.high p inside).entry x w)) (sym at_p) (block_entry_within m h.high p inside w))
+          let at_p : b ≡ p = the_block_is_basic m energy h.high p inside b (is_basic s (block_choice m energy h.high p inside) b r.0 (sym (same b r.0) ∙ r.1)) in
+          subst (IsWholeWithin 1) (sym (entries_are_one s distinct h (block_choice m energy h.high p inside) is (block_choice_is m energy h.high p inside) same b w cb cw))
+          (subst (λ (x : ℕ). IsWholeWithin 1 ((block_choice m energy h.high p inside).entry x w)) (sym at_p) (block_entry_within m energy h.high p inside w))
 
   pub column_within : (j w : ℕ) → Contains s.variables j → Contains (others s h) w → IsWholeWithin 1 (column_entry h j w)
   column_within j w c cw = by_bool (h.basic j)
@@ -170,4 +171,4 @@ module _ (m : Parts) (h : Choice) (is : IsChoice (system_of m []) h) where
           (sym (ap (λ (b : Bool). neg_ℚ (if b then whole (pos 0) else total (reduced_terms s h (balance_name m)))) e))
           (neg_within bound (whole (pos 0)) (nil_within bound))
       at_split (by_block p inside same e) = subst (IsWholeWithin bound)
-          (sym (energy_is m p inside h is (λ b c. let r = basics_are s h b c in the_block_is_basic m h.high p inside b (is_basic s (block_choice m h.high p inside) b r.0 (sym (same b r.0) ∙ r.1))) e)) (prices p inside)
+          (sym (energy_is m energy p inside h is (λ b c. let r = basics_are s h b c in the_block_is_basic m energy h.high p inside b (is_basic s (block_choice m energy h.high p inside) b r.0 (sym (same b r.0) ∙ r.1))) e)) (prices p inside)

@@ -1,7 +1,7 @@
--- No number that a clear of a modest market without lines may have to write down is above 127 bits.
+-- No number that a clear of a modest market of energy alone without lines may have to write down is above 127 bits.
 use Rattle.std.specs.Prelude.{◌≡◌, ℕ, Bool, true, false, if◌then◌else◌, ◌+◌, ◌*◌, ◌-◌, ◌^◌, ◌≤◌, ◌<◌, pos, List, [], ◌∷◌, ◌++◌, length, map, filter, Option, Some, None, refl}
 use Rattle.std.specs.List.{Contains}
-use Rattle.std.proofs.Common.{arith, ap, sym, ◌∙◌, subst, inl, inr}
+use Rattle.std.proofs.Common.{arith, ap, ap₂, sym, ◌∙◌, subst, inl, inr}
 use Rattle.std.proofs.lemmas.List.{append-nil, length-append, length-map}
 use Rattle.std.proofs.lemmas.List.FromFn.{length-range_with_len}
 use Rattle.fraction_theory.specs.Fraction.{Fraction, neg_ℚ, ◌-ℚ◌, ◌*ℚ◌}
@@ -13,8 +13,9 @@ use Rattle.fraction_theory.proofs.Ring.{by_ring, at, pneg}
 use Rattle.fraction_theory.proofs.FieldLaws.{ring_ℚ}
 use Rattle.fraction_theory.proofs.SumLaws.{prefix-all}
 use Rattle.fraction_theory.proofs.ListSums.{same_or_not, Contains-from_filter}
-use Rattle.linear_system.specs.Choices.{Choice, IsChoice, at_bound, basics, value, value_terms}
-use Rattle.linear_system.specs.Numbers.{Kind, Factor, Quantity, Price, is_high, is_low, is_value, SolvingNumber, is_number, is_fall, is_rise, is_turned as turned_in_solving}
+use Rattle.linear_system.specs.Systems.{System}
+use Rattle.linear_system.specs.Choices.{Choice, IsChoice, at_bound, basics, reduced, value, value_terms}
+use Rattle.linear_system.specs.Numbers.{Kind, Factor, Quantity, Price, SystemNumber, is_high, is_low, is_value, SolvingNumber, is_number, is_fall, is_rise, is_turned as turned_in_solving}
 use Rattle.linear_system.proofs.ChoiceLaws.{basics_are, is_other}
 use Rattle.simplex_theory.specs.Stuck.{multiplier}
 use Rattle.simplex_theory.proofs.StuckRows.{multiplier-itself, multiplier-basic, multiplier-other}
@@ -28,23 +29,25 @@ use Rattle.exact_fraction.proofs.Shares.{too_large_turned}
 use Rattle.std.proofs.lemmas.Int.{ints}
 use Rattle.std.proofs.lemmas.List.Elements.{All-contains}
 use Rattle.market_model.specs.Market.{IsMarket, IsPickup}
-use Rattle.market_model.specs.Dispatch.{Dispatch, IsDispatch, places, block_at, unit_at, quantity, accepted, balance, empty, demand, demand_terms, output}
+use Rattle.market_model.specs.Dispatch.{Dispatch, IsDispatch, zero, places, block_at, unit_at, quantity, accepted, balance, empty, demand, demand_terms, output}
 use Rattle.market_model.specs.Infeasibility.{block_weight, farkas_terms}
 use Rattle.market_model.specs.declared.limits.Row.{Row}
 use Rattle.market_model.specs.LimitRows.{rows, row_id, loses, lost_unit, row_factor, row_pickup, share_value}
-use Rattle.market_model.specs.Optimality.{bus_price, block_value, congestion_terms, names_row, named_rows, own_price, own_terms, price_terms, net_shadow_price, penalty_terms, unit_price, value_terms as block_terms, welfare_terms}
+use Rattle.market_model.specs.Optimality.{Taken, bus_price, block_value, energy_worth, congestion_terms, names_row, named_rows, own_price, own_terms, price_terms, net_shadow_price, penalty_terms, unit_price, value_terms as block_terms, welfare_terms}
+use Rattle.market_model.specs.Reserves.{no_reserve, reserved_term}
 use Rattle.market_model.specs.Settlement.{surplus_terms}
-use Rattle.market_model.specs.SumTables.{injection_at, balance_from_bus, balance_of_all, flow_of_line, limited_line, limited_row, output_of_lost, limited_unit, FlowSum, flow_in_balance, flow_in_limits, output_of_unit, BusPriceSum, own_price_of_unit, PriceSum, price_of_bus, price_of_unit, congestion_at, price_at, farkas_bound_of_all, left_of_all, paid_by_load, paid_to_unit, rent_of_row, SettledSum, paid_output, paid_price, demand_of_bus, payment, paid_row}
+use Rattle.market_model.specs.SumTables.{injection_at, balance_from_bus, balance_of_all, flow_of_line, limited_line, limited_row, output_of_lost, limited_unit, FlowSum, flow_in_balance, flow_in_limits, output_of_unit, BusPriceSum, own_price_of_unit, PriceSum, price_of_bus, price_of_unit, congestion_at, price_at, ReserveSum, reserve_of_all, room_of_unit, WorthSum, energy_of_unit, reserve_of_unit, farkas_bound_of_all, left_of_all, paid_by_load, paid_to_unit, rent_of_row, paid_for_reserve, SettledSum, paid_output, paid_price, demand_of_bus, payment, paid_row}
+use Rattle.market_model.proofs.EnergyAlone.{no_offers, no_places, not_listed, no_units, no_unit, no_need, worth_is_price, welfare_alone}
 use Rattle.market_model.proofs.FarkasLaw.{farkas_terms-bare}
 use Rattle.market_model.proofs.RowLaws.{no_rows, no_row, bus_price-bare, congestion-bare, unit_price-bare}
 use Rattle.market_model.proofs.RowMembers.{lost_unit-in}
-use Rattle.market_system.specs.MarketSystem.{balance_name, system_of, choice_dispatch, choice_duals}
+use Rattle.market_system.specs.MarketSystem.{balance_name, need_name, in_order, is_among, rooms_in_order, taken_in_order, system_over, system_of, point_dispatch, choice_dispatch, choice_duals}
 use Rattle.market_system.specs.MarketNumbers.{ClearingNumber, of_kind, of_solving, of_money, is_turned, MarketNumber, IsRightChoice, IsInjecting, IsFarkasOf}
-use Rattle.market_system.specs.MarketNumbers.{NamedSum, offset_of, factor_of, of_flow, output_of, of_price, of_welfare, of_settlement, of_farkas_price, farkas_bound_of}
-use Rattle.market_system.specs.MarketNumbers.{of_system, of_sum, is_fixed, is_up, is_down, is_load, is_shunt, is_limit, is_most_flow, is_line_offset, is_shift, is_loss, is_share, is_energy, is_up_dual, is_down_dual, is_farkas_energy, is_farkas_up, is_farkas_down, of_opposite}
+use Rattle.market_system.specs.MarketNumbers.{NamedSum, offset_of, factor_of, of_flow, of_reserve, output_of, of_price, of_worth, of_welfare, of_settlement, of_farkas_price, of_farkas_worth, farkas_bound_of}
+use Rattle.market_system.specs.MarketNumbers.{of_system, of_sum, is_fixed, is_up, is_down, is_load, is_shunt, is_limit, is_most_flow, is_line_offset, is_need, is_shift, is_loss, is_share, is_energy, is_up_dual, is_down_dual, is_reserve_price, is_room_price, is_farkas_energy, is_farkas_up, is_farkas_down, is_farkas_reserve, is_farkas_room, of_opposite}
 use Rattle.market_system.specs.ModestMarkets.{IsModest, LawOfModestMarkets, modest_mw, modest_price}
 use Rattle.market_system.specs.Growth.{GrowsBy}
-use Rattle.market_system.proofs.SystemLaws.{variable_in}
+use Rattle.market_system.proofs.SystemLaws.{nothing, variable_in}
 use Rattle.market_system.proofs.VariableLaws.{from_places}
 use Rattle.market_system.proofs.ModestNumbers.{IsWholeWithin, whole_within, nil_within, wider, neg_within, plus_within, times_within, same_within, number_fits, TermsWithin, append_within, map_within, prefix_within}
 use Rattle.market_system.proofs.ModestChoices.{entry_within, energy_within}
@@ -72,7 +75,7 @@ turned_small x small large = small (subst (IsTooLarge most) (by_ring ring_ℚ (x
 sums_within : (terms : List Term) (b : ℕ) → length terms ≤ 4001 → TermsWithin b terms → 4001 * b ≤ most → (k : ℕ) → IsWholeWithin most (prefix k terms)
 sums_within terms b count each room k = wider (4001 * b) most (prefix k terms) room (prefix_within 4001 b k terms count each)
 
-module _ (m : Parts) (market : IsMarket m) (lines : m.lines ≡ []) (modest : IsModest m) where
+module _ (m : Parts) (market : IsMarket m) (lines : m.lines ≡ []) (energy : m.reserve ≡ no_reserve) (modest : IsModest m) where
   bare : rows m ≡ []
   bare = no_rows m lines
 
@@ -84,25 +87,46 @@ module _ (m : Parts) (market : IsMarket m) (lines : m.lines ≡ []) (modest : Is
   congestion_within b k i d = subst (λ (rs : List Row). IsWholeWithin b (prefix k (map (λ r. Product (neg_ℚ (net_shadow_price m d r)) (row_factor m r i)) rs))) (sym bare)
       (wider (0 * b) b (prefix k []) (Prim.omega arith) (prefix_within 0 b k [] (Prim.omega arith) tt))
 
-  module _ (h : Choice) (is : IsChoice (system_of m []) h) where
-    injecting_small : (x : Dispatch) → IsInjecting m [] h x → (j : ℕ) → j < length m.blocks → IsWholeWithin modest_mw (accepted x j)
+  no_offer : (n : ℕ) → n < length m.reserve.offers → ⊥
+  no_offer n lt = let few = ap length (no_offers m energy) in Prim.omega (arith, lt, few)
+
+  -- over no rows, whatever rooms are listed; the price of reserve of duals that show that nothing is feasible is 0
+  module _ (g : Taken) (none : taken_in_order m g ≡ nothing) (h : Choice) (choice : IsChoice (system_of m g) h) (free : (d : Duals Fraction) → IsFarkasOf m g h d → d.reserve ≡ zero) where
+    same_system : system_of m g ≡ system_of m nothing
+    same_system = ap (system_over m) none
+
+    is : IsChoice (system_of m nothing) h
+    is = subst (λ (s : System). IsChoice s h) same_system choice
+
+    same_dispatch : choice_dispatch m g h ≡ choice_dispatch m nothing h
+    same_dispatch = ap (λ (s : System). point_dispatch m (value s h)) same_system
+
+    chosen_small : IsDispatch m (choice_dispatch m g h) → (j : ℕ) → j < length m.blocks → IsWholeWithin modest_mw (accepted (choice_dispatch m g h) j)
+    chosen_small d j lt =
+        subst (λ (y : Dispatch). IsWholeWithin modest_mw (accepted y j)) (sym same_dispatch)
+        (dispatch_small m market modest energy h is (subst (λ (y : Dispatch). IsDispatch m y) same_dispatch d) j lt)
+
+    injecting_small : (x : Dispatch) → IsInjecting m g h x → (j : ℕ) → j < length m.blocks → IsWholeWithin modest_mw (accepted x j)
     injecting_small x (inl e) j lt = subst (λ (y : Dispatch). IsWholeWithin modest_mw (accepted y j)) (sym e) (empty_small m market modest j lt)
     injecting_small x (inr q) j lt =
         subst (λ (y : Dispatch). IsWholeWithin modest_mw (accepted y j)) (sym q.0)
-        (dispatch_small m market modest h is (subst (λ (y : Dispatch). IsDispatch m y) q.0 q.1.feasible.blocks) j lt)
+        (chosen_small (subst (λ (y : Dispatch). IsDispatch m y) q.0 q.1.feasible.blocks) j lt)
 
-    best_small : IsRightChoice m [] h → (j : ℕ) → j < length m.blocks → IsWholeWithin modest_mw (accepted (choice_dispatch m [] h) j)
-    best_small best j lt = dispatch_small m market modest h is best.feasible.blocks j lt
+    best_small : IsRightChoice m g h → (j : ℕ) → j < length m.blocks → IsWholeWithin modest_mw (accepted (choice_dispatch m g h) j)
+    best_small best j lt = chosen_small best.feasible.blocks j lt
 
     -- the price of energy, and at a bus
-    price_is_modest : IsWholeWithin modest_price (choice_duals m [] h).energy
-    price_is_modest = energy_within m h is modest_price (price_within m market modest)
+    price_is_modest : IsWholeWithin modest_price (choice_duals m g h).energy
+    price_is_modest = subst (λ (s : System). IsWholeWithin modest_price (neg_ℚ (reduced s h (balance_name m)))) (sym same_system) (energy_within m energy h is modest_price (price_within m market modest))
 
     bus_price_within : (b : ℕ) (d : Duals Fraction) (i : ℕ) → IsWholeWithin b d.energy → IsWholeWithin b (bus_price m d i)
     bus_price_within b d i e = subst (IsWholeWithin b) (sym (bus_price-bare m d i bare)) e
 
     unit_price_within : (b : ℕ) (d : Duals Fraction) (u : ℕ) → IsWholeWithin b d.energy → IsWholeWithin b (unit_price m d u)
     unit_price_within b d u e = subst (IsWholeWithin b) (sym (unit_price-bare m d u bare)) e
+
+    worth_within : (b : ℕ) (d : Duals Fraction) (u : ℕ) → IsWholeWithin b d.energy → IsWholeWithin b (energy_worth m d u)
+    worth_within b d u e = subst (IsWholeWithin b) (sym (worth_is_price m energy d u)) (unit_price_within b d u e)
 
     -- the own price of a unit, at the bus prices: with no row after its loss, that of its bus
     own_price_within : (b : ℕ) (d : Duals Fraction) (u : ℕ) → IsWholeWithin b d.energy → IsWholeWithin b (own_price m d (bus_price m d) u)
@@ -116,32 +140,35 @@ module _ (m : Parts) (market : IsMarket m) (lines : m.lines ≡ []) (modest : Is
         (prefix_within 1 b k (Plain (bus_price m d (unit_at m u).bus) ∷ []) (Prim.omega arith) (bus_price_within b d (unit_at m u).bus e, tt)))
 
     -- at duals that show that nothing is feasible
-    farkas_energy_within : (d : Duals Fraction) → IsFarkasOf m [] h d → IsWholeWithin 1 d.energy
+    farkas_energy_within : (d : Duals Fraction) → IsFarkasOf m g h d → IsWholeWithin 1 d.energy
     farkas_energy_within d f = same_within 1 d.energy (multiplier h f.basic (balance_name m)) f.energy at_balance
       where
-        inside : Contains (system_of m []).variables (balance_name m)
-        inside = variable_in m (balance_name m) (Prim.omega arith)
+        basic : Contains (basics (system_of m nothing) h) f.basic
+        basic = subst (λ (s : System). Contains (basics s h) f.basic) same_system f.is_basic
+
+        inside : Contains (system_of m nothing).variables (balance_name m)
+        inside = variable_in m energy (balance_name m) (Prim.omega arith)
 
         at_test : (apart : ¬ (balance_name m ≡ f.basic)) (b : Bool) → h.basic (balance_name m) ≡ b → IsWholeWithin 1 (multiplier h f.basic (balance_name m))
-        at_test apart true e = subst (IsWholeWithin 1) (sym (multiplier-basic (system_of m []) h f.basic (balance_name m) apart e)) (nil_within 1)
-        at_test apart false e = subst (IsWholeWithin 1) (sym (multiplier-other (system_of m []) h f.basic (balance_name m) apart e))
-            (neg_within 1 (h.entry f.basic (balance_name m)) (entry_within m h is f.basic (balance_name m) f.is_basic (is_other (system_of m []) h (balance_name m) inside e)))
+        at_test apart true e = subst (IsWholeWithin 1) (sym (multiplier-basic (system_of m nothing) h f.basic (balance_name m) apart e)) (nil_within 1)
+        at_test apart false e = subst (IsWholeWithin 1) (sym (multiplier-other (system_of m nothing) h f.basic (balance_name m) apart e))
+            (neg_within 1 (h.entry f.basic (balance_name m)) (entry_within m energy h is f.basic (balance_name m) basic (is_other (system_of m nothing) h (balance_name m) inside e)))
 
         at_balance : IsWholeWithin 1 (multiplier h f.basic (balance_name m))
         at_balance = elim (same_or_not (balance_name m) f.basic) [
-          | inl e ↦ subst (IsWholeWithin 1) (sym (multiplier-itself (system_of m []) h f.basic (balance_name m) e)) (whole_within 1 (pos 1) (Prim.omega arith))
+          | inl e ↦ subst (IsWholeWithin 1) (sym (multiplier-itself (system_of m nothing) h f.basic (balance_name m) e)) (whole_within 1 (pos 1) (Prim.omega arith))
           | inr apart ↦ at_test apart (h.basic (balance_name m)) refl
         ]
 
-    farkas_within : (d : Duals Fraction) (k : ℕ) → IsFarkasOf m [] h d → IsWholeWithin most_value (prefix k (farkas_terms m d))
-    farkas_within d k f = subst (λ (ts : List Term). IsWholeWithin most_value (prefix k ts)) (sym (farkas_terms-bare m d bare))
+    farkas_within : (d : Duals Fraction) (k : ℕ) → IsFarkasOf m g h d → IsWholeWithin most_value (prefix k (farkas_terms m d))
+    farkas_within d k f = subst (λ (ts : List Term). IsWholeWithin most_value (prefix k ts)) (sym (farkas_terms-bare m d bare energy))
         (prefix_within 4001 most_balance k (Product d.energy (balance m (empty m)) ∷ map weighed (places (length m.blocks)))
         (Prim.omega (arith, length-map (places (length m.blocks)) weighed, length-range_with_len 0 (length m.blocks), market.block_count)) (
           times_within 1 most_balance d.energy (balance m (empty m)) (farkas_energy_within d f) (empty_balance_within m market modest),
           map_within most_balance weighed (places (length m.blocks)) (λ j c. let lt = from_places (length m.blocks) j c in
               wider modest_mw most_balance (part_above (block_weight m d j) *ℚ quantity m j) (Prim.omega arith)
               (times_within 1 modest_mw (part_above (block_weight m d j)) (quantity m j)
-              (part_above_within 1 (block_weight m d j) (signed_within 1 (block_at m j).side (unit_price m d (block_at m j).unit) (unit_price_within 1 d (block_at m j).unit (farkas_energy_within d f))))
+              (part_above_within 1 (block_weight m d j) (signed_within 1 (block_at m j).side (energy_worth m d (block_at m j).unit) (worth_within 1 d (block_at m j).unit (farkas_energy_within d f))))
               (quantity_within m market modest j lt))),
         ))
       where
@@ -162,7 +189,7 @@ module _ (m : Parts) (market : IsMarket m) (lines : m.lines ≡ []) (modest : Is
     price_sum_within b most k d terms (price_of_bus i same lt part) wide e = bus_price_sum_within b most k d i terms part wide e
     price_sum_within b most k d terms (price_of_unit same (own_price_of_unit u lt)) wide e = own_terms_within b most k d u wide e
 
-    flow_sum_within : (x : Dispatch) (k : ℕ) (terms : List Term) → IsInjecting m [] h x → FlowSum m x terms → IsWholeWithin most_value (prefix k terms)
+    flow_sum_within : (x : Dispatch) (k : ℕ) (terms : List Term) → IsInjecting m g h x → FlowSum m x terms → IsWholeWithin most_value (prefix k terms)
     flow_sum_within x k terms j (flow_in_balance same (balance_from_bus also (injection_at i lt))) = wider most_injection most_value (prefix k terms) (Prim.omega arith) (injection_within m market modest x (injecting_small x j) i k lt)
     flow_sum_within x k terms j (flow_in_balance same balance_of_all) = wider most_balance most_value (prefix k terms) (Prim.omega arith) (balance_within m market modest x (injecting_small x j) k)
     flow_sum_within x k terms j (flow_in_limits same (limited_line also (flow_of_line l lt))) = absurd (no_line l lt)
@@ -170,15 +197,31 @@ module _ (m : Parts) (market : IsMarket m) (lines : m.lines ≡ []) (modest : Is
         wider most_output most_value (prefix k terms) (Prim.omega arith) (output_terms_within m market modest x (injecting_small x j) (lost_unit m o) k (lost_unit-in m market o lt))
     flow_sum_within x k terms j (flow_in_limits same (limited_row r also c part)) = absurd (no_row m r bare c)
 
-    sum_within : (kind : Option Kind) (terms : List Term) (k : ℕ) → NamedSum m [] h kind terms → WithinOf kind (prefix k terms)
+    -- nothing of reserve counts
+    reserve_sum_within : (x : Dispatch) (k : ℕ) (terms : List Term) → ReserveSum m x terms → IsWholeWithin most_value (prefix k terms)
+    reserve_sum_within x k terms reserve_of_all = subst (λ (ns : List ℕ). IsWholeWithin most_value (prefix k (map (reserved_term x) ns))) (sym (no_places m energy))
+        (wider (0 * 1) most_value (prefix k []) (Prim.omega arith) (prefix_within 0 1 k [] (Prim.omega arith) tt))
+    reserve_sum_within x k terms (room_of_unit u c) = absurd (no_unit m energy u c)
+
+    no_worth : (d : Duals Fraction) (terms : List Term) → WorthSum m d terms → ⊥
+    no_worth d terms (energy_of_unit u c) = no_unit m energy u c
+    no_worth d terms (reserve_of_unit u c) = no_unit m energy u c
+
+    no_reserve_price : (choice_duals m g h).reserve ≡ zero
+    no_reserve_price = ap (λ (b : Bool). if b then part_above (neg_ℚ (reduced (system_of m g) h (need_name m))) else zero) (not_listed m energy)
+
+    sum_within : (kind : Option Kind) (terms : List Term) (k : ℕ) → NamedSum m g h kind terms → WithinOf kind (prefix k terms)
     sum_within _ terms k (offset_of r same c part) = absurd (no_row m r bare c)
     sum_within _ terms k (factor_of r same c part) = absurd (no_row m r bare c)
     sum_within _ terms k (of_flow x same j flow) = flow_sum_within x k terms j flow
-    sum_within _ terms k (output_of same best (output_of_unit u lt)) = wider most_output most_value (prefix k terms) (Prim.omega arith) (output_terms_within m market modest (choice_dispatch m [] h) (best_small best) u k lt)
-    sum_within _ terms k (of_price same best price) = price_sum_within modest_price (4000 * modest_price) k (choice_duals m [] h) terms price (Prim.omega arith) price_is_modest
+    sum_within _ terms k (of_reserve x same j part) = reserve_sum_within x k terms part
+    sum_within _ terms k (output_of same best (output_of_unit u lt)) = wider most_output most_value (prefix k terms) (Prim.omega arith) (output_terms_within m market modest (choice_dispatch m g h) (best_small best) u k lt)
+    sum_within _ terms k (of_price same best price) = price_sum_within modest_price (4000 * modest_price) k (choice_duals m g h) terms price (Prim.omega arith) price_is_modest
+    sum_within _ terms k (of_worth same best worth) = absurd (no_worth (choice_duals m g h) terms worth)
     sum_within _ _ k (of_welfare best) = tt
     sum_within _ terms k (of_settlement same best part) = tt
     sum_within _ terms k (of_farkas_price d same f price) = price_sum_within 1 4000 k d terms price (Prim.omega arith) (farkas_energy_within d f)
+    sum_within _ terms k (of_farkas_worth d same f worth) = absurd (no_worth d terms worth)
     sum_within _ terms k (farkas_bound_of d same f farkas_bound_of_all) = farkas_within d k f
 
     -- a number of a kind, or two of them, are small
@@ -203,8 +246,8 @@ module _ (m : Parts) (market : IsMarket m) (lines : m.lines ≡ []) (modest : Is
           | inr n ↦ Prim.omega (arith, size.1, n)
         ]
 
-    number_small : (kind : Kind) (x : Fraction) → MarketNumber m [] h kind x → NotTooLarge x
-    number_small kind x (of_system same y n) = kind_fits same y (system_within m market modest h is same y n)
+    number_small : (kind : Kind) (x : Fraction) → MarketNumber m g h kind x → NotTooLarge x
+    number_small kind x (of_system same y n) = kind_fits same y (system_within m market modest energy h is same y (subst (λ (s : System). SystemNumber s h same y) same_system n))
     number_small Quantity x (is_fixed u lt) = kind_fits Quantity x (wider modest_mw most_value x (Prim.omega arith) (fixed_within m market modest u lt))
     number_small Quantity x (is_up u lt) = kind_fits Quantity x (wider modest_mw most_value x (Prim.omega arith) (up_within m market modest u lt))
     number_small Quantity x (is_down u lt) = kind_fits Quantity x (wider modest_mw most_value x (Prim.omega arith) (down_within m market modest u lt))
@@ -213,26 +256,31 @@ module _ (m : Parts) (market : IsMarket m) (lines : m.lines ≡ []) (modest : Is
     number_small Quantity x (is_limit r c) = absurd (no_row m r bare c)
     number_small Quantity x (is_most_flow r c) = absurd (no_row m r bare c)
     number_small Quantity x (is_line_offset l lt) = absurd (no_line l lt)
+    number_small Quantity x is_need = kind_fits Quantity x (subst (IsWholeWithin most_value) (sym (no_need m energy)) (nil_within most_value))
     number_small Factor x (is_shift l i lt k) = absurd (no_line l lt)
     number_small Factor x (is_loss l lost lt k) = absurd (no_line l lt)
     number_small Factor x (is_share p c) = share_fits p c
     number_small Price x is_energy = kind_fits Price x (wider modest_price (4000 * modest_price) x (Prim.omega arith) price_is_modest)
     number_small Price x (is_up_dual r c) = absurd (no_row m r bare c)
     number_small Price x (is_down_dual r c) = absurd (no_row m r bare c)
+    number_small Price x is_reserve_price = kind_fits Price x (subst (IsWholeWithin (4000 * modest_price)) (sym no_reserve_price) (nil_within (4000 * modest_price)))
+    number_small Price x (is_room_price u c) = absurd (no_unit m energy u c)
     number_small Factor x (is_farkas_energy d f) = kind_fits Factor x (wider 1 4000 x (Prim.omega arith) (farkas_energy_within d f))
     number_small Factor x (is_farkas_up d r f c) = absurd (no_row m r bare c)
     number_small Factor x (is_farkas_down d r f c) = absurd (no_row m r bare c)
+    number_small Factor x (is_farkas_reserve d f) = kind_fits Factor x (subst (IsWholeWithin 4000) (sym (free d f)) (nil_within 4000))
+    number_small Factor x (is_farkas_room d u f c) = absurd (no_unit m energy u c)
     number_small kind x (of_sum same terms k named) = kind_fits same x (sum_within (Some same) terms k named)
     number_small kind x (of_opposite same y n) = turned_small y (number_small same y n)
 
     -- the first terms of the welfare, and of what is settled
-    welfare_each : IsRightChoice m [] h → TermsWithin (modest_price * most_output) (block_terms m (choice_dispatch m [] h))
-    welfare_each best = map_within (modest_price * most_output) (λ j. Product (block_value m j) (accepted (choice_dispatch m [] h) j)) (places (length m.blocks))
+    welfare_each : IsRightChoice m g h → TermsWithin (modest_price * most_output) (block_terms m (choice_dispatch m g h))
+    welfare_each best = map_within (modest_price * most_output) (λ j. Product (block_value m j) (accepted (choice_dispatch m g h) j)) (places (length m.blocks))
         (λ j c. let lt = from_places (length m.blocks) j c in
-        times_within modest_price most_output (block_value m j) (accepted (choice_dispatch m [] h) j) (block_value_within m market modest j lt)
-        (wider modest_mw most_output (accepted (choice_dispatch m [] h) j) (Prim.omega arith) (best_small best j lt)))
+        times_within modest_price most_output (block_value m j) (accepted (choice_dispatch m g h) j) (block_value_within m market modest j lt)
+        (wider modest_mw most_output (accepted (choice_dispatch m g h) j) (Prim.omega arith) (best_small best j lt)))
 
-    surplus_each : IsRightChoice m [] h → TermsWithin (modest_price * most_output) (surplus_terms m (choice_dispatch m [] h) (choice_duals m [] h))
+    surplus_each : IsRightChoice m g h → TermsWithin (modest_price * most_output) (surplus_terms m (choice_dispatch m g h) (choice_duals m g h))
     surplus_each best = append_within (modest_price * most_output) (map paying (places (length m.buses))) (map paid (places (length m.units)))
         (map_within (modest_price * most_output) paying (places (length m.buses)) (λ i c.
         times_within modest_price most_output (bus_price m d i) (demand m i) (bus_price_within modest_price d i price_is_modest) (demand_within m market modest i (from_places (length m.buses) i c))))
@@ -241,10 +289,10 @@ module _ (m : Parts) (market : IsMarket m) (lines : m.lines ≡ []) (modest : Is
         (output_within m market modest x (best_small best) u (from_places (length m.units) u c))))
       where
         x : Dispatch
-        x = choice_dispatch m [] h
+        x = choice_dispatch m g h
 
         d : Duals Fraction
-        d = choice_duals m [] h
+        d = choice_duals m g h
 
         paying : ℕ → Term
         paying i = Product (bus_price m d i) (demand m i)
@@ -255,26 +303,26 @@ module _ (m : Parts) (market : IsMarket m) (lines : m.lines ≡ []) (modest : Is
     abbrev Fits : List Term → Type 0
     Fits terms = (k : ℕ) → IsWholeWithin most (prefix k terms)
 
-    -- no limits, no penalties
+    -- no limits, no penalties, and no reserve, no cost of it
     welfare-bare : (x : Dispatch) → welfare_terms m x ≡ block_terms m x
-    welfare-bare x = ap (λ (rs : List Row). block_terms m x ++ penalty_terms m rs x) bare ∙ append-nil (block_terms m x)
+    welfare-bare x = welfare_alone m energy (rows m) x ∙ ap (λ (rs : List Row). block_terms m x ++ penalty_terms m rs x) bare ∙ append-nil (block_terms m x)
 
-    welfare_fits : IsRightChoice m [] h → Fits (welfare_terms m (choice_dispatch m [] h))
-    welfare_fits best = subst Fits (sym (welfare-bare (choice_dispatch m [] h)))
-        (sums_within (block_terms m (choice_dispatch m [] h)) (modest_price * most_output)
-        (Prim.omega (arith, market.block_count, length-map (places (length m.blocks)) (λ j. Product (block_value m j) (accepted (choice_dispatch m [] h) j)), length-range_with_len 0 (length m.blocks)))
+    welfare_fits : IsRightChoice m g h → Fits (welfare_terms m (choice_dispatch m g h))
+    welfare_fits best = subst Fits (sym (welfare-bare (choice_dispatch m g h)))
+        (sums_within (block_terms m (choice_dispatch m g h)) (modest_price * most_output)
+        (Prim.omega (arith, market.block_count, length-map (places (length m.blocks)) (λ j. Product (block_value m j) (accepted (choice_dispatch m g h) j)), length-range_with_len 0 (length m.blocks)))
         (welfare_each best) (Prim.omega arith))
 
-    surplus_fits : IsRightChoice m [] h → Fits (surplus_terms m (choice_dispatch m [] h) (choice_duals m [] h))
+    surplus_fits : IsRightChoice m g h → Fits (surplus_terms m (choice_dispatch m g h) (choice_duals m g h))
     surplus_fits best =
-        sums_within (surplus_terms m (choice_dispatch m [] h) (choice_duals m [] h)) (modest_price * most_output)
+        sums_within (surplus_terms m (choice_dispatch m g h) (choice_duals m g h)) (modest_price * most_output)
         (Prim.omega (
           arith,
           market.bus_count,
           market.unit_count,
-          length-append (map (λ i. Product (bus_price m (choice_duals m [] h) i) (demand m i)) (places (length m.buses))) (map (λ u. Product (neg_ℚ (own_price m (choice_duals m [] h) (bus_price m (choice_duals m [] h)) u)) (output m (choice_dispatch m [] h) u)) (places (length m.units))),
-          length-map (places (length m.buses)) (λ i. Product (bus_price m (choice_duals m [] h) i) (demand m i)),
-          length-map (places (length m.units)) (λ u. Product (neg_ℚ (own_price m (choice_duals m [] h) (bus_price m (choice_duals m [] h)) u)) (output m (choice_dispatch m [] h) u)),
+          length-append (map (λ i. Product (bus_price m (choice_duals m g h) i) (demand m i)) (places (length m.buses))) (map (λ u. Product (neg_ℚ (own_price m (choice_duals m g h) (bus_price m (choice_duals m g h)) u)) (output m (choice_dispatch m g h) u)) (places (length m.units))),
+          length-map (places (length m.buses)) (λ i. Product (bus_price m (choice_duals m g h) i) (demand m i)),
+          length-map (places (length m.units)) (λ u. Product (neg_ℚ (own_price m (choice_duals m g h) (bus_price m (choice_duals m g h)) u)) (output m (choice_dispatch m g h) u)),
           length-range_with_len 0 (length m.buses),
           length-range_with_len 0 (length m.units),
         ))
@@ -283,63 +331,67 @@ module _ (m : Parts) (market : IsMarket m) (lines : m.lines ≡ []) (modest : Is
     no_named : (d : Duals Fraction) (r : Row) → Contains (named_rows m d) r → ⊥
     no_named d r c = no_row m r bare (Contains-from_filter (λ (s : Row). names_row d.limits (row_id m s)) (rows m) r c).0
 
-    settled_fits : IsRightChoice m [] h → (terms : List Term) → SettledSum m (choice_dispatch m [] h) (bus_price m (choice_duals m [] h)) (choice_duals m [] h) terms → Fits terms
+    settled_fits : IsRightChoice m g h → (terms : List Term) → SettledSum m (choice_dispatch m g h) (bus_price m (choice_duals m g h)) (choice_duals m g h) terms → Fits terms
     settled_fits best terms (paid_output same (output_of_unit u lt)) =
-        sums_within terms modest_mw (output_count m market modest (choice_dispatch m [] h) (best_small best) u) (output_each m market modest (choice_dispatch m [] h) (best_small best) u lt) (Prim.omega arith)
-    settled_fits best terms (paid_price same (own_price_of_unit u lt)) = λ k. own_terms_within modest_price most k (choice_duals m [] h) u (Prim.omega arith) price_is_modest
+        sums_within terms modest_mw (output_count m market modest (choice_dispatch m g h) (best_small best) u) (output_each m market modest (choice_dispatch m g h) (best_small best) u lt) (Prim.omega arith)
+    settled_fits best terms (paid_price same (own_price_of_unit u lt)) = λ k. own_terms_within modest_price most k (choice_duals m g h) u (Prim.omega arith) price_is_modest
     settled_fits best terms (demand_of_bus i lt) = sums_within (demand_terms m i) modest_mw (Prim.omega arith) (load_within m market modest i lt, (shunt_within m market modest i lt, tt)) (Prim.omega arith)
     settled_fits best terms (payment same (paid_by_load i lt)) = sums_within terms (modest_price * most_output) (Prim.omega arith)
-        (times_within modest_price most_output (bus_price m (choice_duals m [] h) i) (demand m i) (bus_price_within modest_price (choice_duals m [] h) i price_is_modest) (demand_within m market modest i lt), tt)
+        (times_within modest_price most_output (bus_price m (choice_duals m g h) i) (demand m i) (bus_price_within modest_price (choice_duals m g h) i price_is_modest) (demand_within m market modest i lt), tt)
         (Prim.omega arith)
     settled_fits best terms (payment same (paid_to_unit u lt)) = sums_within terms (modest_price * most_output) (Prim.omega arith) (
-      times_within modest_price most_output (own_price m (choice_duals m [] h) (bus_price m (choice_duals m [] h)) u) (output m (choice_dispatch m [] h) u) (own_price_within modest_price (choice_duals m [] h) u price_is_modest)
-          (output_within m market modest (choice_dispatch m [] h) (best_small best) u lt),
+      times_within modest_price most_output (own_price m (choice_duals m g h) (bus_price m (choice_duals m g h)) u) (output m (choice_dispatch m g h) u) (own_price_within modest_price (choice_duals m g h) u price_is_modest)
+          (output_within m market modest (choice_dispatch m g h) (best_small best) u lt),
       tt,
     )
         (Prim.omega arith)
     settled_fits best terms (payment same left_of_all) = surplus_fits best
-    settled_fits best terms (payment same (rent_of_row r c)) = absurd (no_named (choice_duals m [] h) r c)
-    settled_fits best terms (paid_row r same c part) = absurd (no_named (choice_duals m [] h) r c)
+    settled_fits best terms (payment same (rent_of_row r c)) = absurd (no_named (choice_duals m g h) r c)
+    settled_fits best terms (payment same (paid_for_reserve n lt)) = absurd (no_offer n lt)
+    settled_fits best terms (paid_row r same c part) = absurd (no_named (choice_duals m g h) r c)
 
     abbrev FitsOf : Option Kind → List Term → Type 0
     FitsOf (Some kind) terms = Unit {0}
     FitsOf None terms = Fits terms
 
-    named_fits : (kind : Option Kind) (terms : List Term) → NamedSum m [] h kind terms → FitsOf kind terms
+    named_fits : (kind : Option Kind) (terms : List Term) → NamedSum m g h kind terms → FitsOf kind terms
     named_fits _ terms (offset_of r same c part) = tt
     named_fits _ terms (factor_of r same c part) = tt
     named_fits _ terms (of_flow x same j flow) = tt
+    named_fits _ terms (of_reserve x same j part) = tt
     named_fits _ terms (output_of same best part) = tt
     named_fits _ terms (of_price same best price) = tt
+    named_fits _ terms (of_worth same best worth) = tt
     named_fits _ _ (of_welfare best) = welfare_fits best
     named_fits _ terms (of_settlement same best part) = settled_fits best terms part
     named_fits _ terms (of_farkas_price d same f price) = tt
+    named_fits _ terms (of_farkas_worth d same f worth) = tt
     named_fits _ terms (farkas_bound_of d same f part) = tt
 
     -- and what a clear may have to write down
-    value_within : (b : ℕ) → Contains (basics (system_of m []) h) b → IsWholeWithin most_value (value (system_of m []) h b)
+    value_within : (b : ℕ) → Contains (basics (system_of m nothing) h) b → IsWholeWithin most_value (value (system_of m nothing) h b)
     unfolding value
     value_within b c =
-        let s = system_of m [] in
+        let s = system_of m nothing in
         subst (IsWholeWithin most_value)
         (prefix-all (value_terms s h b) ∙ sym (ap (λ (x : Bool). if x then total (value_terms s h b) else at_bound s h b) (basics_are s h b c).1))
-        (system_within m market modest h is Quantity (prefix (length (value_terms s h b)) (value_terms s h b)) (is_value b (length (value_terms s h b)) c))
+        (system_within m market modest energy h is Quantity (prefix (length (value_terms s h b)) (value_terms s h b)) (is_value b (length (value_terms s h b)) c))
 
-    solving_within : (x : Fraction) → SolvingNumber (system_of m []) h x → IsWholeWithin most x
-    solving_within _ (is_number kind x n) = kind_within kind x (system_within m market modest h is kind x n)
+    solving_within : (x : Fraction) → SolvingNumber (system_of m nothing) h x → IsWholeWithin most x
+    solving_within _ (is_number kind x n) = kind_within kind x (system_within m market modest energy h is kind x n)
     solving_within _ (is_fall b c beyond first) =
-        let s = system_of m [] in
+        let s = system_of m nothing in
         wider (most_value + most_value) most (s.high b -ℚ value s h b) (wide Quantity)
-        (plus_within most_value most_value (s.high b) (neg_ℚ (value s h b)) (system_within m market modest h is Quantity (s.high b) (is_high b (basics_are s h b c).0)) (neg_within most_value (value s h b) (value_within b c)))
+        (plus_within most_value most_value (s.high b) (neg_ℚ (value s h b)) (system_within m market modest energy h is Quantity (s.high b) (is_high b (basics_are s h b c).0)) (neg_within most_value (value s h b) (value_within b c)))
     solving_within _ (is_rise b c beyond first) =
-        let s = system_of m [] in
+        let s = system_of m nothing in
         wider (most_value + most_value) most (value s h b -ℚ s.low b) (wide Quantity)
-        (plus_within most_value most_value (value s h b) (neg_ℚ (s.low b)) (value_within b c) (neg_within most_value (s.low b) (system_within m market modest h is Quantity (s.low b) (is_low b (basics_are s h b c).0))))
+        (plus_within most_value most_value (value s h b) (neg_ℚ (s.low b)) (value_within b c) (neg_within most_value (s.low b) (system_within m market modest energy h is Quantity (s.low b) (is_low b (basics_are s h b c).0))))
     solving_within _ (turned_in_solving x n) = neg_within most x (solving_within x n)
 
-    clearing_small : (x : Fraction) → ClearingNumber m [] h x → NotTooLarge x
+    clearing_small : (x : Fraction) → ClearingNumber m g h x → NotTooLarge x
     clearing_small _ (of_kind kind x n) = number_small kind x n
-    clearing_small _ (of_solving x n) = number_fits most x (Prim.omega arith) (solving_within x n)
+    clearing_small _ (of_solving x n) = number_fits most x (Prim.omega arith) (solving_within x (subst (λ (s : System). SolvingNumber s h x) same_system n))
     clearing_small _ (of_money terms k named) = number_fits most (prefix k terms) (Prim.omega arith) (named_fits None terms named k)
     clearing_small _ (is_turned x n) = turned_small x (clearing_small x n)
 
@@ -348,7 +400,20 @@ module _ (m : Parts) (market : IsMarket m) (lines : m.lines ≡ []) (modest : Is
   nothing_taken [] g = refl
   nothing_taken (r ∷ more) g = absurd (no_row m r bare g.1)
 
+  -- and no rooms
+  no_rooms : (us : List ℕ) → rooms_in_order m us ≡ []
+  no_rooms [] = refl
+  no_rooms (u ∷ us) = ap (filter (is_among (u ∷ us))) (no_units m energy)
+
+  nothing_in_order : (g : Taken) → g.limits ≡ [] → taken_in_order m g ≡ nothing
+  nothing_in_order g e = ap₂ (λ (rs : List Row) (us : List ℕ). record { limits = rs; rooms = us }) (ap (in_order m) e) (no_rooms g.rooms)
+
+-- the law, where duals that show that nothing is feasible have no price of reserve in a market without it
+pub modest_markets_where : ((m : Parts) (g : Taken) (h : Choice) (d : Duals Fraction) → m.reserve.listed ≡ false → IsFarkasOf m g h d → d.reserve ≡ zero) → LawOfModestMarkets
+modest_markets_where free m market lines unlisted modest g h x reached is n =
+    let energy = market.reserve.unlisted unlisted in
+    let none : g.limits ≡ [] = reached.1 ∙ nothing_taken m market lines energy modest reached.0 reached.2 in
+    clearing_small m market lines energy modest g (nothing_in_order m market lines energy modest g none) h is (λ d f. free m g h d unlisted f) x n
+
 pub law_of_modest_markets : LawOfModestMarkets
-law_of_modest_markets m market lines modest rows h x reached is n =
-    let none : rows ≡ [] = reached.1 ∙ nothing_taken m market lines modest reached.0 reached.2 in
-    clearing_small m market lines modest h (subst (λ (rs : List Row). IsChoice (system_of m rs) h) none is) x (subst (λ (rs : List Row). ClearingNumber m rs h x) none n)
+law_of_modest_markets = modest_markets_where (λ m g h d unlisted f. f.energy_alone unlisted)

@@ -1,7 +1,8 @@
--- The numbers of a modest market without lines, at a choice of its system, are whole and small.
+-- The numbers of a modest market of energy alone without lines, at a choice of its system, are whole and small.
 use Rattle.std.specs.Prelude.{◌≡◌, ℕ, ◌+◌, ◌*◌, ◌≤◌, ◌<◌, ◌==◌, pos, ◌≤ℤ◌, Bool, true, false, not, List, [], ◌∷◌, ◌++◌, length, map, filter, if◌then◌else◌, unsigned_abs, refl}
 use Rattle.std.specs.List.{Contains}
 use Rattle.std.proofs.Common.{arith, ap, sym, ◌∙◌, subst}
+use Rattle.std.proofs.lemmas.Bool.{true≢false}
 use Rattle.std.proofs.lemmas.Int.{ints}
 use Rattle.std.proofs.lemmas.List.{length-append, length-map, get_or-replicate}
 use Rattle.std.proofs.lemmas.List.FromFn.{length-range_with_len, get_or-map-range_with_len}
@@ -20,12 +21,14 @@ use Rattle.market_model.specs.declared.participants.Parts.{Parts}
 use Rattle.market_model.specs.Market.{IsMarket}
 use Rattle.market_model.specs.Dispatch.{Dispatch, IsDispatch, zero, places, bus_at, unit_at, block_at, signed_by_side, accepted, quantity, units_at, blocks_at, fixed_term, block_term, injection_terms, injection, balance_terms, balance, output_terms, output, demand_terms, demand, empty}
 use Rattle.market_model.specs.Optimality.{price, block_value}
+use Rattle.market_model.specs.Reserves.{no_reserve}
+use Rattle.market_model.proofs.EnergyAlone.{no_offers, not_listed}
 use Rattle.market_model.proofs.WholeDispatch.{from_whole-≤ℚ}
 use Rattle.market_system.specs.MarketSystem.{residual_demand, low, high, system_of, choice_dispatch, IsVariableOf}
 use Rattle.market_system.specs.declared.variables.Variable.{Variable}
-use Rattle.market_system.specs.declared.variables.Variable.TheVariants.{Block, Balance, Limit, Over, Under}
+use Rattle.market_system.specs.declared.variables.Variable.TheVariants.{Block, Balance, Limit, Over, Under, Offer, Need, Room}
 use Rattle.market_system.specs.ModestMarkets.{IsModest, IsModestBus, IsModestUnit, IsModestBlock, modest_mw, modest_price}
-use Rattle.market_system.proofs.SystemLaws.{none_ordered, columns_are, column_below, variables_are, variable_in, the_row, is_system}
+use Rattle.market_system.proofs.SystemLaws.{nothing, none_ordered, columns_are, column_below, variables_are, variable_in, the_row, is_system}
 use Rattle.market_system.proofs.VariableLaws.{from_places, by_variable, coefficient-at, price-at, low-at, high-at}
 use Rattle.market_system.proofs.ModestNumbers.{IsWholeWithin, whole_within, nil_within, wider, neg_within, times_within, TermsWithin, append_within, map_within, prefix_within, length-filter_le}
 use Rattle.market_system.proofs.ModestChoices.{block_sign_within, entry_within, column_within}
@@ -165,99 +168,103 @@ module _ (m : Parts) (market : IsMarket m) (modest : IsModest m) where
   needed_within : IsWholeWithin most_balance (residual_demand m)
   needed_within = neg_within most_balance (balance m (empty m)) empty_balance_within
 
-  variable_within : (v : Variable) → IsVariableOf m [] v → IsWholeWithin most_balance (low m v) × IsWholeWithin most_balance (high m v)
-  variable_within (Block j) lt = (wider modest_mw most_balance zero (Prim.omega arith) (nil_within modest_mw), wider modest_mw most_balance (quantity m j) (Prim.omega arith) (quantity_within j lt))
-  variable_within Balance is = (needed_within, needed_within)
-  variable_within (Limit r) c = absurd (Prim.omega (arith, c.1))
-  variable_within (Over r) c = absurd (Prim.omega (arith, c.0.1))
-  variable_within (Under r) c = absurd (Prim.omega (arith, c.0.1))
+  module _ (energy : m.reserve ≡ no_reserve) where
+    variable_within : (v : Variable) → IsVariableOf m nothing v → IsWholeWithin most_balance (low m v) × IsWholeWithin most_balance (high m v)
+    variable_within (Block j) lt = (wider modest_mw most_balance zero (Prim.omega arith) (nil_within modest_mw), wider modest_mw most_balance (quantity m j) (Prim.omega arith) (quantity_within j lt))
+    variable_within Balance is = (needed_within, needed_within)
+    variable_within (Limit r) c = absurd (Prim.omega (arith, c.1))
+    variable_within (Over r) c = absurd (Prim.omega (arith, c.0.1))
+    variable_within (Under r) c = absurd (Prim.omega (arith, c.0.1))
+    variable_within (Offer n) lt = let few = ap length (no_offers m energy) in absurd (Prim.omega (arith, lt, few))
+    variable_within Need listed = absurd (true≢false (sym listed ∙ not_listed m energy))
+    variable_within (Room u) c = absurd (Prim.omega (arith, c.1))
 
-  pub low_within : (w : ℕ) → Contains (system_of m []).variables w → IsWholeWithin most_balance ((system_of m []).low w)
-  low_within = by_variable m [] (λ w. IsWholeWithin most_balance ((system_of m []).low w)) (λ v is. subst (IsWholeWithin most_balance) (sym (low-at m [] (none_ordered m) v is)) (variable_within v is).0)
+    pub low_within : (w : ℕ) → Contains (system_of m nothing).variables w → IsWholeWithin most_balance ((system_of m nothing).low w)
+    low_within = by_variable m nothing (λ w. IsWholeWithin most_balance ((system_of m nothing).low w)) (λ v is. subst (IsWholeWithin most_balance) (sym (low-at m nothing (none_ordered m) v is)) (variable_within v is).0)
 
-  pub high_within : (w : ℕ) → Contains (system_of m []).variables w → IsWholeWithin most_balance ((system_of m []).high w)
-  high_within = by_variable m [] (λ w. IsWholeWithin most_balance ((system_of m []).high w)) (λ v is. subst (IsWholeWithin most_balance) (sym (high-at m [] (none_ordered m) v is)) (variable_within v is).1)
+    pub high_within : (w : ℕ) → Contains (system_of m nothing).variables w → IsWholeWithin most_balance ((system_of m nothing).high w)
+    high_within = by_variable m nothing (λ w. IsWholeWithin most_balance ((system_of m nothing).high w)) (λ v is. subst (IsWholeWithin most_balance) (sym (high-at m nothing (none_ordered m) v is)) (variable_within v is).1)
 
-  -- at a choice of the system
-  module _ (h : Choice) (is : IsChoice (system_of m []) h) where
-    abbrev s : System
-    s = system_of m []
+    -- at a choice of the system
+    module _ (h : Choice) (is : IsChoice (system_of m nothing) h) where
+      abbrev s : System
+      s = system_of m nothing
 
-    bound_within : (w : ℕ) → Contains s.variables w → IsWholeWithin most_balance (at_bound s h w)
-    unfolding at_bound
-    bound_within w c = either_within most_balance (h.high w) (s.high w) (s.low w) (high_within w c) (low_within w c)
+      bound_within : (w : ℕ) → Contains s.variables w → IsWholeWithin most_balance (at_bound s h w)
+      unfolding at_bound
+      bound_within w c = either_within most_balance (h.high w) (s.high w) (s.low w) (high_within w c) (low_within w c)
 
-    value_each : (b : ℕ) → Contains (basics s h) b → TermsWithin most_balance (value_terms s h b)
-    unfolding value_terms
-    value_each b c = map_within most_balance (λ w. Product (h.entry b w) (at_bound s h w)) (others s h)
-        (λ w k. times_within 1 most_balance (h.entry b w) (at_bound s h w) (entry_within m h is b w c k) (bound_within w (others_are s h w k).0))
+      value_each : (b : ℕ) → Contains (basics s h) b → TermsWithin most_balance (value_terms s h b)
+      unfolding value_terms
+      value_each b c = map_within most_balance (λ w. Product (h.entry b w) (at_bound s h w)) (others s h)
+          (λ w k. times_within 1 most_balance (h.entry b w) (at_bound s h w) (entry_within m energy h is b w c k) (bound_within w (others_are s h w k).0))
 
-    value_count : (b : ℕ) → length (value_terms s h b) ≤ 4001
-    unfolding value_terms others
-    value_count b = Prim.omega (
-      arith,
-      length-map (others s h) (λ w. Product (h.entry b w) (at_bound s h w)),
-      length-filter_le (λ w. not (h.basic w)) s.variables,
-      ap length (variables_are m),
-      length-range_with_len 0 (length m.blocks + 1),
-      market.block_count,
-    )
+      value_count : (b : ℕ) → length (value_terms s h b) ≤ 4001
+      unfolding value_terms others
+      value_count b = Prim.omega (
+        arith,
+        length-map (others s h) (λ w. Product (h.entry b w) (at_bound s h w)),
+        length-filter_le (λ w. not (h.basic w)) s.variables,
+        ap length (variables_are m energy),
+        length-range_with_len 0 (length m.blocks + 1),
+        market.block_count,
+      )
 
-    pub value_terms_within : (b k : ℕ) → Contains (basics s h) b → IsWholeWithin most_value (prefix k (value_terms s h b))
-    value_terms_within b k c = prefix_within 4001 most_balance k (value_terms s h b) (value_count b) (value_each b c)
+      pub value_terms_within : (b k : ℕ) → Contains (basics s h) b → IsWholeWithin most_value (prefix k (value_terms s h b))
+      value_terms_within b k c = prefix_within 4001 most_balance k (value_terms s h b) (value_count b) (value_each b c)
 
-    value_within : (w : ℕ) → Contains s.variables w → IsWholeWithin most_value (value s h w)
-    unfolding value
-    value_within w c = at_test (h.basic w) refl
-      where
-        at_test : (b : Bool) → h.basic w ≡ b → IsWholeWithin most_value (if b then total (value_terms s h w) else at_bound s h w)
-        at_test true e = total_within 4001 most_balance (value_terms s h w) (value_count w) (value_each w (is_basic s h w c e))
-        at_test false e = wider most_balance most_value (at_bound s h w) (Prim.omega arith) (bound_within w c)
+      value_within : (w : ℕ) → Contains s.variables w → IsWholeWithin most_value (value s h w)
+      unfolding value
+      value_within w c = at_test (h.basic w) refl
+        where
+          at_test : (b : Bool) → h.basic w ≡ b → IsWholeWithin most_value (if b then total (value_terms s h w) else at_bound s h w)
+          at_test true e = total_within 4001 most_balance (value_terms s h w) (value_count w) (value_each w (is_basic s h w c e))
+          at_test false e = wider most_balance most_value (at_bound s h w) (Prim.omega arith) (bound_within w c)
 
-    -- the dispatch of a choice is whole, so within the blocks' bounds it is small
-    pub dispatch_small : IsDispatch m (choice_dispatch m [] h) → (j : ℕ) → j < length m.blocks → IsWholeWithin modest_mw (accepted (choice_dispatch m [] h) j)
-    dispatch_small d j lt =
-        let e : accepted (choice_dispatch m [] h) j ≡ value s h j = get_or-map-range_with_len (value s h) 0 (length m.blocks) j j zero lt (Prim.omega arith) in
-        let v : IsWholeWithin most_value (value s h j) = value_within j (variable_in m j (Prim.omega (arith, lt))) in
-        let above : pos 0 ≤ℤ v.number = from_whole-≤ℚ (pos 0) v.number (subst (λ t. zero ≤ℚ t) (e ∙ v.is) (d.above j lt)) in
-        let below : v.number ≤ℤ (block_at m j).quantity = from_whole-≤ℚ v.number (block_at m j).quantity (subst (λ t. t ≤ℚ quantity m j) (e ∙ v.is) (d.within j lt)) in
-        record { number = v.number; is = e ∙ v.is; within = Prim.omega (arith, ints, above, below, quantity_size j lt) }
+      -- the dispatch of a choice is whole, so within the blocks' bounds it is small
+      pub dispatch_small : IsDispatch m (choice_dispatch m nothing h) → (j : ℕ) → j < length m.blocks → IsWholeWithin modest_mw (accepted (choice_dispatch m nothing h) j)
+      dispatch_small d j lt =
+          let e : accepted (choice_dispatch m nothing h) j ≡ value s h j = get_or-map-range_with_len (value s h) 0 (length m.blocks) j j zero lt (Prim.omega arith) in
+          let v : IsWholeWithin most_value (value s h j) = value_within j (variable_in m energy j (Prim.omega (arith, lt))) in
+          let above : pos 0 ≤ℤ v.number = from_whole-≤ℚ (pos 0) v.number (subst (λ t. zero ≤ℚ t) (e ∙ v.is) (d.above j lt)) in
+          let below : v.number ≤ℤ (block_at m j).quantity = from_whole-≤ℚ v.number (block_at m j).quantity (subst (λ t. t ≤ℚ quantity m j) (e ∙ v.is) (d.within j lt)) in
+          record { number = v.number; is = e ∙ v.is; within = Prim.omega (arith, ints, above, below, quantity_size j lt) }
 
-    coefficient_within : (r j : ℕ) → Contains s.rows r → Contains s.columns j → IsWholeWithin 1 (s.coefficient r j)
-    coefficient_within r j c k =
-        subst (λ (u : ℕ). IsWholeWithin 1 (s.coefficient u j)) (sym (the_row m r c))
-        (subst (IsWholeWithin 1) (sym (coefficient-at m [] (none_ordered m) Balance (Block j) tt (column_below m j k))) (block_sign_within m j))
+      coefficient_within : (r j : ℕ) → Contains s.rows r → Contains s.columns j → IsWholeWithin 1 (s.coefficient r j)
+      coefficient_within r j c k =
+          subst (λ (u : ℕ). IsWholeWithin 1 (s.coefficient u j)) (sym (the_row m energy r c))
+          (subst (IsWholeWithin 1) (sym (coefficient-at m nothing (none_ordered m) Balance (Block j) tt (column_below m energy j k))) (block_sign_within m j))
 
-    price_of_within : (j : ℕ) → Contains s.columns j → IsWholeWithin modest_price (s.price j)
-    price_of_within j k = let lt = column_below m j k in subst (IsWholeWithin modest_price) (sym (price-at m [] (none_ordered m) (Block j) lt)) (block_value_within j lt)
+      price_of_within : (j : ℕ) → Contains s.columns j → IsWholeWithin modest_price (s.price j)
+      price_of_within j k = let lt = column_below m energy j k in subst (IsWholeWithin modest_price) (sym (price-at m nothing (none_ordered m) (Block j) lt)) (block_value_within j lt)
 
-    column_listed : (j : ℕ) → Contains s.columns j → Contains s.variables j
-    column_listed = (is_system m).column
+      column_listed : (j : ℕ) → Contains s.columns j → Contains s.variables j
+      column_listed = (is_system m).column
 
-    row_each : (r w : ℕ) → Contains s.rows r → Contains (others s h) w → TermsWithin 1 (row_entry_terms s h r w)
-    unfolding row_entry_terms
-    row_each r w d c = map_within 1 (λ j. Product (s.coefficient r j) (column_entry h j w)) s.columns
-        (λ j k. times_within 1 1 (s.coefficient r j) (column_entry h j w) (coefficient_within r j d k) (column_within m h is j w (column_listed j k) c))
+      row_each : (r w : ℕ) → Contains s.rows r → Contains (others s h) w → TermsWithin 1 (row_entry_terms s h r w)
+      unfolding row_entry_terms
+      row_each r w d c = map_within 1 (λ j. Product (s.coefficient r j) (column_entry h j w)) s.columns
+          (λ j k. times_within 1 1 (s.coefficient r j) (column_entry h j w) (coefficient_within r j d k) (column_within m energy h is j w (column_listed j k) c))
 
-    reduced_each : (w : ℕ) → Contains (others s h) w → TermsWithin modest_price (reduced_terms s h w)
-    unfolding reduced_terms
-    reduced_each w c = map_within modest_price (λ j. Product (s.price j) (column_entry h j w)) s.columns
-        (λ j k. times_within modest_price 1 (s.price j) (column_entry h j w) (price_of_within j k) (column_within m h is j w (column_listed j k) c))
+      reduced_each : (w : ℕ) → Contains (others s h) w → TermsWithin modest_price (reduced_terms s h w)
+      unfolding reduced_terms
+      reduced_each w c = map_within modest_price (λ j. Product (s.price j) (column_entry h j w)) s.columns
+          (λ j k. times_within modest_price 1 (s.price j) (column_entry h j w) (price_of_within j k) (column_within m energy h is j w (column_listed j k) c))
 
-    columns_count : (f : ℕ → Term) → length (map f s.columns) ≤ 4000
-    columns_count f = Prim.omega (arith, ap (λ (ws : List ℕ). length (map f ws)) (columns_are m), terms_of_places f (length m.blocks), market.block_count)
+      columns_count : (f : ℕ → Term) → length (map f s.columns) ≤ 4000
+      columns_count f = Prim.omega (arith, ap (λ (ws : List ℕ). length (map f ws)) (columns_are m energy), terms_of_places f (length m.blocks), market.block_count)
 
-    -- the numbers of the system
-    pub system_within : (kind : Kind) (x : Fraction) → SystemNumber s h kind x → IsWholeWithin (most_of kind) x
-    unfolding row_entry_terms reduced_terms
-    system_within Factor x is_zero = nil_within 4000
-    system_within Factor x is_one = whole_within 4000 (pos 1) (Prim.omega arith)
-    system_within Factor x (is_coefficient r j c k) = wider 1 4000 (s.coefficient r j) (Prim.omega arith) (coefficient_within r j c k)
-    system_within Factor x (is_entry b w c k) = wider 1 4000 (h.entry b w) (Prim.omega arith) (entry_within m h is b w c k)
-    system_within Factor x (is_row_entry r w k c d) = prefix_within 4000 1 k (row_entry_terms s h r w) (columns_count (λ j. Product (s.coefficient r j) (column_entry h j w))) (row_each r w c d)
-    system_within Quantity x (is_low w c) = wider most_balance most_value (s.low w) (Prim.omega arith) (low_within w c)
-    system_within Quantity x (is_high w c) = wider most_balance most_value (s.high w) (Prim.omega arith) (high_within w c)
-    system_within Quantity x (is_value b k c) = value_terms_within b k c
-    system_within Price x (is_price j c) = wider modest_price (4000 * modest_price) (s.price j) (Prim.omega arith) (price_of_within j c)
-    system_within Price x (is_reduced w k c) = prefix_within 4000 modest_price k (reduced_terms s h w) (columns_count (λ j. Product (s.price j) (column_entry h j w))) (reduced_each w c)
-    system_within kind x (is_opposite same y n) = neg_within (most_of same) y (system_within same y n)
+      -- the numbers of the system
+      pub system_within : (kind : Kind) (x : Fraction) → SystemNumber s h kind x → IsWholeWithin (most_of kind) x
+      unfolding row_entry_terms reduced_terms
+      system_within Factor x is_zero = nil_within 4000
+      system_within Factor x is_one = whole_within 4000 (pos 1) (Prim.omega arith)
+      system_within Factor x (is_coefficient r j c k) = wider 1 4000 (s.coefficient r j) (Prim.omega arith) (coefficient_within r j c k)
+      system_within Factor x (is_entry b w c k) = wider 1 4000 (h.entry b w) (Prim.omega arith) (entry_within m energy h is b w c k)
+      system_within Factor x (is_row_entry r w k c d) = prefix_within 4000 1 k (row_entry_terms s h r w) (columns_count (λ j. Product (s.coefficient r j) (column_entry h j w))) (row_each r w c d)
+      system_within Quantity x (is_low w c) = wider most_balance most_value (s.low w) (Prim.omega arith) (low_within w c)
+      system_within Quantity x (is_high w c) = wider most_balance most_value (s.high w) (Prim.omega arith) (high_within w c)
+      system_within Quantity x (is_value b k c) = value_terms_within b k c
+      system_within Price x (is_price j c) = wider modest_price (4000 * modest_price) (s.price j) (Prim.omega arith) (price_of_within j c)
+      system_within Price x (is_reduced w k c) = prefix_within 4000 modest_price k (reduced_terms s h w) (columns_count (λ j. Product (s.price j) (column_entry h j w))) (reduced_each w c)
+      system_within kind x (is_opposite same y n) = neg_within (most_of same) y (system_within same y n)

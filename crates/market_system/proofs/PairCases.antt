@@ -1,11 +1,12 @@
 -- What is refused outside the dictionary is a working pair of the market over the rows in hand: each operation by its name.
-use Rattle.std.specs.Prelude.{◌≡◌, ℕ, Contains, ◌+◌, ◌<◌, ◌==◌, pos, List, [], ◌∷◌, ◌++◌, length, map, filter, refl, ◌⊎◌, Option, Some, None}
+use Rattle.std.specs.Prelude.{◌≡◌, ℕ, Contains, ◌+◌, ◌<◌, ◌==◌, pos, Bool, true, false, if◌then◌else◌, List, [], ◌∷◌, ◌++◌, ◌||◌, length, map, filter, slice_index_or, refl, ◌⊎◌, Option, Some, None}
 use Rattle.std.specs.List.{flat_map}
 use Rattle.std.proofs.Common.{zero, suc, arith, ap, ap₂, sym, ◌∙◌, subst, inl, inr, get_or}
+use Rattle.std.proofs.lemmas.Bool.Decides.{eqb_tells}
 use Rattle.std.proofs.lemmas.List.FromFn.{length-range_with_len, get_or-range_with_len}
 use Rattle.fraction_theory.specs.Fraction.{Fraction, whole, neg_ℚ, ◌+ℚ◌, ◌-ℚ◌, ◌*ℚ◌}
 use Rattle.fraction_theory.specs.Sums.{Term, Plain, Product, term_value, prefix, total}
-use Rattle.fraction_theory.proofs.Ring.{by_ring, by_ring1, at, pone, pneg, ◌⊕◌, ◌⊗◌}
+use Rattle.fraction_theory.proofs.Ring.{by_ring, by_ring1, at, pnil, pone, pneg, ◌⊕◌, ◌⊗◌}
 use Rattle.fraction_theory.proofs.FieldLaws.{ring_ℚ}
 use Rattle.fraction_theory.specs.Signs.{sign_of, where_above, part_above}
 use Rattle.fraction_theory.specs.declared.Sign.{Sign}
@@ -20,14 +21,15 @@ use Rattle.linear_system.specs.Choices.{Choice, IsChoice}
 use Rattle.linear_system.specs.Numbers.{Kind, Factor, Quantity, Price, SolvingNumber, SystemNumber, is_zero, is_high}
 use Rattle.linear_system.specs.Pairs.{IsCombined, alone, sum, difference, IsSummand, plain, IsPairCase, added, subtracted, scaled_right, scaled_left, AtEither, IsForLarge, added_to, itself, OfEither, IsSystemPair}
 use Rattle.linear_system.proofs.PairLaws.{IsForLarge-each, IsPairCase-each, IsScaling, less_large}
-use Rattle.fraction_theory.proofs.ListSums.{Contains-head, Contains-cons, Contains-from_filter}
+use Rattle.fraction_theory.proofs.ListSums.{Contains-head, Contains-cons, Contains-filter, Contains-from_filter}
 use Rattle.std.proofs.lemmas.List.Elements.{All-contains}
 use Rattle.market_model.specs.declared.answered.Duals.{Duals}
 use Rattle.market_model.specs.declared.participants.Parts.{Parts}
 use Rattle.market_model.specs.declared.participants.Pickup.{Pickup}
+use Rattle.market_model.specs.declared.participants.ReserveOffer.{ReserveOffer}
 use Rattle.market_model.specs.declared.participants.Side.{Side}
 use Rattle.market_model.specs.declared.participants.Side.TheVariants.{Sell, Buy}
-use Rattle.market_model.specs.Dispatch.{Dispatch, places, bus_at, unit_at, block_at, units_at, blocks_at, blocks_of, fixed_term, block_term, signed_by_side, quantity, injection, injection_terms, output, output_terms, balance, balance_terms, empty}
+use Rattle.market_model.specs.Dispatch.{Dispatch, zero as nil, places, bus_at, unit_at, block_at, offer_at, units_at, blocks_at, blocks_of, fixed_term, block_term, signed_by_side, quantity, reserve_quantity, injection, injection_terms, output, output_terms, balance, balance_terms, empty}
 use Rattle.limit_rows.proofs.ApartLemmas.{names_apart}
 use Rattle.market_model.specs.declared.limits.Cause.{Cause}
 use Rattle.market_model.specs.declared.limits.Row.{Row}
@@ -35,17 +37,22 @@ use Rattle.market_model.specs.declared.limits.Cause.TheVariants.{Base, Branch, U
 use Rattle.market_model.specs.LimitRows.{IsCauseOf, carried, rows, loses, lost_output, lost_unit, most_flow, picked_up_terms, pickup_factor, pickup_terms, pickups_of, row_pickup, shift_factor, share_value, taker_terms, line_offset, line_terms, line_flow, flow_terms, terms_under, row_factor, factor_terms, flow}
 use Rattle.market_model.specs.Market.{IsMarket, IsPickup}
 use Rattle.market_model.specs.NamedSums.{SameSize, term_at, IsNextTerm, IsSumStep, IsRefusedIn, IsRefusal}
-use Rattle.market_model.specs.Optimality.{net_shadow_price, up_of, down_of, bus_price, own_terms, unit_price, welfare_terms}
-use Rattle.market_model.specs.Infeasibility.{block_weight, limit_terms, farkas_terms}
-use Rattle.market_model.specs.SumTables.{injection_at, balance_from_bus, balance_of_all, flow_of_line, flow_of_row, output_of_lost, limited_line, limited_unit, limited_row, FlowSum, flow_in_balance, flow_in_limits, offset_of_row, pickup_of_row, factor_at_bus, factor_of_pickup, output_of_unit, BusPriceSum, own_price_of_unit, PickupSum, PriceSum, price_of_bus, price_of_unit, congestion_at, price_at, farkas_bound_of_all}
+use Rattle.market_model.specs.Optimality.{Taken, net_shadow_price, up_of, down_of, bus_price, own_terms, unit_price, room_price, room_price_in, worth_terms, energy_worth, reserve_worth_terms, reserve_worth, welfare_terms}
+use Rattle.market_model.specs.Reserves.{offers_among, offers_reserve, offer_places, offers_of, reserve_need, reserve_units, reserved_term, room}
+use Rattle.market_model.specs.Infeasibility.{block_most, block_weight, offer_most, offer_weight, limit_terms, reserve_left_terms, nothing_terms, farkas_terms}
+use Rattle.market_model.specs.SumTables.{injection_at, balance_from_bus, balance_of_all, flow_of_line, flow_of_row, output_of_lost, limited_line, limited_unit, limited_row, FlowSum, flow_in_balance, flow_in_limits, offset_of_row, pickup_of_row, factor_at_bus, factor_of_pickup, output_of_unit, BusPriceSum, own_price_of_unit, PickupSum, PriceSum, price_of_bus, price_of_unit, congestion_at, price_at, ReserveSum, reserve_of_all, room_of_unit, WorthSum, energy_of_unit, reserve_of_unit, farkas_bound_of_all}
 use Rattle.market_model.proofs.MarketSums.{block_unit-in, unit_bus-in}
+use Rattle.market_model.proofs.ReserveSums.{offer_unit-in}
 use Rattle.market_model.proofs.RowMembers.{at_places}
 use Rattle.market_system.specs.Growth.{Growth}
-use Rattle.market_system.specs.MarketNumbers.{ClearingNumber, of_kind, of_money, of_solving, is_turned, IsInjecting, IsFarkasOf, NamedSum, offset_of, factor_of, of_flow, output_of, of_price, of_welfare, of_settlement, of_farkas_price, farkas_bound_of, MarketNumber, of_system, of_sum, is_most_flow, is_line_offset, is_shift, is_loss, is_share, is_up_dual, is_down_dual, is_farkas_energy, is_farkas_up, is_farkas_down, of_opposite}
-use Rattle.market_system.specs.MarketSystem.{system_of, choice_dispatch, choice_duals}
+use Rattle.market_system.specs.MarketNumbers.{ClearingNumber, of_kind, of_money, of_solving, is_turned, IsInjecting, IsFarkasOf, NamedSum, offset_of, factor_of, of_flow, of_reserve, output_of, of_price, of_worth, of_welfare, of_settlement, of_farkas_price, of_farkas_worth, farkas_bound_of, MarketNumber, of_system, of_sum, is_most_flow, is_line_offset, is_shift, is_loss, is_share, is_up, is_need, is_up_dual, is_down_dual, is_farkas_energy, is_farkas_up, is_farkas_down, is_farkas_reserve, is_farkas_room, of_opposite}
+use Rattle.market_system.specs.MarketSystem.{IsVariableOf, high, name, system_of, taken_in_order, choice_dispatch, choice_duals}
+use Rattle.market_system.specs.declared.variables.Variable.{Variable}
+use Rattle.market_system.specs.declared.variables.Variable.TheVariants.{Block, Offer}
 use Rattle.market_system.specs.PairLaw.{LawOfThePairs}
 use Rattle.market_system.proofs.DualLists.{rows_apart}
-use Rattle.market_system.proofs.MarketPoints.{high-block, block_in}
+use Rattle.market_system.proofs.RowOrder.{AreInOrder}
+use Rattle.market_system.proofs.VariableLaws.{from_places, high-at, in_places, taken-in_order, variable_in}
 use Rattle.market_system.specs.WorkingPairs.{IsRangeOf}
 
 -- ---- numbers of any sort that count with either sign
@@ -170,9 +177,9 @@ module _ (M : Fraction → Type 0) (turned : (x : Fraction) → M x → M (neg_�
   sum_large bound p r = step_large bound p.op p.left p.right r.place r.step r.too_large
 
 -- a working pair of the system is one of the market
-pub of_system_pair : (m : Parts) (taken g : List Row) → Growth m taken g → (bound : ℕ) (p : Passed Fraction) → IsSystemPair (system_of m g) bound p.op p.left p.right → IsRangeOf m taken bound p
+pub of_system_pair : (m : Parts) (taken : List Row) (g : Taken) → Growth m taken g.limits → (bound : ℕ) (p : Passed Fraction) → IsSystemPair (system_of m g) bound p.op p.left p.right → IsRangeOf m taken bound p
 of_system_pair m taken g reached bound p pair = record {
-  rows = g;
+  over = g;
   reached = reached;
   pair = record {
     passes = pair.passes;
@@ -194,8 +201,22 @@ of_system_pair m taken g reached bound p pair = record {
     each kind x (inl n) = inl (of_system kind x n)
     each kind x (inr n) = inr (of_system kind x n)
 
+-- the unit of an offer is among those that offer reserve
+among_offers : (os : List ReserveOffer) (n : ℕ) (o : ReserveOffer) → n < length os → offers_among os (slice_index_or os n o).unit ≡ true
+among_offers [] n o lt = absurd (Prim.omega (arith, lt))
+among_offers (q ∷ qs) zero o lt = elim (eqb_tells q.unit q.unit) [ inl t ↦ ap (λ (b : Bool). b || offers_among qs q.unit) t.0 | inr t ↦ absurd (t.1 refl) ]
+among_offers (q ∷ qs) (suc n) o lt = behind (q.unit == (slice_index_or qs n o).unit) (among_offers qs n o (Prim.omega (arith, lt)))
+  where
+    behind : (b : Bool) → offers_among qs (slice_index_or qs n o).unit ≡ true → (b || offers_among qs (slice_index_or qs n o).unit) ≡ true
+    behind true e = refl
+    behind false e = e
+
+offer_unit-among : (m : Parts) → IsMarket m → (n : ℕ) → n < length m.reserve.offers → Contains (reserve_units m) (offer_at m n).unit
+offer_unit-among m market n lt =
+    Contains-filter (offers_reserve m) (places (length m.units)) (offer_at m n).unit (in_places (length m.units) (offer_at m n).unit (offer_unit-in m market n lt)) (among_offers m.reserve.offers n _ lt)
+
 -- ---- one choice, over rows that are reached
-module _ (m : Parts) (taken g : List Row) (reached : Growth m taken g) (h : Choice) (is : IsChoice (system_of m g) h) (bound : ℕ) (p : Passed Fraction) where
+module _ (m : Parts) (taken : List Row) (g : Taken) (reached : Growth m taken g.limits) (h : Choice) (is : IsChoice (system_of m g) h) (bound : ℕ) (p : Passed Fraction) where
   abbrev Number : Kind → Fraction → Type 0
   Number = MarketNumber m g h
 
@@ -208,7 +229,7 @@ module _ (m : Parts) (taken g : List Row) (reached : Growth m taken g) (h : Choi
 
   pub by_numbers : Passes bound p.op p.left p.right → IsPairCase Number p.op p.left p.right → IsForLarge (ClearingNumber m g h) bound p.op p.left p.right → IsRangeOf m taken bound p
   by_numbers passes c large = record {
-    rows = g;
+    over = g;
     reached = reached;
     pair = record {
       passes = passes;
@@ -224,7 +245,7 @@ module _ (m : Parts) (taken g : List Row) (reached : Growth m taken g) (h : Choi
 
   pub by_settled : (terms : List Term) → NamedSum m g h None terms → IsRefusedIn terms bound p → IsRangeOf m taken bound p
   by_settled terms named r = record {
-    rows = g;
+    over = g;
     reached = reached;
     pair = record {
       passes = r.passes;
@@ -376,6 +397,18 @@ module _ (m : Parts) (taken g : List Row) (reached : Growth m taken g) (h : Choi
         (under_scaled Quantity (line_flow m (injection m x)) lined r.line r.cause s.0 s.1)
         (picked_up_scaled r c)
 
+  -- ---- reserve
+  reserves_scaled : (x : Dispatch) (terms : List Term) → ReserveSum m x terms → AreScaled Quantity terms
+  reserves_scaled x terms reserve_of_all = scaled_map Quantity (reserved_term x) (offer_places m) (λ n c. tt)
+  reserves_scaled x terms (room_of_unit u k) =
+      scaled_append Quantity (map (block_term m x) (blocks_of m u)) (map (reserved_term x) (offers_of m u))
+      (scaled_map Quantity (block_term m x) (blocks_of m u) (λ j c. tt))
+      (scaled_map Quantity (reserved_term x) (offers_of m u) (λ n c. tt))
+
+  worths_scaled : (kind : Kind) (d : Duals Fraction) (terms : List Term) → WorthSum m d terms → AreScaled kind terms
+  worths_scaled kind d terms (energy_of_unit u c) = (tt, (tt, tt))
+  worths_scaled kind d terms (reserve_of_unit u c) = (tt, (tt, tt))
+
   -- ---- prices
   module _ (kind : Kind) (d : Duals Fraction) (ups : (r : Row) → Contains (rows m) r → Number kind (up_of m d r)) (downs : (r : Row) → Contains (rows m) r → Number kind (down_of m d r)) where
     opposite_net : (r : Row) → Contains (rows m) r → IsCombined Number kind (neg_ℚ (net_shadow_price m d r))
@@ -419,23 +452,69 @@ module _ (m : Parts) (taken g : List Row) (reached : Growth m taken g) (h : Choi
     above_number Zero x n = of_system Factor (whole (pos 0)) is_zero
     above_number Above x n = n
 
-    bound_scaled : AreScaled Quantity (farkas_terms m d)
-    bound_scaled = (
-      inl (is_farkas_energy d f, alone (balance m (empty m)) (balanced market (empty m) idle)),
-      scaled_append Quantity (flat_map (limit_terms m d) (rows m)) (map (λ j. Product (part_above (block_weight m d j)) (quantity m j)) (places (length m.blocks)))
-          (scaled_flat Quantity (limit_terms m d) (rows m) left_scaled)
-          (scaled_map Quantity (λ j. Product (part_above (block_weight m d j)) (quantity m j)) (places (length m.blocks)) (λ j c.
-          let lt = below (length m.blocks) j c in
-          inl (
-            above_number (sign_of (block_weight m d j)) (block_weight m d j) (signed_number (block_at m j).side (unit_price m d (block_at m j).unit) (price_number (block_at m j).unit (block_unit-in m market j lt))),
-            alone (quantity m j) (quantity_number j lt),
-          ))),
-    )
+    -- the worth of energy of a unit: a sum where it offers reserve, and else its price
+    worth_number : (u : ℕ) → u < length m.units → Number Factor (energy_worth m d u)
+    worth_number u lt = by (offers_reserve m u) refl
       where
-        quantity_number : (j : ℕ) → j < length m.blocks → Number Quantity (quantity m j)
-        quantity_number j lt =
-            let apart = rows_apart m (names_apart m market) in
-            subst (Number Quantity) (high-block m apart g j lt) (of_system Quantity ((system_of m g).high j) (is_high j (block_in m apart g j lt)))
+        by : (b : Bool) → offers_reserve m u ≡ b → Number Factor (energy_worth m d u)
+        by true e =
+            subst (Number Factor) (by_ring ring_ℚ (unit_price m d u ∷ room_price m d u ∷ []) (at 0 ⊕ (pneg (at 1) ⊕ pnil)) (at 0 ⊕ pneg (at 1)) refl)
+            (whole_sum Factor (worth_terms m d u) (of_farkas_worth d (worth_terms m d u) f (energy_of_unit u (Contains-filter (offers_reserve m) (places (length m.units)) u (in_places (length m.units) u lt) e))))
+        by false e =
+            let none : room_price m d u ≡ nil = ap (λ (b : Bool). if b then room_price_in d.rooms (unit_at m u).row else nil) e in
+            subst (Number Factor) (by_ring1 ring_ℚ (unit_price m d u ∷ room_price m d u ∷ []) (at 0) (at 0 ⊕ pneg (at 1)) pone (at 1) pnil none refl) (price_number u lt)
+
+    -- that of the reserve of a unit that offers some
+    reserve_number : (u : ℕ) → Contains (reserve_units m) u → Number Factor (reserve_worth m d u)
+    reserve_number u c =
+        subst (Number Factor) (by_ring ring_ℚ (d.reserve ∷ room_price m d u ∷ []) (at 0 ⊕ (pneg (at 1) ⊕ pnil)) (at 0 ⊕ pneg (at 1)) refl)
+        (whole_sum Factor (reserve_worth_terms m d u) (of_farkas_worth d (reserve_worth_terms m d u) f (reserve_of_unit u c)))
+
+    -- what no reserve leaves of the need and of rooms
+    need_scaled : (b : Bool) → AreScaled Quantity (if b then Product d.reserve (neg_ℚ (reserve_need m)) ∷ [] else [])
+    need_scaled true = (inl (is_farkas_reserve d f, alone (neg_ℚ (reserve_need m)) (of_opposite Quantity (reserve_need m) is_need)), tt)
+    need_scaled false = tt
+
+    room_scaled : (u : ℕ) → Contains (reserve_units m) u → IsScaled Quantity (Product (room_price m d u) (room m u))
+    room_scaled u c = inl (is_farkas_room d u f c, alone (room m u) (is_up u (from_places (length m.units) u (Contains-from_filter (offers_reserve m) (places (length m.units)) u c).0)))
+
+    nothing_scaled : AreScaled Quantity (nothing_terms m d)
+    nothing_scaled = (
+      inl (is_farkas_energy d f, alone (balance m (empty m)) (balanced market (empty m) idle)),
+      scaled_append Quantity (flat_map (limit_terms m d) (rows m)) (reserve_left_terms m d)
+          (scaled_flat Quantity (limit_terms m d) (rows m) left_scaled)
+          (scaled_append Quantity (if m.reserve.listed then Product d.reserve (neg_ℚ (reserve_need m)) ∷ [] else []) (map (λ u. Product (room_price m d u) (room m u)) (reserve_units m))
+          (need_scaled m.reserve.listed)
+          (scaled_map Quantity (λ u. Product (room_price m d u) (room m u)) (reserve_units m) room_scaled)),
+    )
+
+    ordered : AreInOrder m (taken_in_order m g)
+    ordered = taken-in_order m (rows_apart m (names_apart m market)) g
+
+    -- the most of a variable is a bound of the system
+    most_number : (v : Variable) → IsVariableOf m (taken_in_order m g) v → Number Quantity (high m v)
+    most_number v is =
+        subst (Number Quantity) (high-at m (taken_in_order m g) ordered v is) (of_system Quantity ((system_of m g).high (name m v)) (is_high (name m v) (variable_in m (taken_in_order m g) v is)))
+
+    block_scaled : (j : ℕ) → j < length m.blocks → IsScaled Quantity (block_most m d j)
+    block_scaled j lt = inl (
+      above_number (sign_of (block_weight m d j)) (block_weight m d j)
+          (signed_number (block_at m j).side (energy_worth m d (block_at m j).unit) (worth_number (block_at m j).unit (block_unit-in m market j lt))),
+      alone (quantity m j) (most_number (Block j) lt),
+    )
+
+    offer_scaled : (n : ℕ) → n < length m.reserve.offers → IsScaled Quantity (offer_most m d n)
+    offer_scaled n lt = inl (
+      above_number (sign_of (offer_weight m d n)) (offer_weight m d n) (reserve_number (offer_at m n).unit (offer_unit-among m market n lt)),
+      alone (reserve_quantity m n) (most_number (Offer n) lt),
+    )
+
+    bound_scaled : AreScaled Quantity (farkas_terms m d)
+    bound_scaled =
+        scaled_append Quantity (nothing_terms m d ++ map (block_most m d) (places (length m.blocks))) (map (offer_most m d) (offer_places m))
+        (scaled_append Quantity (nothing_terms m d) (map (block_most m d) (places (length m.blocks))) nothing_scaled
+        (scaled_map Quantity (block_most m d) (places (length m.blocks)) (λ j c. block_scaled j (from_places (length m.blocks) j c))))
+        (scaled_map Quantity (offer_most m d) (offer_places m) (λ n c. offer_scaled n (from_places (length m.reserve.offers) n c)))
 
   -- ---- every named sum
   by_sum : IsMarket m → (kind : Option Kind) (terms : List Term) → NamedSum m g h kind terms → IsRefusedIn terms bound p → IsRangeOf m taken bound p
@@ -443,13 +522,16 @@ module _ (m : Parts) (taken g : List Row) (reached : Growth m taken g) (h : Choi
   by_sum market _ terms (factor_of r same c (factor_at_bus i lt)) = let s = at_places m market r c in by_steps Factor terms (factor_of r terms c (factor_at_bus i lt)) (under_scaled Factor (λ k. shift_factor m k i) (λ k inside. is_shift k i inside lt) r.line r.cause s.0 s.1)
   by_sum market _ terms (factor_of r same c (factor_of_pickup also part)) = by_steps Factor terms (factor_of r terms c (factor_of_pickup terms part)) (pickup_scaled market r c terms part)
   by_sum market _ terms (of_flow x same injecting flow) = by_steps Quantity terms (of_flow x terms injecting flow) (flows_scaled market x injecting terms flow)
+  by_sum market _ terms (of_reserve x same injecting part) = by_steps Quantity terms (of_reserve x terms injecting part) (reserves_scaled x terms part)
   by_sum market _ terms (output_of same best (output_of_unit u lt)) =
       by_steps Quantity terms (output_of terms best (output_of_unit u lt)) (tt, scaled_map Quantity (block_term m (choice_dispatch m g h)) (blocks_of m u) (λ j c. tt))
   by_sum market _ terms (of_price same best price) = by_steps Price terms (of_price terms best price) (prices_scaled Price (choice_duals m g h) is_up_dual is_down_dual terms price)
+  by_sum market _ terms (of_worth same best worth) = by_steps Price terms (of_worth terms best worth) (worths_scaled Price (choice_duals m g h) terms worth)
   by_sum market _ _ (of_welfare best) = by_settled (welfare_terms m (choice_dispatch m g h)) (of_welfare best)
   by_sum market _ terms (of_settlement same best part) = by_settled terms (of_settlement terms best part)
   by_sum market _ terms (of_farkas_price d same f price) =
       by_steps Factor terms (of_farkas_price d terms f price) (prices_scaled Factor d (λ r c. is_farkas_up d r f c) (λ r c. is_farkas_down d r f c) terms price)
+  by_sum market _ terms (of_farkas_worth d same f worth) = by_steps Factor terms (of_farkas_worth d terms f worth) (worths_scaled Factor d terms worth)
   by_sum market _ terms (farkas_bound_of d same f farkas_bound_of_all) = by_steps Quantity terms (farkas_bound_of d terms f farkas_bound_of_all) (bound_scaled market d f)
 
 pub law_of_the_pairs : LawOfThePairs

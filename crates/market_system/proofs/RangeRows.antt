@@ -19,6 +19,8 @@ use Rattle.std.proofs.lemmas.List.Kept.{AllPairs-from_increasing}
 use Rattle.market_data.specs.Participants.{IsBus, IsUnit}
 use Rattle.market_data.specs.declared.participants.Unit as unit
 use Rattle.market_model.specs.Stairs.{stair_in}
+use Rattle.market_model.specs.Valued.{energy_duals}
+use Rattle.market_model.proofs.EnergyAlone.{is_energy_dispatch}
 use Rattle.market_model.proofs.PlainMarkets.{plain_market, distinct_by_rise}
 use Rattle.market_model.specs.Market.{bare_parts, IsMarket, IsBlock, HasRoom}
 use Rattle.market_model.specs.Dispatch.{Dispatch, injection, balance, accepted, quantity, dispatch_by}
@@ -29,7 +31,7 @@ use Rattle.linear_system.specs.Choices.{Choice}
 use Rattle.market_system.specs.MarketNumbers.{IsRightChoice, NamedSum, of_welfare}
 use Rattle.market_system.specs.MarketSystem.{choice_dispatch, choice_duals}
 use Rattle.market_system.specs.WorkingPairs.{IsRangeOf}
-use Rattle.market_system.proofs.SystemLaws.{block_choice, block_choice_is}
+use Rattle.market_system.proofs.SystemLaws.{nothing, block_choice, block_choice_is}
 use Rattle.market_system.proofs.BlockChoices.{block_choice_dispatch, block_choice_energy}
 use Rattle.market_system.proofs.PairCases.{law_of_the_pairs}
 
@@ -49,7 +51,7 @@ abbrev pub all_sold : Dispatch
 all_sold = dispatch_by (whole (pos most) ∷ whole (pos most) ∷ whole (pos most) ∷ [])
 
 abbrev pub at_most_price : Duals Fraction
-at_most_price = record { energy = whole (pos most); limits = [] }
+at_most_price = energy_duals (whole (pos most)) []
 
 big_buses-market : IsMarket big_buses
 unfolding stair_in
@@ -102,7 +104,7 @@ unfolding balance injection ◌+ℚ◌ ◌*ℚ◌ neg_ℚ over whole gcd gcd_in
 big_buses-balance = same_fraction (balance big_buses all_sold) (whole (pos 0)) refl refl
 
 big_buses-feasible : Feasible big_buses all_sold
-big_buses-feasible = feasible_bare big_buses all_sold (no_rows big_buses refl) (record { count = refl; above = above; within = within }) big_buses-balance
+big_buses-feasible = feasible_bare big_buses all_sold (no_rows big_buses refl) refl (is_energy_dispatch big_buses refl all_sold refl refl above within) big_buses-balance
   where
     above : (j : ℕ) → j < 3 → whole (pos 0) ≤ℚ accepted all_sold j
     above zero h = whole-≤ℚ (pos 0) (pos most) (Prim.omega (arith, ints))
@@ -117,12 +119,12 @@ big_buses-feasible = feasible_bare big_buses all_sold (no_rows big_buses refl) (
     within (suc (suc (suc j))) h = absurd (Prim.omega arith)
 
 big_buses-supports : Supports big_buses all_sold at_most_price
-big_buses-supports = supports_bare big_buses at_most_price all_sold (no_rows big_buses refl) blocks
+big_buses-supports = supports_bare big_buses at_most_price all_sold (no_rows big_buses refl) refl refl blocks
   where
     blocks : (j : ℕ) → j < 3 → BlockSupported big_buses all_sold at_most_price j
-    blocks zero h = supported_bare big_buses at_most_price all_sold (no_rows big_buses refl) 0 (λ k. refl) (λ k. absurd (<ℚ_irrefl (whole (pos most)) k))
-    blocks (suc zero) h = supported_bare big_buses at_most_price all_sold (no_rows big_buses refl) 1 (λ k. refl) (λ k. absurd (<ℚ_irrefl (whole (pos most)) k))
-    blocks (suc (suc zero)) h = supported_bare big_buses at_most_price all_sold (no_rows big_buses refl) 2 (λ k. refl) (λ k. absurd (<ℚ_irrefl (whole (pos most)) k))
+    blocks zero h = supported_bare big_buses at_most_price all_sold (no_rows big_buses refl) refl 0 (λ k. refl) (λ k. absurd (<ℚ_irrefl (whole (pos most)) k))
+    blocks (suc zero) h = supported_bare big_buses at_most_price all_sold (no_rows big_buses refl) refl 1 (λ k. refl) (λ k. absurd (<ℚ_irrefl (whole (pos most)) k))
+    blocks (suc (suc zero)) h = supported_bare big_buses at_most_price all_sold (no_rows big_buses refl) refl 2 (λ k. refl) (λ k. absurd (<ℚ_irrefl (whole (pos most)) k))
     blocks (suc (suc (suc j))) h = absurd (Prim.omega arith)
 
 all_high : ℕ → Bool
@@ -130,11 +132,11 @@ all_high j = true
 
 -- the choice in which the first block is basic, and the others stand at their quantities
 abbrev chosen : Choice
-chosen = block_choice big_buses all_high 0 (Prim.omega arith)
+chosen = block_choice big_buses refl all_high 0 (Prim.omega arith)
 
-all_are_sold : choice_dispatch big_buses [] chosen ≡ all_sold
+all_are_sold : choice_dispatch big_buses nothing chosen ≡ all_sold
 unfolding all_high
-all_are_sold = block_choice_dispatch big_buses big_buses-market all_sold refl big_buses-balance all_high 0 (Prim.omega arith) each
+all_are_sold = block_choice_dispatch big_buses refl big_buses-market all_sold refl refl big_buses-balance all_high 0 (Prim.omega arith) each
   where
     each : (j : ℕ) → j < 3 → j ≢ 0 → accepted all_sold j ≡ (if all_high j then quantity big_buses j else whole (pos 0))
     each zero h n = refl
@@ -142,11 +144,11 @@ all_are_sold = block_choice_dispatch big_buses big_buses-market all_sold refl bi
     each (suc (suc zero)) h n = refl
     each (suc (suc (suc j))) h n = absurd (Prim.omega arith)
 
-at_that_price : choice_duals big_buses [] chosen ≡ at_most_price
+at_that_price : choice_duals big_buses nothing chosen ≡ at_most_price
 unfolding all_high
-at_that_price = ap (λ e. record { energy = e; limits = [] }) (block_choice_energy big_buses big_buses-market all_sold refl big_buses-balance all_high 0 (Prim.omega arith))
+at_that_price = ap (λ e. energy_duals e []) (block_choice_energy big_buses refl big_buses-market all_sold refl refl big_buses-balance all_high 0 (Prim.omega arith))
 
-chosen-best : IsRightChoice big_buses [] chosen
+chosen-best : IsRightChoice big_buses nothing chosen
 chosen-best = record {
   feasible = subst (Feasible big_buses) (sym all_are_sold) big_buses-feasible;
   supported = subst₂ (Supports big_buses) (sym all_are_sold) (sym at_that_price) big_buses-supports;
@@ -176,12 +178,12 @@ unfolding ◌+ℚ◌ over whole gcd gcd_in
 sum_is_large = inl (Prim.omega arith)
 
 -- the welfare is a sum of money at that choice
-welfare_named : NamedSum big_buses [] chosen None (welfare_terms big_buses all_sold)
-welfare_named = subst (λ (y : Dispatch). NamedSum big_buses [] chosen None (welfare_terms big_buses y)) all_are_sold (of_welfare chosen-best)
+welfare_named : NamedSum big_buses nothing chosen None (welfare_terms big_buses all_sold)
+welfare_named = subst (λ (y : Dispatch). NamedSum big_buses nothing chosen None (welfare_terms big_buses y)) all_are_sold (of_welfare chosen-best)
 
 pub big_buses-range : IsRangeOf big_buses [] (2 ^ 127 - 1) too_large
 big_buses-range =
-    (law_of_the_pairs big_buses [] [] chosen (2 ^ 127 - 1) too_large big_buses-market ([], refl, tt) (block_choice_is big_buses all_high 0 (Prim.omega arith))).sum None (welfare_terms big_buses all_sold) welfare_named (record {
+    (law_of_the_pairs big_buses [] nothing chosen (2 ^ 127 - 1) too_large big_buses-market ([], refl, tt) (block_choice_is big_buses refl all_high 0 (Prim.omega arith))).sum None (welfare_terms big_buses all_sold) welfare_named (record {
       place = 2;
       step = record {
         inside = Prim.omega arith;

@@ -1,4 +1,4 @@
--- The rows of a list in the market's order, and their names.
+-- The rows of a list in the market's order, and their names; and the rooms of a list in the order of the units.
 use Rattle.std.specs.Prelude.{◌≡◌, ◌≢◌, ℕ, ◌+◌, ◌<◌, ◌==◌, ◌&&◌, ◌||◌, Bool, true, false, List, [], ◌∷◌, ◌++◌, length, map, filter, AllPairs, Contains, refl, ◌⊎◌}
 use Rattle.std.specs.List.Sorted.{IsStrictlyIncreasing}
 use Rattle.std.proofs.Common.{zero, suc, arith, ap, ap₂, sym, ◌∙◌, subst, inl, inr, get_or}
@@ -13,7 +13,9 @@ use Rattle.market_model.specs.declared.limits.Cause.{Cause}
 use Rattle.market_model.specs.declared.limits.Row.{Row}
 use Rattle.market_model.specs.declared.limits.Cause.TheVariants.{Base, Branch, UnitOutage}
 use Rattle.market_model.specs.LimitRows.{rows}
-use Rattle.market_system.specs.MarketSystem.{same_cause, same_row, is_in, in_order, row_place, row_name}
+use Rattle.market_model.specs.Optimality.{Taken}
+use Rattle.market_model.specs.Reserves.{reserve_units}
+use Rattle.market_system.specs.MarketSystem.{same_cause, same_row, is_in, in_order, is_among, rooms_in_order, row_place, row_name}
 
 -- ---- rows that are one
 pub and_true : (b c : Bool) → (b && c) ≡ true → (b ≡ true) × (c ≡ true)
@@ -101,6 +103,42 @@ in_order-filter m [] = none (rows m)
     none (r ∷ rs) = none rs
 in_order-filter m (t ∷ ts) = refl
 
+-- ---- rooms of a list
+pub is_among-in : (us : List ℕ) (u : ℕ) → Contains us u → is_among us u ≡ true
+is_among-in [] u c = absurd (Prim.omega (arith, c.1))
+is_among-in (t ∷ ts) u c = elim (Contains-cases t ts u c) [
+  | inl e ↦ ap (λ (b : Bool). b || is_among ts u) (ap (λ (a : ℕ). t == a) (sym e) ∙ number_itself t)
+  | inr k ↦ ap (λ (b : Bool). (t == u) || b) (is_among-in ts u k) ∙ or_true (t == u)
+]
+  where
+    or_true : (b : Bool) → (b || true) ≡ true
+    or_true true = refl
+    or_true false = refl
+
+pub is_among-from : (us : List ℕ) (u : ℕ) → is_among us u ≡ true → Contains us u
+is_among-from [] u h = absurd Prim.cc
+is_among-from (t ∷ ts) u h = by (t == u) refl h (is_among-from ts u)
+  where
+    by : (b : Bool) → (t == u) ≡ b → (b || is_among ts u) ≡ true → (is_among ts u ≡ true → Contains ts u) → Contains (t ∷ ts) u
+    by true e k more = subst (λ (x : ℕ). Contains (t ∷ ts) x) (same_number t u e) (Contains-head t ts)
+    by false e k more = Contains-cons t ts u (more k)
+
+pub rooms_in_order-in : (m : Parts) (us : List ℕ) (u : ℕ) → Contains (reserve_units m) u → Contains us u → Contains (rooms_in_order m us) u
+rooms_in_order-in m [] u c k = absurd (Prim.omega (arith, k.1))
+rooms_in_order-in m (t ∷ ts) u c k = Contains-filter (is_among (t ∷ ts)) (reserve_units m) u c (is_among-in (t ∷ ts) u k)
+
+pub rooms_in_order-from : (m : Parts) (us : List ℕ) (u : ℕ) → Contains (rooms_in_order m us) u → Contains (reserve_units m) u × Contains us u
+rooms_in_order-from m [] u c = absurd (Prim.omega (arith, c.1))
+rooms_in_order-from m (t ∷ ts) u c = let both = Contains-from_filter (is_among (t ∷ ts)) (reserve_units m) u c in (both.0, is_among-from (t ∷ ts) u both.1)
+
+pub rooms_in_order-filter : (m : Parts) (us : List ℕ) → rooms_in_order m us ≡ filter (is_among us) (reserve_units m)
+rooms_in_order-filter m [] = none (reserve_units m)
+  where
+    none : (ws : List ℕ) → [] ≡ filter (λ (u : ℕ). false) ws
+    none [] = refl
+    none (w ∷ ws) = none ws
+rooms_in_order-filter m (t ∷ ts) = refl
+
 -- ---- pairs of lists
 pub pairs-append : {X : Type 0} (R : X → X → Type 0) (xs ys : List X) → AllPairs R xs → AllPairs R ys → ((x y : X) → Contains xs x → Contains ys y → R x y) → AllPairs R (xs ++ ys)
 pairs-append R [] ys p q cross = q
@@ -130,6 +168,12 @@ pairs-map {X} {Y} R f (x ∷ xs) p =
 pub record AreOrdered (m : Parts) (rs : List Row) : Type 0 where
   pub rows : (r : Row) → Contains rs r → Contains (rows m) r
   pub ascend : AllPairs (λ (a b : Row). row_name m a < row_name m b) rs
+
+-- what is taken of the market, in its order: such rows, and rooms of units that offer reserve, which ascend
+pub record AreInOrder (m : Parts) (t : Taken) : Type 0 where
+  pub limits : AreOrdered m t.limits
+  pub units : (u : ℕ) → Contains t.rooms u → Contains (reserve_units m) u
+  pub rooms : AllPairs (λ (a b : ℕ). a < b) t.rooms
 
 pub ordered-distinct : (m : Parts) (rs : List Row) → AreOrdered m rs → AllPairs (λ (a b : Row). a ≢ b) rs
 ordered-distinct m rs ordered i j d lt h e = Prim.omega (arith, ordered.ascend i j d lt h, ap (row_name m) e)

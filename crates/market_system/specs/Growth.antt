@@ -1,14 +1,14 @@
 -- Which limit rows a clear may have taken: rows are taken one by one, each because a best dispatch of the rows before it
 -- breaks it.
 -- Source: own; the method is that of taking violated limits alone (Wood and Wollenberg, security-constrained dispatch).
-use Rattle.std.specs.Prelude.{◌≡◌, List, [], ◌∷◌, ◌++◌, ◌⊎◌}
+use Rattle.std.specs.Prelude.{◌≡◌, ℕ, List, [], ◌∷◌, ◌++◌, ◌⊎◌}
 use Rattle.std.specs.List.{Contains}
 use Rattle.fraction_theory.specs.Fraction.{Fraction, neg_ℚ}
 use Rattle.fraction_theory.specs.Order.{◌≤ℚ◌, ◌<ℚ◌}
 use Rattle.market_model.specs.declared.answered.Duals.{Duals}
 use Rattle.market_model.specs.declared.participants.Parts.{Parts}
 use Rattle.market_model.specs.Dispatch.{Dispatch, zero}
-use Rattle.market_model.specs.Optimality.{FeasibleFor, welfare_for, up_of, down_of}
+use Rattle.market_model.specs.Optimality.{Taken, FeasibleFor, welfare_for, up_of, down_of}
 use Rattle.market_model.specs.declared.limits.Row.{Row}
 use Rattle.market_model.specs.LimitRows.{rows, flow, limit}
 
@@ -16,15 +16,19 @@ use Rattle.market_model.specs.LimitRows.{rows, flow, limit}
 abbrev pub Broken : Parts → Dispatch → Row → Type 0
 Broken m x r = (limit m r <ℚ flow m x r) ⊎ (flow m x r <ℚ neg_ℚ (limit m r))
 
--- feasible for these rows, and of the greatest welfare of all dispatches that are
-pub record BestFor (m : Parts) (g : List Row) (x : Dispatch) : Type 0 where
-  pub feasible : FeasibleFor m g x
-  pub best : (y : Dispatch) → FeasibleFor m g y → welfare_for m g y ≤ℚ welfare_for m g x
+-- feasible for these rows and rooms, and of the greatest welfare of all dispatches that are
+pub record BestFor (m : Parts) (t : Taken) (x : Dispatch) : Type 0 where
+  pub feasible : FeasibleFor m t x
+  pub best : (y : Dispatch) → FeasibleFor m t y → welfare_for m t.limits y ≤ℚ welfare_for m t.limits x
 
--- rows of the market behind old ones, each not among those before it and broken by a best dispatch of these
+-- for these rows and the rooms of some units
+abbrev pub IsBestOver : Parts → List Row → Dispatch → Type 0
+IsBestOver m g x = (us : List ℕ) × BestFor m (record { limits = g; rooms = us }) x
+
+-- rows of the market behind old ones, each not among those before it and broken by a dispatch that is best for these and for the rooms of some units
 abbrev pub GrowsBy : Parts → List Row → List Row → Type 0
 GrowsBy m old [] = Unit {0}
-GrowsBy m old (r ∷ more) = ((x : Dispatch) × BestFor m old x × Broken m x r) × Contains (rows m) r × (¬ (Contains old r)) × GrowsBy m (old ++ r ∷ []) more
+GrowsBy m old (r ∷ more) = ((x : Dispatch) × IsBestOver m old x × Broken m x r) × Contains (rows m) r × (¬ (Contains old r)) × GrowsBy m (old ++ r ∷ []) more
 
 -- the old rows, with more behind them
 abbrev pub Growth : Parts → List Row → List Row → Type 0

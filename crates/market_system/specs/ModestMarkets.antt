@@ -1,6 +1,6 @@
 -- Modest markets: without lines, and with numbers that are small enough that clearing them never meets one above 127 bits.
 -- Source: own. Sizes are of loads, shunts, fixed parts, rooms and quantities in 10^-9 MW, and of prices in 10^-6 per MWh.
-use Rattle.std.specs.Prelude.{◌≡◌, ℕ, ◌-◌, ◌≤◌, ◌^◌, [], All, unsigned_abs}
+use Rattle.std.specs.Prelude.{◌≡◌, false, ℕ, ◌-◌, ◌≤◌, ◌^◌, [], All, unsigned_abs}
 use Rattle.market_data.specs.declared.participants.Bus.{Bus}
 use Rattle.market_data.specs.declared.participants.Unit as unit
 use Rattle.market_model.specs.declared.participants.Block.{Block}
@@ -34,6 +34,6 @@ pub record IsModest (m : Parts) : Type 0 where
   pub units : All IsModestUnit m.units
   pub blocks : All IsModestBlock m.blocks
 
--- in a modest market without lines no number that a clear may have to write down is above 127 bits
+-- in a modest market of energy alone without lines no number that a clear may have to write down is above 127 bits
 abbrev pub LawOfModestMarkets : Type 0
-LawOfModestMarkets = (m : Parts) → IsMarket m → m.lines ≡ [] → IsModest m → AllNumbersFit m [] (2 ^ 127 - 1)
+LawOfModestMarkets = (m : Parts) → IsMarket m → m.lines ≡ [] → m.reserve.listed ≡ false → IsModest m → AllNumbersFit m [] (2 ^ 127 - 1)

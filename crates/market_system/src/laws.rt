@@ -5,7 +5,7 @@ ghost use Rattle.market_system.specs.ModestMarkets.{LawOfModestMarkets};
 ghost use Rattle.market_system.specs.PairLaw.{LawOfThePairs};
 ghost use Rattle.market_system.specs.SolvedLaws.{LawOfTheSystem, LawOfThePoints, LawOfTheSolved, LawOfTheAnswer, LawOfTheStuck, LawOfGrowth};
 
-/// A market over some of its limits is a linear system, in whatever order they are listed.
+/// A market over some of its limits and rooms is a linear system, in whatever order they are listed.
 pub fn market_is_system()
     ensures { LawOfTheSystem }
 {}
@@ -15,13 +15,13 @@ pub fn rows_are_of_the_frame()
     ensures { LawOfTheFrame }
 {}
 
-/// The points of this system are the dispatches that are feasible for these limits, and a point is worth at most
+/// The points of this system are the dispatches that are feasible for these limits and rooms, and a point is worth at most
 /// the welfare of its dispatch.
 pub fn points_are_dispatches()
     ensures { LawOfThePoints }
 {}
 
-/// Where the system is solved, the dispatch is best for these limits, and the duals support it
+/// Where the system is solved, the dispatch is best for these limits and rooms, and the duals support it
 /// over these and over all other limits that it keeps.
 pub fn solved_is_supported()
     ensures { LawOfTheSolved }
@@ -59,7 +59,7 @@ pub fn no_number_no_pair()
     ensures { LawOfTheNumbers }
 {}
 
-/// In a market without lines, with no number above ten million MW or a thousand million per MWh, no number that a clear may have to
+/// In a market of energy alone without lines, with no number above ten million MW or a thousand million per MWh, no number that a clear may have to
 /// write down is above 127 bits: numbers never become too large.
 pub fn modest_markets_fit()
     ensures { LawOfModestMarkets }

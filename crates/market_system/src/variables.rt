@@ -15,4 +15,10 @@ pub enum Variable {
     Over(Row),
     /// By how much the flow of a soft row is below the opposite of its limit.
     Under(Row),
+    /// What the offer of reserve at this place has accepted.
+    Offer(usize),
+    /// The reserve that is accepted in all.
+    Need,
+    /// What the unit at this place uses of its room, for energy and for reserve.
+    Room(usize),
 }

@@ -7,3 +7,4 @@ pub mod EditedMarkets
 pub mod CurveLemmas
 pub mod CurveTables
 pub mod CurveEdits
+pub mod ReserveLemmas

@@ -2,3 +2,4 @@ pub mod OfferTable
 pub mod Offers
 pub mod Edits
 pub mod EditLaws
+pub mod Reserving

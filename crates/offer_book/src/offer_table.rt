@@ -246,7 +246,7 @@ fn gen_row(rows: u32, number: i64, line: usize) -> Result<u32, OfferFault>
 }
 
 /// The place of the live unit of a gen row.
-fn place_of(units: &[Unit], row: u32) -> Option<usize>
+pub(crate) fn place_of(units: &[Unit], row: u32) -> Option<usize>
     ensures within { IfSome result (λ place. place < length units.now) }
     ensures is { result ≡ position (λ unit. unit.row == row) units.now }
 {

@@ -1,4 +1,5 @@
 mod edits;
+mod reserves;
 
 use crate::{OfferFault, blocks};
 use market_model::{Block, List, Side, Unit, UnitList};

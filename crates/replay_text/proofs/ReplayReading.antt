@@ -87,7 +87,7 @@ reply_fits bound m before after (step.Edit e) (reply.Refused f) is = tt
 reply_fits bound m before after (step.Edit e) (reply.Clear o) none = absurd none
 reply_fits bound m before after step.Clear reply.Accepted none = absurd none
 reply_fits bound m before after step.Clear (reply.Refused f) none = absurd none
-reply_fits bound m before after step.Clear (reply.Clear o) is = outcome_fits _ m o is.right
+reply_fits bound m before after step.Clear (reply.Clear o) is = outcome_fits _ m o is.energy_alone is.right
 
 pub replay_fits : (bound : ℕ) (m : Parts) (before after : List Row) (steps : List Step) (os : List (StepOutcome Fraction)) → IsReplay bound m before steps os after → OutcomesFit m steps os
 replay_fits bound m before after [] [] replay = tt

@@ -20,12 +20,14 @@ use Rattle.market_model.specs.declared.answered.Outcome.{Outcome}
 use Rattle.market_model.specs.declared.answered.Outcome.TheVariants as outcome
 use Rattle.market_model.specs.declared.answered.Price.{Price}
 use Rattle.market_model.specs.declared.answered.Rent.{Rent}
-use Rattle.market_model.specs.Dispatch.{places, zero}
+use Rattle.market_model.specs.Dispatch.{Dispatch, places, zero}
 use Rattle.market_model.specs.Optimality.{named_rows, unit_price}
+use Rattle.market_model.specs.Reserves.{no_reserve}
+use Rattle.market_model.proofs.EnergyAlone.{dispatch_alone, duals_alone, no_pays}
 use Rattle.market_model.specs.RightAnswers.{IsRight, IsRightBy, dispatch_in, price_made, rent_of}
 use Rattle.market_model.proofs.RightFits.{fits_by_right}
 use Rattle.report_text.specs.Reports.{head_text, cleared_text, limit_text, bound_text, plain_energy_text, infeasible_text, op_text, range_text, report_text}
-use Rattle.report_text.specs.ReportLaws.{FitsReport, MakesOwnPrices, OutcomeFitsReport, ReportsApart, RightReportsApart}
+use Rattle.report_text.specs.ReportLaws.{AreOfEnergy, FitsReport, MakesOwnPrices, OutcomeFitsReport, ReportsApart, RightReportsApart}
 use Rattle.report_text.proofs.Amounts.{head_of, two_apart, parts_line_apart}
 use Rattle.report_text.proofs.LimitReading.{EndsLimits, limits_apart}
 use Rattle.report_text.proofs.ReportReading.{same_duals, answers_apart}
@@ -44,12 +46,12 @@ same_farkas f g p q =
     let make : Duals Fraction → Fraction → Farkas Fraction = λ d b. record { duals = d; bound = b } in
     ap (λ d. make d f.bound) p ∙ ap (make g.duals) q
 
-farkas_apart : (f g : Farkas Fraction) (us vs : List ℕ) → EndsLimits us → EndsLimits vs → infeasible_text f ++ us ≡ infeasible_text g ++ vs → (f ≡ g) × (us ≡ vs)
-farkas_apart f g us vs p q e =
+farkas_apart : (f g : Farkas Fraction) → AreOfEnergy f.duals → AreOfEnergy g.duals → (us vs : List ℕ) → EndsLimits us → EndsLimits vs → infeasible_text f ++ us ≡ infeasible_text g ++ vs → (f ≡ g) × (us ≡ vs)
+farkas_apart f g of_f of_g us vs p q e =
     let t = two_apart (codes "infeasible\nbound ") mw_places 0 10 (codes "energy ") f.bound g.bound f.duals.energy g.duals.energy (flat_map limit_text f.duals.limits ++ us) (flat_map limit_text g.duals.limits ++ vs) (Prim.omega arith)
     (sym (told f us) ∙ e ∙ told g vs) in
     let limits = limits_apart f.duals.limits g.duals.limits us vs p q t.2 in
-    (same_farkas f g (same_duals f.duals g.duals t.1 limits.0) t.0, limits.1)
+    (same_farkas f g (same_duals f.duals g.duals of_f of_g t.1 limits.0) t.0, limits.1)
 
 -- ---- range
 same_passed : (p q : Passed Fraction) → p.op ≡ q.op → p.left ≡ q.left → p.right ≡ q.right → p ≡ q
@@ -101,7 +103,7 @@ outcomes_apart m (outcome.Cleared a) (outcome.Cleared b) p q us vs g h e = let t
 outcomes_apart m (outcome.Cleared a) (outcome.Infeasible f) p q us vs g h e = absurd (Prim.omega (arith, head_of 99 105 _ _ e))
 outcomes_apart m (outcome.Cleared a) (outcome.Range s) p q us vs g h e = absurd (Prim.omega (arith, head_of 99 114 _ _ e))
 outcomes_apart m (outcome.Infeasible f) (outcome.Cleared b) p q us vs g h e = absurd (Prim.omega (arith, head_of 105 99 _ _ e))
-outcomes_apart m (outcome.Infeasible f) (outcome.Infeasible k) p q us vs g h e = let t = farkas_apart f k us vs g h e in (ap outcome.Infeasible t.0, t.1)
+outcomes_apart m (outcome.Infeasible f) (outcome.Infeasible k) p q us vs g h e = let t = farkas_apart f k p q us vs g h e in (ap outcome.Infeasible t.0, t.1)
 outcomes_apart m (outcome.Infeasible f) (outcome.Range s) p q us vs g h e = absurd (Prim.omega (arith, head_of 105 114 _ _ e))
 outcomes_apart m (outcome.Range r) (outcome.Cleared b) p q us vs g h e = absurd (Prim.omega (arith, head_of 114 99 _ _ e))
 outcomes_apart m (outcome.Range r) (outcome.Infeasible f) p q us vs g h e = absurd (Prim.omega (arith, head_of 114 105 _ _ e))
@@ -115,20 +117,23 @@ own_made : (m : Parts) (a : Answer Fraction) → IsRight m a → MakesOwnPrices 
 unfolding unit_price
 own_made m a right = ap (λ (b : Answer Fraction). b.money.own) right.made
 
-answer_fits : (m : Parts) (a : Answer Fraction) → IsRight m a → FitsReport m a
-answer_fits m a right = record {
+answer_fits : (m : Parts) (a : Answer Fraction) → m.reserve ≡ no_reserve → IsRight m a → FitsReport m a
+answer_fits m a alone right = record {
   fits = fits_by_right m a right;
   energy = subst (All (λ (p : Price Fraction). p.energy ≡ a.duals.energy)) (sym (ap (λ (b : Answer Fraction). b.prices) right.made))
       (All-map (λ (p : Price Fraction). p.energy ≡ a.duals.energy) (price_made m a.duals) (places (length m.buses)) (λ k d lt. refl));
   over = subst (All (λ (r : Rent Fraction). zero ≤ℚ r.over)) (sym (ap (λ (b : Answer Fraction). b.money.rents) right.made))
       (All-map (λ (r : Rent Fraction). zero ≤ℚ r.over) (rent_of m (dispatch_in a) a.duals) (named_rows m a.duals) (λ k d lt. (part_least _).0));
   own = inr (own_made m a right);
+  energy_alone = duals_alone m alone a.duals right.proper;
+  no_reserve = ap (λ (x : Dispatch). x.reserve) (dispatch_alone m alone (dispatch_in a) right.feasible.blocks);
+  no_reserve_pay = ap (λ (b : Answer Fraction). b.money.reserve) right.made ∙ no_pays m alone (dispatch_in a) a.duals;
 }
 
-pub outcome_fits : (P : Passed Fraction → Type 0) (m : Parts) (a : Outcome Fraction) → IsRightBy P m a → OutcomeFitsReport m a
-outcome_fits P m (outcome.Cleared a) right = answer_fits m a right
-outcome_fits P m (outcome.Infeasible f) right = tt
-outcome_fits P m (outcome.Range p) right = tt
+pub outcome_fits : (P : Passed Fraction → Type 0) (m : Parts) (a : Outcome Fraction) → m.reserve ≡ no_reserve → IsRightBy P m a → OutcomeFitsReport m a
+outcome_fits P m (outcome.Cleared a) alone right = answer_fits m a alone right
+outcome_fits P m (outcome.Infeasible f) alone right = duals_alone m alone f.duals right.proper
+outcome_fits P m (outcome.Range p) alone right = tt
 
 pub right_reports_apart : RightReportsApart
-right_reports_apart m a b p q e = reports_apart m a b (outcome_fits _ m a p) (outcome_fits _ m b q) e
+right_reports_apart m a b alone p q e = reports_apart m a b (outcome_fits _ m a alone p) (outcome_fits _ m b alone q) e

@@ -24,7 +24,8 @@ use Rattle.market_model.specs.LimitRows.{lost_unit}
 use Rattle.market_model.specs.Optimality.{unit_price}
 use Rattle.market_model.specs.RightAnswers.{mw_of, price_of, pay_of, load_of}
 use Rattle.report_text.specs.Reports.{side_text, block_number, head_text, bus_text, block_text, own_of, own_text, unit_text, load_text, surplus_text, bus_line_at, block_line_at, unit_line_at, load_line_at, lines_of_buses, lines_of_blocks, lines_of_limits, lines_of_units, lines_of_loads, cleared_text}
-use Rattle.report_text.specs.ReportLaws.{FitsReport, LosesUnitsOnce, MakesOwnPrices}
+use Rattle.market_model.specs.Valued.{energy_duals}
+use Rattle.report_text.specs.ReportLaws.{AreOfEnergy, FitsReport, LosesUnitsOnce, MakesOwnPrices}
 use Rattle.report_text.proofs.Amounts.{amount_apart, amount_ends, head_of, named_apart, one_apart, two_apart}
 use Rattle.report_text.proofs.LimitReading.{EndsLimits, rents_apart}
 
@@ -137,13 +138,11 @@ same_prices m a b p q e all =
     same_price (price_of a i) (price_of b i) (p.energy i d h ∙ e ∙ sym (q.energy i d (Prim.omega (arith, h, p.fits.prices, q.fits.prices))))
     (at_places (λ k. SamePrice (price_of a k) (price_of b k)) (length m.buses) i all (Prim.omega (arith, h, p.fits.prices))))
 
-pub same_duals : (d e : Duals Fraction) → d.energy ≡ e.energy → d.limits ≡ e.limits → d ≡ e
-same_duals d e p q =
-    let make : Fraction → List (Dual Fraction) → Duals Fraction = λ u v. record { energy = u; limits = v } in
-    ap (λ u. make u d.limits) p ∙ ap (make e.energy) q
+pub same_duals : (d e : Duals Fraction) → AreOfEnergy d → AreOfEnergy e → d.energy ≡ e.energy → d.limits ≡ e.limits → d ≡ e
+same_duals d e of_d of_e p q = of_d ∙ ap (λ u. energy_duals u d.limits) p ∙ ap (energy_duals e.energy) q ∙ sym of_e
 
-same_money : (d e : Money Fraction) → d.units ≡ e.units → d.own ≡ e.own → d.loads ≡ e.loads → d.rents ≡ e.rents → d.surplus ≡ e.surplus → d ≡ e
-same_money d e p o q r s = λ i. record { units = p i; own = o i; loads = q i; rents = r i; surplus = s i }
+same_money : (d e : Money Fraction) → d.units ≡ e.units → d.own ≡ e.own → d.loads ≡ e.loads → d.rents ≡ e.rents → d.surplus ≡ e.surplus → d.reserve ≡ e.reserve → d ≡ e
+same_money d e p o q r s t = λ i. record { units = p i; own = o i; loads = q i; rents = r i; surplus = s i; reserve = t i }
 
 -- ---- own prices
 -- prices of one list of units, none of which is there twice, are one where they are the same by each unit
@@ -185,13 +184,8 @@ seconds : (P Q : ℕ → Type 0) (ks : List ℕ) → AllByRecursion (λ k. P k �
 seconds P Q [] h = tt
 seconds P Q (k ∷ ks) h = (h.0.1, seconds P Q ks h.1)
 
-same_answer : (a b : Answer Fraction) → a.dispatch ≡ b.dispatch → a.duals ≡ b.duals → a.prices ≡ b.prices → a.welfare ≡ b.welfare → a.money ≡ b.money → a ≡ b
-same_answer a b p q r s t =
-    let make : List Fraction → Duals Fraction → List (Price Fraction) → Fraction → Money Fraction → Answer Fraction =
-    λ u v w x y. record { dispatch = u; duals = v; prices = w; welfare = x; money = y } in
-    ap (λ u. make u a.duals a.prices a.welfare a.money) p ∙ ap (λ v. make b.dispatch v a.prices a.welfare a.money) q
-    ∙ ap (λ w. make b.dispatch b.duals w a.welfare a.money) r ∙ ap (λ x. make b.dispatch b.duals b.prices x a.money) s
-    ∙ ap (make b.dispatch b.duals b.prices b.welfare) t
+same_answer : (a b : Answer Fraction) → a.dispatch ≡ b.dispatch → a.reserve ≡ b.reserve → a.duals ≡ b.duals → a.prices ≡ b.prices → a.welfare ≡ b.welfare → a.money ≡ b.money → a ≡ b
+same_answer a b p n q r s t = λ i. record { dispatch = p i; reserve = n i; duals = q i; prices = r i; welfare = s i; money = t i }
 
 -- ---- what follows the lines of limits
 unit_ends : (row : ℕ) (pay : UnitPay Fraction) (own : Option Fraction) (us : List ℕ) → EndsLimits (unit_text row pay own ++ us)
@@ -238,11 +232,12 @@ answers_apart m a b p q us vs e =
     let pays = lines_apart (unit_line_at m a) (unit_line_at m b) (λ k. (pay_of a k ≡ pay_of b k) × (own_of m a k ≡ own_of m b k)) (λ k. unit_apart (unit_at m k).row (pay_of a k) (pay_of b k) (own_of m a k) (own_of m b k)) units _ _ rents.2 in
     let paid = firsts (λ k. pay_of a k ≡ pay_of b k) (λ k. own_of m a k ≡ own_of m b k) units pays.0 in
     let owns = seconds (λ k. pay_of a k ≡ pay_of b k) (λ k. own_of m a k ≡ own_of m b k) units pays.0 in
-    let duals = same_duals a.duals b.duals head.1 rents.0 in
+    let duals = same_duals a.duals b.duals p.energy_alone q.energy_alone head.1 rents.0 in
     let loads = lines_apart (load_line_at m a) (load_line_at m b) (λ k. load_of a k ≡ load_of b k) (λ k. load_apart (bus_at m k).number (load_of a k) (load_of b k)) buses _ _ pays.1 in
     let last = surplus_apart a.money.surplus b.money.surplus us vs loads.1 in (
       same_answer a b
           (same_entries none a.dispatch b.dispatch (length m.blocks) p.fits.dispatch q.fits.dispatch dispatch.0)
+          (p.no_reserve ∙ sym q.no_reserve)
           duals
           (same_prices m a b p q head.1 prices.0)
           head.0
@@ -251,6 +246,7 @@ answers_apart m a b p q us vs e =
           (same_owns m a b p q duals owns)
           (same_entries (record { mw = none; pays = none }) a.money.loads b.money.loads (length m.buses) p.fits.money.loads q.fits.money.loads loads.0)
           rents.1
-          last.0),
+          last.0
+          (p.no_reserve_pay ∙ sym q.no_reserve_pay)),
       last.1,
     )

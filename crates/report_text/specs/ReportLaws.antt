@@ -1,16 +1,19 @@
 -- A report has one reading.
-use Rattle.std.specs.Prelude.{◌≡◌, ◌≢◌, ◌⊎◌, ◌<◌, All, AllPairs, length, map}
+use Rattle.std.specs.Prelude.{◌≡◌, ◌≢◌, ◌⊎◌, ◌<◌, All, AllPairs, [], length, map}
 use Rattle.fraction_theory.specs.Fraction.{Fraction}
 use Rattle.fraction_theory.specs.Order.{◌≤ℚ◌}
 use Rattle.market_model.specs.declared.participants.Parts.{Parts}
 use Rattle.market_model.specs.declared.answered.Answer.{Answer}
+use Rattle.market_model.specs.declared.answered.Duals.{Duals}
 use Rattle.market_model.specs.declared.answered.Outcome.{Outcome}
 use Rattle.market_model.specs.declared.answered.Outcome.TheVariants as outcome
 use Rattle.market_model.specs.Dispatch.{places, zero}
 use Rattle.market_model.specs.Fitting.{FitsMarket}
 use Rattle.market_model.specs.LimitRows.{lost_unit}
 use Rattle.market_model.specs.Optimality.{unit_price}
+use Rattle.market_model.specs.Reserves.{no_reserve}
 use Rattle.market_model.specs.RightAnswers.{IsRightBy}
+use Rattle.market_model.specs.Valued.{energy_duals}
 use Rattle.report_text.specs.Reports.{report_text}
 
 -- each outage of a unit is of a unit of the market, and none is lost twice, as in every market
@@ -22,19 +25,26 @@ pub record LosesUnitsOnce (m : Parts) : Type 0 where
 abbrev pub MakesOwnPrices : Parts → Answer Fraction → Type 0
 MakesOwnPrices m a = a.money.own ≡ map (λ k. unit_price m a.duals (lost_unit m k)) (places (length m.unit_outages))
 
+-- duals of energy alone
+abbrev pub AreOfEnergy : Duals Fraction → Type 0
+AreOfEnergy d = d ≡ energy_duals d.energy d.limits
+
 -- An entry for each part of the market and a rent for each limit with duals, and each bus price made from the one price of energy. No flow
 -- exceeds its limit by less than 0: a report is silent where it does not exceed it. Each own price has the line of a unit of its own, or is
--- what the duals make it.
+-- what the duals make it. Nothing of reserve is told.
 pub record FitsReport (m : Parts) (a : Answer Fraction) : Type 0 where
   pub fits : FitsMarket m a
   pub energy : All (λ p. p.energy ≡ a.duals.energy) a.prices
   pub over : All (λ r. zero ≤ℚ r.over) a.money.rents
   pub own : LosesUnitsOnce m ⊎ MakesOwnPrices m a
+  pub energy_alone : AreOfEnergy a.duals
+  pub no_reserve : a.reserve ≡ []
+  pub no_reserve_pay : a.money.reserve ≡ []
 
--- an answer in an outcome does
+-- an answer in an outcome does, and Farkas duals are of energy alone
 abbrev pub OutcomeFitsReport : Parts → Outcome Fraction → Type 0
 OutcomeFitsReport m (outcome.Cleared a) = FitsReport m a
-OutcomeFitsReport m (outcome.Infeasible f) = Unit {0}
+OutcomeFitsReport m (outcome.Infeasible f) = AreOfEnergy f.duals
 OutcomeFitsReport m (outcome.Range p) = Unit {0}
 
 -- two outcomes that fit a market and have one report are one
@@ -45,6 +55,6 @@ ReportsApart = (m : Parts) (a b : Outcome Fraction) → OutcomeFitsReport m a �
 abbrev pub IsRightIn : Parts → Outcome Fraction → Type 0
 IsRightIn m o = IsRightBy (λ p. Unit {0}) m o
 
--- two outcomes of a market that are right in this sense and have one report are one
+-- two outcomes of a market of energy alone that are right in this sense and have one report are one
 abbrev pub RightReportsApart : Type 0
-RightReportsApart = (m : Parts) (a b : Outcome Fraction) → IsRightIn m a → IsRightIn m b → report_text m a ≡ report_text m b → a ≡ b
+RightReportsApart = (m : Parts) (a b : Outcome Fraction) → m.reserve ≡ no_reserve → IsRightIn m a → IsRightIn m b → report_text m a ≡ report_text m b → a ≡ b

@@ -24,6 +24,7 @@ none_is_market = record {
   shift = one_is_market.shift;
   loss = one_is_market.loss;
   unit_outages = one_is_market.unit_outages;
+  reserve = one_is_market.reserve;
 }
 
 pub triangle_is_market : (is_lost : Bool) → IsMarket (parts None (if is_lost then 1 ∷ [] else []))

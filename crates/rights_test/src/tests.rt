@@ -7,7 +7,8 @@ ghost use Rattle.market_model.specs.Lines.{hard_line};
 use crate::{Fit, MOST_RIGHTS, Payments, RightsFault, fit, pay, rights};
 use exact_fraction::{Exact, Frac, Frac63, Op, Passed};
 use market_model::{
-    Bus, Factor, FactorPlaces, Line, List, Market, Memory, Parts, Price, RowId, Stop, assemble,
+    Bus, Factor, FactorPlaces, Line, List, Market, Memory, Parts, Price, Reserve, RowId, Stop,
+    assemble,
 };
 use record_reading::FrameFault;
 use std::alloc::Global;
@@ -96,6 +97,7 @@ fn triangle(alloc: Global, is_lost: bool) -> Result<Market, Memory>
         unit_outages: List::new(alloc),
         pickups: List::new(alloc),
         places: FactorPlaces::Six,
+        reserve: Reserve::none(alloc),
     };
     assemble(alloc, parts)
 }

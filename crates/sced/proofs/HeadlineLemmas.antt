@@ -11,6 +11,7 @@ use Rattle.market_model.specs.declared.participants.Parts.{Parts}
 use Rattle.market_model.specs.declared.participants.TransmissionRight.{TransmissionRight}
 use Rattle.rights_test.specs.declared.right_parts.Fit.TheVariants as fit
 use Rattle.market_model.specs.Market.{IsMarket}
+use Rattle.market_model.specs.Reserves.{no_reserve}
 use Rattle.market_model.specs.RightAnswers.{IsRight, dispatch_in}
 use Rattle.market_model.specs.Settlement.{surplus}
 use Rattle.market_model.proofs.FarkasLaw.{law_of_infeasibility}
@@ -116,7 +117,7 @@ law_of_range words files text s m p place prints reports =
 market-reported : (m : Parts) (t : Telling) (text : List ℕ) (s : Status) → t.text ≡ text → t.status ≡ s → TellsClear m t → IsReported m text s
 market-reported m t text s words ends (market, clears) = record {
   outcome = clears.outcome;
-  fits = outcome_fits _ m clears.outcome clears.right;
+  fits = outcome_fits _ m clears.outcome clears.energy_alone clears.right;
   text_is = sym words ∙ clears.text_is;
   status_is = sym ends ∙ clears.status_is;
 }
@@ -232,13 +233,13 @@ verdict-line-yes : verdict_line None ≡ codes "yes\n"
 unfolding verdict_line
 verdict-line-yes = refl
 
-module _ (m : Parts) (c : Cert Fraction) (apart : RowsAreDistinct c) (text : List ℕ) where
+module _ (m : Parts) (c : Cert Fraction) (alone : m.reserve ≡ no_reserve) (apart : RowsAreDistinct c) (text : List ℕ) where
   no-yes : (why : Reason) → verdict_of (Some why) ≡ verdict_of None → ⊥
   no-yes why bad = cc bad
 
   verdict-by : (r : Option Reason) → first_reason m c ≡ r → text ≡ verdict_line r → IsVerdict m c text (verdict_status r)
-  verdict-by None is line = yes ((law_of_the_verdict m c apart).0 (ap verdict_of is)) (line ∙ verdict-line-yes)
-  verdict-by (Some why) is line = no (λ holds. no-yes why (sym (ap verdict_of is) ∙ (law_of_the_verdict m c apart).1 holds)) (line ∙ ap verdict_line (sym is))
+  verdict-by None is line = yes ((law_of_the_verdict m c alone apart).0 (ap verdict_of is)) (line ∙ verdict-line-yes)
+  verdict-by (Some why) is line = no (λ holds. no-yes why (sym (ap verdict_of is) ∙ (law_of_the_verdict m c alone apart).1 holds)) (line ∙ ap verdict_line (sym is))
 
   verdict-of : (t : Telling) (s : Status) → t.text ≡ text → t.status ≡ s → VerifiesTo most_size m c t → IsVerdict m c text s
   verdict-of t s words ends (judged is) =
@@ -252,7 +253,7 @@ pub law_of_verify : LawOfVerify
 law_of_verify words files text s m c prints asks =
     let p = printed words files text s prints in
     let told = verify-told files words p.telling p.written (Ok (record { market = m; certificate = c })) p.answers asks in
-    verdict-of m c (cert_read-distinct asks.stand.certificate c (asked-read files words m c asks)) text p.telling s p.text_is p.status_is told.1
+    verdict-of m c told.2 (cert_read-distinct asks.stand.certificate c (asked-read files words m c asks)) text p.telling s p.text_is p.status_is told.1
 
 -- ---- round trip
 -- what is written of a clear is its certificate, where a file is named for it
@@ -327,7 +328,7 @@ pub law_of_certificate : LawOfCertificate
 law_of_certificate words files later text s names file m o clear now asked market fits is =
     let p = printed words files text s clear in
     let tells = clear-told files words p.telling p.written (Ok m) p.answers market in
-    let same : tells.1.outcome ≡ o = reports_apart m tells.1.outcome o (outcome_fits _ m tells.1.outcome tells.1.right) fits (sym tells.1.text_is ∙ p.text_is ∙ is) in
+    let same : tells.1.outcome ≡ o = reports_apart m tells.1.outcome o (outcome_fits _ m tells.1.outcome tells.1.energy_alone tells.1.right) fits (sym tells.1.text_is ∙ p.text_is ∙ is) in
     let put : p.telling.outputs.certificate ≡ certificate_of m.places o = ap (λ (x : Outputs (List ℕ)). x.certificate) tells.1.certificate_is ∙ ap (certificate_of m.places) same in
     let written = clear-written files words p.telling p.written names (Some file) asked p.answers ∙ ap (λ c. named_bytes (Some file) c []) put in
     certificate-kept (Certifies m) (cert_of_outcome m.places o) (files file) (later file) (kept-as files later file (certificate_of m.places o) p.written clear.after.files written now p.kept)
@@ -462,12 +463,12 @@ module _ (words : List (List ℕ)) (files : Files) (text : List ℕ) (s : Status
         inr (record { market = r.market; steps = r.steps; asks = asks; place = here.0; edit = edit.0; stands = edit.1; fault = here.1; refused = edit.2 })
 
     of-verdict : (v : MarketCertificate) → TellsVerdict v p.telling → Why
-    of-verdict v (market, judged is) = verdict-status (first_reason v.market v.certificate) (sym (ap (λ (t : Telling). t.status) is) ∙ bad)
+    of-verdict v (market, judged is, alone) = verdict-status (first_reason v.market v.certificate) (sym (ap (λ (t : Telling). t.status) is) ∙ bad)
       where
         verdict-status : (r : Option Reason) → verdict_status r ≡ status.Refused → Why
         verdict-status None wrong = cc wrong
         verdict-status (Some why) wrong = cc wrong
-    of-verdict v (market, passed q pair within is) = absurd (range-refused (sym (ap (λ (t : Telling). t.status) is) ∙ bad))
+    of-verdict v (market, passed q pair within is, alone) = absurd (range-refused (sym (ap (λ (t : Telling). t.status) is) ∙ bad))
       where
         range-refused : status.Range ≡ status.Refused → ⊥
         range-refused wrong = cc wrong

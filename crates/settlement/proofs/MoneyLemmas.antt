@@ -28,7 +28,8 @@ use Rattle.market_model.specs.Market.{IsMarket}
 use Rattle.market_model.specs.NamedSums.{SameSize, term_at, IsNextTerm, IsSumStep, IsRefusal, IsRefusedIn}
 use Rattle.market_model.specs.Optimality.{bus_price, names_row, named_rows, own_price}
 use Rattle.market_model.specs.RightAnswers.{rent_of, settlement_at}
-use Rattle.market_model.specs.Settlement.{rent, surplus, pay_of_unit, pay_of_load, left_terms, priced_flow}
+use Rattle.market_model.specs.Reserves.{offer_places}
+use Rattle.market_model.specs.Settlement.{rent, surplus, pay_of_reserve, pay_of_unit, pay_of_load, left_terms, priced_flow}
 use Rattle.market_model.specs.Valued.{dual_at, duals_at, load_at, rent_at, unit_pay_at}
 use Rattle.market_model.proofs.Optimum.{law_of_the_surplus, law_of_its_sign}
 use Rattle.market_model.proofs.RowMembers.{lost_unit-in}
@@ -183,6 +184,7 @@ law_of_right_money m x price d market priced = λ i. record {
   loads = loads_same m x price d market priced i;
   rents = map (rent_of m x d) (named_rows m d);
   surplus = left_is_surplus m x price d market priced i;
+  reserve = map (pay_of_reserve x d) (offer_places m);
 }
 
 -- ---- what rows without duals earn

@@ -18,7 +18,9 @@ use Rattle.market_model.specs.NamedSums.{IsRefusedIn, IsShareRefusal}
 use Rattle.market_model.specs.Optimality.{block_value, penalty_terms, value_terms, welfare_for, welfare_terms, welfare_terms_for}
 use Rattle.market_model.specs.Overrun.{excess, excess_by}
 use Rattle.market_model.specs.PutIn.{dispatch_of}
+use Rattle.market_model.specs.Reserves.{no_reserve}
 use Rattle.market_model.specs.SumTables.{IsFlowRefusal}
+use Rattle.market_model.proofs.EnergyAlone.{welfare_alone}
 use Rattle.market_model.proofs.MorePlaces.{total-places_more}
 use Rattle.market_model.proofs.PutInSteps.{accepted_is}
 use Rattle.market_model.proofs.SumSteps.{behind, in_front, share_at, terms_at}
@@ -27,7 +29,7 @@ use Rattle.limit_screen.specs.Flows.{carried_at, flows_at}
 use Rattle.settlement.specs.Refusals.{IsWelfareRefusal}
 
 -- ---- blocks
-module _ {N : Type 0} (value : N → Fraction) (m : Parts) (ds : List N) where
+module _ {N : Type 0} (value : N → Fraction) (m : Parts) (alone : m.reserve ≡ no_reserve) (ds : List N) where
   abbrev pub values_to : ℕ → Fraction
   values_to k = total (map (λ j. Product (block_value m j) (accepted (dispatch_of value ds) j)) (places k))
 
@@ -52,25 +54,27 @@ module _ {N : Type 0} (value : N → Fraction) (m : Parts) (ds : List N) where
       let f : ℕ → Term = λ j. Product (block_value m j) (accepted x j) in
       let r = terms_at f (length m.blocks) k below in
       share_at (welfare_terms m x) (map f (places k)) (r.0 ++ penalty_terms m (rows m) x) (f k)
-      (in_front (value_terms m x) (map f (places k)) r.0 (penalty_terms m (rows m) x) (f k) r.1)
+      (welfare_alone m alone (rows m) x ∙ in_front (value_terms m x) (map f (places k)) r.0 (penalty_terms m (rows m) x) (f k) r.1)
       bound p sum worth (value d) (ap₂ Product (sym (value_is k block worth same w)) (accepted_is value ds k d lt at)) is h
 
 -- ---- limits that give way
-module _ (m : Parts) (x : Dispatch) where
+module _ (m : Parts) (alone : m.reserve ≡ no_reserve) (x : Dispatch) where
   abbrev cost_term : Row → Term
   cost_term r = Product (neg_ℚ (penalty m r)) (excess m x r)
 
   pub worth_of_values : total (value_terms m x) ≡ welfare_for m [] x
   unfolding welfare_for
-  worth_of_values = ap total (sym (append-nil (value_terms m x)))
+  worth_of_values = ap total (sym (append-nil (value_terms m x)) ∙ sym (welfare_alone m alone [] x))
 
   module _ (g : List Row) (r : Row) where
     -- the terms with one row more
     terms_more : (b : Bool) → is_soft m r ≡ b → welfare_terms_for m (g ++ r ∷ []) x ≡ welfare_terms_for m g x ++ map cost_term (cond b (r ∷ []) [])
     terms_more b e =
-        ap (λ rs. value_terms m x ++ map cost_term rs) (filter-append (is_soft m) g (r ∷ []) ∙ ap (λ (t : Bool). filter (is_soft m) g ++ cond t (r ∷ []) []) e)
+        welfare_alone m alone (g ++ r ∷ []) x
+        ∙ ap (λ rs. value_terms m x ++ map cost_term rs) (filter-append (is_soft m) g (r ∷ []) ∙ ap (λ (t : Bool). filter (is_soft m) g ++ cond t (r ∷ []) []) e)
         ∙ ap (λ ts. value_terms m x ++ ts) (map-append cost_term (filter (is_soft m) g) (cond b (r ∷ []) []))
         ∙ sym (append_assoc (value_terms m x) (penalty_terms m g x) (map cost_term (cond b (r ∷ []) [])))
+        ∙ ap (λ ts. ts ++ map cost_term (cond b (r ∷ []) [])) (sym (welfare_alone m alone g x))
 
     -- a row whose limit does not costs nothing
     pub worth_same : is_soft m r ≡ false → (sum : Fraction) → sum ≡ welfare_for m g x → sum ≡ welfare_for m (g ++ r ∷ []) x
@@ -108,4 +112,7 @@ module _ (m : Parts) (x : Dispatch) where
           costs = ap (map cost_term) kept ∙ map-append cost_term (filter (is_soft m) g) (r ∷ filter (is_soft m) left)
 
           split : welfare_terms m x ≡ welfare_terms_for m g x ++ cost_term r ∷ penalty_terms m left x
-          split = behind (value_terms m x) (penalty_terms m (rows m) x) (penalty_terms m g x) (penalty_terms m left x) (cost_term r) costs
+          split =
+              welfare_alone m alone (rows m) x
+              ∙ behind (value_terms m x) (penalty_terms m (rows m) x) (penalty_terms m g x) (penalty_terms m left x) (cost_term r) costs
+              ∙ ap (λ ts. ts ++ cost_term r ∷ penalty_terms m left x) (sym (welfare_alone m alone g x))

@@ -20,7 +20,7 @@ use crate::rents::rents;
 use crate::units::{lost_prices, own_prices, unit_pays};
 use exact_fraction::{Exact, Passed, exact_sum};
 use limit_screen::flows_made;
-use market_model::{Duals, Load, Market, Money, Price, Stop, UnitPay, datum};
+use market_model::{Duals, List, Load, Market, Money, Price, Stop, UnitPay, datum};
 use std::alloc::Global;
 
 /// What loads pay, in bus order, less what units are paid, in unit order.
@@ -71,6 +71,7 @@ pub fn settle_flows<N: Exact>(
         loads,
         rents,
         surplus,
+        reserve: List::new(alloc),
     })
 }
 

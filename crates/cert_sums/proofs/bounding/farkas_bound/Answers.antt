@@ -14,7 +14,7 @@ pub returns-in_err-by_bus-clause-cause : goal.returns-in_err-by_bus-clause-cause
 returns-in_err-by_bus-clause-cause g c =
     let m = c.args.market.now in
     let value = g.N.Exact.value in
-    let is = nothing_is value m c.deref.result.now c.in_ok-nothing.nothing.items _ c.deref.ensures.value c.in_ok-nothing.ensures.zeros (c.len.ensures ∙ ap length c.blocks-2.ensures.list) in
+    let is = nothing_is value m c.blocks-2.ensures.energy_alone c.deref.result.now c.in_ok-nothing.nothing.items _ c.deref.ensures.value c.in_ok-nothing.ensures.zeros (c.len.ensures ∙ ap length c.blocks-2.ensures.list) in
     let given : c.from_residual-in_err-by_bus.result ≡ Err c.in_err-by_bus.field-0.0 = search rules in
     λ d energy are. rw given
     (on_passed_weaker c.in_err-by_bus.field-0.0 _ _
@@ -24,8 +24,8 @@ pub returns-in_err-carried-clause-cause : goal.returns-in_err-carried-clause-cau
 returns-in_err-carried-clause-cause g c =
     let m = c.args.market.now in
     let value = g.N.Exact.value in
-    let is = nothing_is value m c.deref.result.now c.in_ok-nothing.nothing.items _ c.deref.ensures.value c.in_ok-nothing.ensures.zeros (c.len.ensures ∙ ap length c.blocks-2.ensures.list) in
-    let is-2 = nothing_is value m c.deref-2.result.now c.in_ok-nothing.nothing.items _ c.deref-2.ensures.value c.in_ok-nothing.ensures.zeros (c.len.ensures ∙ ap length c.blocks-2.ensures.list) in
+    let is = nothing_is value m c.blocks-2.ensures.energy_alone c.deref.result.now c.in_ok-nothing.nothing.items _ c.deref.ensures.value c.in_ok-nothing.ensures.zeros (c.len.ensures ∙ ap length c.blocks-2.ensures.list) in
+    let is-2 = nothing_is value m c.blocks-2.ensures.energy_alone c.deref-2.result.now c.in_ok-nothing.nothing.items _ c.deref-2.ensures.value c.in_ok-nothing.ensures.zeros (c.len.ensures ∙ ap length c.blocks-2.ensures.list) in
     let puts = subst (λ (x : Dispatch). AreInjections m x (map value c.deref-3.result.now)) is (ap (map value) c.deref-3.ensures.value ∙ c.in_ok-by_bus.ensures.injections) in
     let own = subst (λ (x : Dispatch). AreInjections m x (map value c.deref-3.result.now)) (sym is-2) puts in
     let given : c.from_residual-in_err-carried.result ≡ Err c.in_err-carried.field-0.0 = search rules in
@@ -37,7 +37,7 @@ pub returns-in_err-all-clause-cause : goal.returns-in_err-all-clause-cause
 returns-in_err-all-clause-cause g c =
     let m = c.args.market.now in
     let value = g.N.Exact.value in
-    let is = nothing_is value m c.deref.result.now c.in_ok-nothing.nothing.items _ c.deref.ensures.value c.in_ok-nothing.ensures.zeros (c.len.ensures ∙ ap length c.blocks-2.ensures.list) in
+    let is = nothing_is value m c.blocks-2.ensures.energy_alone c.deref.result.now c.in_ok-nothing.nothing.items _ c.deref.ensures.value c.in_ok-nothing.ensures.zeros (c.len.ensures ∙ ap length c.blocks-2.ensures.list) in
     let all = subst (λ (x : Dispatch). AreInjections m x (map value c.deref-4.result.now)) is (ap (map value) c.deref-4.ensures.value ∙ c.in_ok-by_bus.ensures.injections) in
     let given : c.from_residual-in_err-all.result ≡ Err (why.Passed c.in_err-all.field-0.0) = search rules in
     λ d energy are. rw given (balance_pair m d g.N.Exact.bound (passed_at value c.in_err-all.field-0.0) (c.in_err-all.ensures.cause (empty m) all))
@@ -46,11 +46,11 @@ pub returns-in_err-of_energy-clause-cause : goal.returns-in_err-of_energy-clause
 returns-in_err-of_energy-clause-cause g c =
     let m = c.args.market.now in
     let value = g.N.Exact.value in
-    let is = nothing_is value m c.deref.result.now c.in_ok-nothing.nothing.items _ c.deref.ensures.value c.in_ok-nothing.ensures.zeros (c.len.ensures ∙ ap length c.blocks-2.ensures.list) in
+    let is = nothing_is value m c.blocks-2.ensures.energy_alone c.deref.result.now c.in_ok-nothing.nothing.items _ c.deref.ensures.value c.in_ok-nothing.ensures.zeros (c.len.ensures ∙ ap length c.blocks-2.ensures.list) in
     let all = subst (λ (x : Dispatch). AreInjections m x (map value c.deref-4.result.now)) is (ap (map value) c.deref-4.ensures.value ∙ c.in_ok-by_bus.ensures.injections) in
     let given : c.from_residual-in_err-of_energy.result ≡ Err (why.Passed c.in_err-of_energy.field-0.0) = search rules in
     λ d energy are. rw given
-    (energy_refused m d (value c.in_ok-all.all) g.N.Exact.bound (passed_at value c.in_err-of_energy.field-0.0) (c.in_ok-all.ensures.sum (empty m) all)
+    (energy_refused m d c.blocks-2.ensures.energy_alone (value c.in_ok-all.all) g.N.Exact.bound (passed_at value c.in_err-of_energy.field-0.0) (c.in_ok-all.ensures.sum (empty m) all)
     (refusal value g.N.Exact.bound Times c.args.energy c.in_ok-all.all d.energy _ c.in_err-of_energy.field-0.0 energy refl
     (product_too_large value g.N.Exact.bound c.args.energy c.in_ok-all.all c.in_err-of_energy.field-0.0 c.in_err-of_energy.ensures)))
 
@@ -58,8 +58,8 @@ pub returns-in_err-of_limits-clause-cause : goal.returns-in_err-of_limits-clause
 returns-in_err-of_limits-clause-cause g c =
     let m = c.args.market.now in
     let value = g.N.Exact.value in
-    let is = nothing_is value m c.deref.result.now c.in_ok-nothing.nothing.items _ c.deref.ensures.value c.in_ok-nothing.ensures.zeros (c.len.ensures ∙ ap length c.blocks-2.ensures.list) in
-    let is-2 = nothing_is value m c.deref-2.result.now c.in_ok-nothing.nothing.items _ c.deref-2.ensures.value c.in_ok-nothing.ensures.zeros (c.len.ensures ∙ ap length c.blocks-2.ensures.list) in
+    let is = nothing_is value m c.blocks-2.ensures.energy_alone c.deref.result.now c.in_ok-nothing.nothing.items _ c.deref.ensures.value c.in_ok-nothing.ensures.zeros (c.len.ensures ∙ ap length c.blocks-2.ensures.list) in
+    let is-2 = nothing_is value m c.blocks-2.ensures.energy_alone c.deref-2.result.now c.in_ok-nothing.nothing.items _ c.deref-2.ensures.value c.in_ok-nothing.ensures.zeros (c.len.ensures ∙ ap length c.blocks-2.ensures.list) in
     let puts = subst (λ (x : Dispatch). AreInjections m x (map value c.deref-3.result.now)) is (ap (map value) c.deref-3.ensures.value ∙ c.in_ok-by_bus.ensures.injections) in
     let own = subst (λ (x : Dispatch). AreInjections m x (map value c.deref-3.result.now)) (sym is-2) puts in
     let all = subst (λ (x : Dispatch). AreInjections m x (map value c.deref-4.result.now)) is (ap (map value) c.deref-4.ensures.value ∙ c.in_ok-by_bus.ensures.injections) in
@@ -71,8 +71,8 @@ pub returns-in_err-with_blocks-clause-cause : goal.returns-in_err-with_blocks-cl
 returns-in_err-with_blocks-clause-cause g c =
     let m = c.args.market.now in
     let value = g.N.Exact.value in
-    let is = nothing_is value m c.deref.result.now c.in_ok-nothing.nothing.items _ c.deref.ensures.value c.in_ok-nothing.ensures.zeros (c.len.ensures ∙ ap length c.blocks-2.ensures.list) in
-    let is-2 = nothing_is value m c.deref-2.result.now c.in_ok-nothing.nothing.items _ c.deref-2.ensures.value c.in_ok-nothing.ensures.zeros (c.len.ensures ∙ ap length c.blocks-2.ensures.list) in
+    let is = nothing_is value m c.blocks-2.ensures.energy_alone c.deref.result.now c.in_ok-nothing.nothing.items _ c.deref.ensures.value c.in_ok-nothing.ensures.zeros (c.len.ensures ∙ ap length c.blocks-2.ensures.list) in
+    let is-2 = nothing_is value m c.blocks-2.ensures.energy_alone c.deref-2.result.now c.in_ok-nothing.nothing.items _ c.deref-2.ensures.value c.in_ok-nothing.ensures.zeros (c.len.ensures ∙ ap length c.blocks-2.ensures.list) in
     let puts = subst (λ (x : Dispatch). AreInjections m x (map value c.deref-3.result.now)) is (ap (map value) c.deref-3.ensures.value ∙ c.in_ok-by_bus.ensures.injections) in
     let own = subst (λ (x : Dispatch). AreInjections m x (map value c.deref-3.result.now)) (sym is-2) puts in
     let all = subst (λ (x : Dispatch). AreInjections m x (map value c.deref-4.result.now)) is (ap (map value) c.deref-4.ensures.value ∙ c.in_ok-by_bus.ensures.injections) in
@@ -86,8 +86,8 @@ pub returns-clause-bound : goal.returns-clause-bound
 returns-clause-bound g c =
     let m = c.args.market.now in
     let value = g.N.Exact.value in
-    let is = nothing_is value m c.deref.result.now c.in_ok-nothing.nothing.items _ c.deref.ensures.value c.in_ok-nothing.ensures.zeros (c.len.ensures ∙ ap length c.blocks-2.ensures.list) in
-    let is-2 = nothing_is value m c.deref-2.result.now c.in_ok-nothing.nothing.items _ c.deref-2.ensures.value c.in_ok-nothing.ensures.zeros (c.len.ensures ∙ ap length c.blocks-2.ensures.list) in
+    let is = nothing_is value m c.blocks-2.ensures.energy_alone c.deref.result.now c.in_ok-nothing.nothing.items _ c.deref.ensures.value c.in_ok-nothing.ensures.zeros (c.len.ensures ∙ ap length c.blocks-2.ensures.list) in
+    let is-2 = nothing_is value m c.blocks-2.ensures.energy_alone c.deref-2.result.now c.in_ok-nothing.nothing.items _ c.deref-2.ensures.value c.in_ok-nothing.ensures.zeros (c.len.ensures ∙ ap length c.blocks-2.ensures.list) in
     let puts = subst (λ (x : Dispatch). AreInjections m x (map value c.deref-3.result.now)) is (ap (map value) c.deref-3.ensures.value ∙ c.in_ok-by_bus.ensures.injections) in
     let own = subst (λ (x : Dispatch). AreInjections m x (map value c.deref-3.result.now)) (sym is-2) puts in
     let all = subst (λ (x : Dispatch). AreInjections m x (map value c.deref-4.result.now)) is (ap (map value) c.deref-4.ensures.value ∙ c.in_ok-by_bus.ensures.injections) in

@@ -6,6 +6,7 @@ use Rattle.market_model.specs.declared.participants.Side.TheVariants.{Sell}
 use Rattle.market_model.specs.Dispatch.{block_at, signed_by_side}
 use Rattle.market_model.specs.Optimality.{unit_price}
 use Rattle.market_model.specs.Valued.{passed_at}
+use Rattle.market_model.proofs.EnergyAlone.{worth_is_price}
 use Rattle.cert_sums.specs.Pairs.{in_price}
 use Rattle.cert_sums.proofs.BoundLemmas.{blocks_none, blocks_all, block_step, block_refused}
 use Rattle.cert_sums.proofs.bounding.with_blocks.Goals as goal
@@ -44,7 +45,7 @@ loop-at-preserved g c = λ d energy are start.
     let blocks = c.slice-block-items.ensures ∙ c.blocks-2.ensures.list in
     let block = ap (λ (bs : List Block). slice_index_or bs k (record { unit = 0; side = Sell; quantity = pos 0; price = pos 0 })) blocks in
     block_step m d k (value c.by_side.result) _ (value c.loop-at.sum) _
-    (c.by_side.ensures ∙ ap (λ (b : Block). signed_by_side b.side (value c.in_ok-price.price)) block ∙ ap (signed_by_side (block_at m k).side) (c.in_ok-price.ensures.price d energy are ∙ ap (λ (b : Block). unit_price m d b.unit) block))
+    (c.by_side.ensures ∙ ap (λ (b : Block). signed_by_side b.side (value c.in_ok-price.price)) block ∙ ap (signed_by_side (block_at m k).side) (c.in_ok-price.ensures.price d energy are ∙ ap (λ (b : Block). unit_price m d b.unit) block ∙ sym (worth_is_price m c.units-units.ensures.energy_alone d (block_at m k).unit)))
     (c.block_quantity.ensures ∙ ap (λ (b : Block). whole b.quantity) block) (c.loop-at.invariant d energy are start) c.in_ok-sum.ensures.sum
 
 pub returns-in_err-sum-clause-cause : goal.returns-in_err-sum-clause-cause
@@ -57,12 +58,12 @@ returns-in_err-sum-clause-cause g c =
     let below : k < length m.blocks = omega (arith, c.loop-at-test.true, ap length blocks) in
     let given : c.from_residual-in_err-sum.result ≡ Err c.in_err-sum.field-0.0 = search rules in
     λ d energy are start. rw given
-    (block_refused m d k (value c.by_side.result) _ (value c.loop-at.sum) g.N.Exact.bound (passed_at value c.in_err-sum.field-0.0) below
-    (c.by_side.ensures ∙ ap (λ (b : Block). signed_by_side b.side (value c.in_ok-price.price)) block ∙ ap (signed_by_side (block_at m k).side) (c.in_ok-price.ensures.price d energy are ∙ ap (λ (b : Block). unit_price m d b.unit) block))
+    (block_refused m d c.units-units.ensures.energy_alone k (value c.by_side.result) _ (value c.loop-at.sum) g.N.Exact.bound (passed_at value c.in_err-sum.field-0.0) below
+    (c.by_side.ensures ∙ ap (λ (b : Block). signed_by_side b.side (value c.in_ok-price.price)) block ∙ ap (signed_by_side (block_at m k).side) (c.in_ok-price.ensures.price d energy are ∙ ap (λ (b : Block). unit_price m d b.unit) block ∙ sym (worth_is_price m c.units-units.ensures.energy_alone d (block_at m k).unit)))
     (c.block_quantity.ensures ∙ ap (λ (b : Block). whole b.quantity) block) (c.loop-at.invariant d energy are start) c.in_err-sum.ensures.cause)
 
 pub returns-clause-bound : goal.returns-clause-bound
 returns-clause-bound g c =
     let blocks = c.slice-block-items.ensures ∙ c.blocks-2.ensures.list in
     let all : c.loop-at.at ≡ length c.args.market.now.blocks = omega (arith, ap length blocks) in
-    λ d energy are start. c.loop-at.invariant d energy are start ∙ rw all (blocks_all c.args.market.now d)
+    λ d energy are start. c.loop-at.invariant d energy are start ∙ rw all (blocks_all c.args.market.now d c.units-units.ensures.energy_alone)

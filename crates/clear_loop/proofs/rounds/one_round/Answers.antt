@@ -4,6 +4,7 @@ use Rattle.market_model.specs.Valued.{duals_at}
 use Rattle.std.specs.Prelude.{Contains}
 use Rattle.market_model.specs.Dispatch.{Dispatch}
 use Rattle.market_model.specs.LimitRows.{rows}
+use Rattle.market_model.specs.Optimality.{rows_alone}
 use Rattle.market_system.specs.Growth.{BestFor, Broken, PricesOnly}
 use Rattle.market_system.proofs.GrowthLaws.{growth_none}
 use Rattle.market_model.specs.PutIn.{dispatch_of}
@@ -23,7 +24,7 @@ use Rattle.clear_loop.proofs.rounds.one_round.Given.{Over}
 use Rattle.clear_loop.proofs.rounds.one_round.Goals as goal
 use Rattle.clear_loop.proofs.rounds.one_round.Goals.{In-Broken, In-Within, After-slice-3, After-deref}
 use Rattle.linear_dict.specs.Dictionaries.{choice_of}
-use Rattle.market_system.specs.MarketSystem.{choice_duals}
+use Rattle.market_dict.specs.EnergySystem.{choice_duals}
 
 pub repose-requires-clause-prices : goal.repose-requires-clause-prices
 repose-requires-clause-prices g c =
@@ -36,7 +37,7 @@ repose-requires-clause-bounds g c =
 pub repose-requires-clause-ordered : goal.repose-requires-clause-ordered
 repose-requires-clause-ordered g c =
     in_order g.N.Exact.value c.args.market.now c.args.hand.taken.rows c.args.hand.posing c.requires.posing c.slice.result.now c.slice-2.result.now c.slice.ensures (c.slice-2.ensures ∙ c.in_ok-bounds.ensures) c.args.hand.warm c.requires.start
-    c.lines-lines.ensures.market
+    c.lines-lines.ensures.market c.lines-lines.ensures.energy_alone
 
 pub returns-in_err-posed-clause-cause : goal.returns-in_err-posed-clause-cause
 returns-in_err-posed-clause-cause g c =
@@ -44,14 +45,14 @@ returns-in_err-posed-clause-cause g c =
     let given : c.from_residual-in_err-posed.result ≡ Err (stop.Passed c.in_err-posed.field-0.0) = p.1 ∙ ap Err p.2 in
     rw given
     (posed_range g.N.Exact.value c.args.market.now c.args.hand.taken.rows c.args.hand.posing c.requires.posing c.slice.result.now c.slice-2.result.now c.slice.ensures (c.slice-2.ensures ∙ c.in_ok-bounds.ensures) c.args.hand.warm c.requires.start
-    c.lines-lines.ensures.market g.N.Exact.bound c.in_err-posed.field-0.0 c.in_err-posed.ensures.pair)
+    c.lines-lines.ensures.market c.lines-lines.ensures.energy_alone g.N.Exact.bound c.in_err-posed.field-0.0 c.in_err-posed.ensures.pair)
 
 pub solve-requires : goal.solve-requires
 solve-requires g c = record {
   holds = (
     c.args.hand.taken.rows,
     posed_system g.N.Exact.value c.args.market.now c.args.hand.taken.rows c.args.hand.posing c.requires.posing c.slice.result.now c.slice-2.result.now c.slice.ensures (c.slice-2.ensures ∙ c.in_ok-bounds.ensures) c.args.hand.warm c.requires.start
-        c.lines-lines.ensures.market c.in_ok-posed.posed c.in_ok-posed.ensures.posed,
+        c.lines-lines.ensures.market c.lines-lines.ensures.energy_alone c.in_ok-posed.posed c.in_ok-posed.ensures.posed,
   );
 }
 
@@ -59,7 +60,7 @@ pub returns-in_err-dict-clause-cause : goal.returns-in_err-dict-clause-cause
 returns-in_err-dict-clause-cause g c =
     let holds =
     posed_system g.N.Exact.value c.args.market.now c.args.hand.taken.rows c.args.hand.posing c.requires.posing c.slice.result.now c.slice-2.result.now c.slice.ensures (c.slice-2.ensures ∙ c.in_ok-bounds.ensures) c.args.hand.warm c.requires.start
-    c.lines-lines.ensures.market c.in_ok-posed.posed c.in_ok-posed.ensures.posed in
+    c.lines-lines.ensures.market c.lines-lines.ensures.energy_alone c.in_ok-posed.posed c.in_ok-posed.ensures.posed in
     let p = err_from_is_err_and c.from_residual-in_err-dict.result c.from_residual-in_err-dict.ensures.1 in
     let given : c.from_residual-in_err-dict.result ≡ Err c.in_err-dict.field-0.0 = p.1 ∙ ap Err p.2 in
     rw given
@@ -72,7 +73,7 @@ returns-in-Nothing-clause-round g c =
     let rs = c.args.hand.taken.rows in
     let holds =
     posed_system g.N.Exact.value m rs c.args.hand.posing c.requires.posing c.slice.result.now c.slice-2.result.now c.slice.ensures (c.slice-2.ensures ∙ c.in_ok-bounds.ensures) c.args.hand.warm c.requires.start
-    c.lines-lines.ensures.market c.in_ok-posed.posed c.in_ok-posed.ensures.posed in
+    c.lines-lines.ensures.market c.lines-lines.ensures.energy_alone c.in_ok-posed.posed c.in_ok-posed.ensures.posed in
     let none : IsFound g.N.Exact.value m rs (found.Nothing c.in-Nothing.dict c.in-Nothing.farkas) =
     subst (λ (f : Found g.row.N.Denot). IsFound g.N.Exact.value m rs f) c.in-Nothing.is (c.in_ok-dict.ensures.found rs holds) in
     (record { holds = none.0; names = c.requires.names; end = (none.1, none.2) }, refl)
@@ -84,7 +85,7 @@ found_best g c =
     let rs = c.args.hand.taken.rows in
     let holds =
     posed_system g.N.Exact.value m rs c.args.hand.posing c.requires.posing c.slice.result.now c.slice-2.result.now c.slice.ensures (c.slice-2.ensures ∙ c.in_ok-bounds.ensures) c.args.hand.warm c.requires.start
-    c.lines-lines.ensures.market c.in_ok-posed.posed c.in_ok-posed.ensures.posed in
+    c.lines-lines.ensures.market c.lines-lines.ensures.energy_alone c.in_ok-posed.posed c.in_ok-posed.ensures.posed in
     subst (λ xs. IsFound g.N.Exact.value m rs (found.Best c.in-Best.dict xs)) (sym c.slice-3.ensures)
     (subst (λ (f : Found g.row.N.Denot). IsFound g.N.Exact.value m rs f) c.in-Best.is (c.in_ok-dict.ensures.found rs holds))
 
@@ -116,15 +117,16 @@ screened_broken g c =
 
 broken_row : (g : Over) (c : In-Broken g) → let m = c.args.market.now in let rs = c.args.hand.taken.rows in
     IsFound g.N.Exact.value m rs (found.Best c.in-Best.dict c.slice-3.result.now)
-    → Contains (rows m) c.in-Broken.row × (¬ (Contains rs c.in-Broken.row)) × ((x : Dispatch) × BestFor m rs x × Broken m x c.in-Broken.row)
+    → Contains (rows m) c.in-Broken.row × (¬ (Contains rs c.in-Broken.row)) × ((x : Dispatch) × BestFor m (rows_alone rs) x × Broken m x c.in-Broken.row)
 broken_row g c best =
     let m = c.args.market.now in
     let rs = c.args.hand.taken.rows in
     let x = dispatch_of g.N.Exact.value c.slice-3.result.now in
     let market = c.lines-lines.ensures.market in
+    let alone = c.lines-lines.ensures.energy_alone in
     let best_x = best_for m rs x (choice_duals m rs (choice_of c.in-Best.dict)) market best.2 in
     let worst = screened_broken g c in
-    (worst_inside m market rs x worst.0 c.in-Broken.row worst.1, worst_new m market rs x worst.0 c.in-Broken.row worst.1 best_x, (x, best_x, worst_broken m market rs x worst.0 c.in-Broken.row worst.1))
+    (worst_inside m market alone rs x worst.0 c.in-Broken.row worst.1, worst_new m market alone rs x worst.0 c.in-Broken.row worst.1 best_x, (x, best_x, worst_broken m market alone rs x worst.0 c.in-Broken.row worst.1))
 
 pub with_row-requires-clause-holds : goal.with_row-requires-clause-holds
 with_row-requires-clause-holds g c = (found_best g (goal.at.with_row-requires-clause-holds g c).After-slice-3).0.holds

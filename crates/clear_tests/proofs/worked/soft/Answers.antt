@@ -1,4 +1,4 @@
-use Rattle.std.proofs.Common.{◌≡◌, [], ◌∷◌, sym, subst, w64}
+use Rattle.std.proofs.Common.{◌≡◌, [], ◌∷◌, refl, sym, subst, w64}
 use Rattle.std.proofs.lemmas.Int.{to_z-of_z}
 use Rattle.std.proofs.lemmas.Result.{IfOk-weaker}
 use Rattle.market_model.specs.declared.participants.Parts.{Parts}
@@ -18,10 +18,11 @@ assemble-requires c =
       c.in_ok-listed-6.ensures,
       c.new.ensures,
       c.new-2.ensures,
+      c.none.ensures,
       to_z-of_z w64 c.args.price c.ranges.price,
       to_z-of_z w64 c.args.excess c.ranges.excess,
     )
-    (worked_is_market c.args.price c.args.excess c.requires)
+    (worked_is_market c.args.price c.args.excess c.requires, refl)
 
 pub returns : goal.returns
 returns c =
@@ -38,6 +39,7 @@ returns c =
       c.in_ok-listed-6.ensures,
       c.new.ensures,
       c.new-2.ensures,
+      c.none.ensures,
       to_z-of_z w64 price c.ranges.price,
       to_z-of_z w64 excess c.ranges.excess,
     ) at c.assemble.ensures in

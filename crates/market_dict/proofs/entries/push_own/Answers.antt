@@ -1,4 +1,4 @@
-use Rattle.std.proofs.Common.{◌≡◌, ◌∙◌, ◌++◌, List, Bool, true, false, map, ap, sym, pos}
+use Rattle.std.proofs.Common.{◌∙◌, ◌++◌, List, Bool, map, ap, sym, pos}
 use Rattle.std.specs.Prelude.{if◌then◌else◌}
 use Rattle.std.proofs.lemmas.List.{append-nil}
 use Rattle.fraction_theory.specs.Fraction.{whole, neg_ℚ}

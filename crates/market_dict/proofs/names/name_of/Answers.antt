@@ -1,6 +1,7 @@
 use Rattle.std.proofs.Common.{◌≡◌, ◌<◌, ◌∙◌, ◌+◌, ℕ, ap, sym, subst, arith, length}
 use Rattle.market_model.specs.LimitRows.{rows}
-use Rattle.market_system.specs.MarketSystem.{name, IsVariableOf}
+use Rattle.market_system.specs.MarketSystem.{name}
+use Rattle.market_dict.specs.EnergySystem.{IsVariableOf}
 use Rattle.market_system.specs.declared.variables.Variable.TheVariants.{Over, Under}
 use Rattle.market_dict.proofs.EntryLemmas.{name_at_place, over_small}
 use Rattle.limit_rows.proofs.WalkLemmas.{rows_few}

@@ -1,7 +1,8 @@
 use Rattle.std.proofs.Common.{rules, Err, ◌≡◌, ◌∙◌, ◌++◌, List, map, ap, sym}
 use Rattle.std.specs.Prelude.{[], ◌∷◌}
 use Rattle.fraction_theory.specs.Fraction.{Fraction}
-use Rattle.market_system.specs.MarketSystem.{objective_price, low as low_of, high as high_of, excess_columns, row_variables}
+use Rattle.market_system.specs.MarketSystem.{objective_price, low as low_of, high as high_of, excess_columns}
+use Rattle.market_dict.specs.EnergySystem.{row_variables}
 use Rattle.simplex_core.specs.declared.bounds.Bounds.{Bounds}
 use Rattle.market_model.specs.declared.stops.Stop.TheVariants.{Passed as StoppedBy}
 use Rattle.market_dict.proofs.ColumnLists.{mapped_more, rows_more}

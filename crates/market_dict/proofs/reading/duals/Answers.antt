@@ -1,7 +1,7 @@
 use Rattle.std.proofs.Common.{◌∙◌, map, ap}
 use Rattle.linear_dict.specs.Dictionaries.{note_of, choice_of}
 use Rattle.linear_system.specs.Choices.{reduced}
-use Rattle.market_system.specs.MarketSystem.{system_of}
+use Rattle.market_dict.specs.EnergySystem.{system_of}
 use Rattle.market_dict.proofs.HoldingLaws.{shown_reduced}
 use Rattle.market_dict.proofs.ListedLemmas.{map-members}
 use Rattle.market_dict.proofs.reading.duals.Goals as goal

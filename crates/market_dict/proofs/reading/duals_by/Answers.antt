@@ -1,19 +1,21 @@
-use Rattle.std.proofs.Common.{◌≡◌, ◌<◌, ◌≤◌, ◌+◌, ◌∙◌, [], List, map, ap, ap₂, sym, length, arith, refl}
+use Rattle.std.specs.Prelude.{Bool, if◌then◌else◌}
+use Rattle.std.proofs.Common.{◌≡◌, ◌<◌, ◌≤◌, ◌+◌, ◌∙◌, [], map, ap, ap₂, sym, length, arith, refl}
 use Rattle.std.proofs.lemmas.List.{append-nil}
 use Rattle.fraction_theory.specs.Fraction.{Fraction, neg_ℚ}
-use Rattle.fraction_theory.specs.Signs.{sign_of}
-use Rattle.market_model.specs.declared.answered.Dual.{Dual}
-use Rattle.market_model.specs.declared.answered.Duals.{Duals}
+use Rattle.fraction_theory.specs.Signs.{part_above, sign_of}
 use Rattle.market_model.specs.declared.answered.RowId.{RowId}
+use Rattle.market_model.specs.Dispatch.{zero}
 use Rattle.market_model.specs.LimitRows.{rows}
-use Rattle.market_model.specs.Valued.{dual_at}
+use Rattle.market_model.specs.Valued.{dual_at, room_dual_at}
+use Rattle.market_model.proofs.EnergyAlone.{not_listed}
 use Rattle.market_model.proofs.RowMembers.{at_places}
 use Rattle.market_system.specs.declared.variables.Variable.TheVariants as variable
-use Rattle.market_system.specs.MarketSystem.{variables, in_order, dual_by}
+use Rattle.market_system.specs.MarketSystem.{need_name, in_order, dual_by}
+use Rattle.market_dict.specs.EnergySystem.{variables}
 use Rattle.market_dict.proofs.ReadingLemmas.{at_rank, name_count, rank_is, rank_known, rank_late, late_nothing, rank_read, rank_row, rank_inside, rank_cost, limits_step, energy_step, duals_all, balance_all}
 use Rattle.limit_rows.proofs.WalkLemmas.{rows_few}
 use Rattle.market_dict.proofs.reading.duals_by.Goals as goal
-use Rattle.market_dict.proofs.reading.duals_by.Goals.{in-Block, in-Balance, in-Limit+in_ok-push_dual-in-Limit, in-Over, in-Under}
+use Rattle.market_dict.proofs.reading.duals_by.Goals.{in-Block, in-Balance, in-Limit+in_ok-push_dual-in-Limit, in-Over, in-Under, in-Offer, in-Need, in-Room}
 
 pub overflow_add-behind-2 : goal.overflow_add-behind-2
 overflow_add-behind-2 g c =
@@ -30,13 +32,14 @@ variable_of-requires g c =
     let k = c.loop-rank.rank in
     let lt : k < length c.args.dict.now.names = omega (arith, c.loop-rank-test.true, c.requires.costs) in
     let below : c.ranked-name.result < length m.blocks + 1 + length (rows m) = omega (arith, c.if-name-behind.false, blocks, c.count.ensures) in
-    rank_known m h.0 c.args.dict.now c.lines-lines.ensures.market h.1 k c.ranked-name.result lt c.ranked-name.ensures below
+    rank_known m h.0 c.args.dict.now c.lines-lines.ensures.market c.lines-lines.ensures.energy_alone h.1 k c.ranked-name.result lt c.ranked-name.ensures below
 
 pub loop-rank-preserved-then-name-behind : goal.loop-rank-preserved-then-name-behind
 loop-rank-preserved-then-name-behind g c =
     let m = c.args.market.now in
     let d = c.args.dict.now in
     let market = c.lines-lines.ensures.market in
+    let alone = c.lines-lines.ensures.energy_alone in
     let k = c.loop-rank.rank in
     let lt : k < length d.names = omega (arith, c.loop-rank-test.true, c.requires.costs) in
     let blocks : c.len.result ≡ length m.blocks = c.len.ensures ∙ ap length c.blocks-2.ensures.list in
@@ -44,13 +47,13 @@ loop-rank-preserved-then-name-behind g c =
     record {
       limits = λ rs cost holds same.
           let vs = variables m (in_order m rs) in
-          let v = at_rank m rs d market holds k in
-          let late = late_nothing m cost v (rank_is m rs d market holds k lt) (rank_late m rs d market holds k c.ranked-name.result lt c.ranked-name.ensures behind) in
-          limits_step m cost vs k v _ _ [] (rank_inside m rs d market holds k lt) refl (c.loop-rank.invariant.limits rs cost holds same) (sym (append-nil _)) (sym late.0);
+          let v = at_rank m rs d market alone holds k in
+          let late = late_nothing m cost v (rank_is m rs d market alone holds k lt) (rank_late m rs d market alone holds k c.ranked-name.result lt c.ranked-name.ensures behind) in
+          limits_step m cost vs k v _ _ [] (rank_inside m rs d market alone holds k lt) refl (c.loop-rank.invariant.limits rs cost holds same) (sym (append-nil _)) (sym late.0);
       energy = λ rs cost holds same.
-          let v = at_rank m rs d market holds k in
-          let late = late_nothing m cost v (rank_is m rs d market holds k lt) (rank_late m rs d market holds k c.ranked-name.result lt c.ranked-name.ensures behind) in
-          energy_step m cost (variables m (in_order m rs)) k v (rank_inside m rs d market holds k lt) refl late.1 (λ before. c.loop-rank.invariant.energy rs cost holds same before);
+          let v = at_rank m rs d market alone holds k in
+          let late = late_nothing m cost v (rank_is m rs d market alone holds k lt) (rank_late m rs d market alone holds k c.ranked-name.result lt c.ranked-name.ensures behind) in
+          energy_step m cost (variables m (in_order m rs)) k v (rank_inside m rs d market alone holds k lt) refl late.1 (λ before. c.loop-rank.invariant.energy rs cost holds same before);
     }
 
 pub name_at-requires-clause-line : goal.name_at-requires-clause-line
@@ -59,7 +62,7 @@ name_at-requires-clause-line g c =
     let h = c.requires.holds in
     let market = c.lines-lines.ensures.market in
     (at_places m market c.in-Limit.row
-    (rank_row m h.0 c.args.dict.now market h.1 c.loop-rank.rank c.ranked-name.result c.variable_of.result c.in-Limit.row (omega (arith, c.loop-rank-test.true, c.requires.costs)) c.ranked-name.ensures c.variable_of.ensures c.in-Limit.is)).0
+    (rank_row m h.0 c.args.dict.now market c.lines-lines.ensures.energy_alone h.1 c.loop-rank.rank c.ranked-name.result c.variable_of.result c.in-Limit.row (omega (arith, c.loop-rank-test.true, c.requires.costs)) c.ranked-name.ensures c.variable_of.ensures c.in-Limit.is)).0
 
 pub name_at-requires-clause-lost : goal.name_at-requires-clause-lost
 name_at-requires-clause-lost g c =
@@ -67,13 +70,14 @@ name_at-requires-clause-lost g c =
     let h = c.requires.holds in
     let market = c.lines-lines.ensures.market in
     (at_places m market c.in-Limit.row
-    (rank_row m h.0 c.args.dict.now market h.1 c.loop-rank.rank c.ranked-name.result c.variable_of.result c.in-Limit.row (omega (arith, c.loop-rank-test.true, c.requires.costs)) c.ranked-name.ensures c.variable_of.ensures c.in-Limit.is)).1
+    (rank_row m h.0 c.args.dict.now market c.lines-lines.ensures.energy_alone h.1 c.loop-rank.rank c.ranked-name.result c.variable_of.result c.in-Limit.row (omega (arith, c.loop-rank-test.true, c.requires.costs)) c.ranked-name.ensures c.variable_of.ensures c.in-Limit.is)).1
 
 pub loop-rank-preserved : goal.loop-rank-preserved
 loop-rank-preserved g c =
     let m = c.args.market.now in
     let d = c.args.dict.now in
     let market = c.lines-lines.ensures.market in
+    let alone = c.lines-lines.ensures.energy_alone in
     let k = c.loop-rank.rank in
     let worth = g.N.Exact.value in
     let test = c.loop-rank-test.true in
@@ -83,57 +87,90 @@ loop-rank-preserved g c =
         limits = λ rs cost holds same.
             let vs = variables m (in_order m rs) in
             let v = variable.Block w.in-Block.field-0 in
-            let is = rank_read m rs d market holds k c.ranked-name.result c.variable_of.result v lt c.ranked-name.ensures c.variable_of.ensures w.in-Block.is in
-            limits_step m cost vs k v _ _ [] (rank_inside m rs d market holds k lt) is (c.loop-rank.invariant.limits rs cost holds same) (ap (map (dual_at worth)) w.limits-is ∙ sym (append-nil _)) refl;
+            let is = rank_read m rs d market alone holds k c.ranked-name.result c.variable_of.result v lt c.ranked-name.ensures c.variable_of.ensures w.in-Block.is in
+            limits_step m cost vs k v _ _ [] (rank_inside m rs d market alone holds k lt) is (c.loop-rank.invariant.limits rs cost holds same) (ap (map (dual_at worth)) w.limits-is ∙ sym (append-nil _)) refl;
         energy = λ rs cost holds same.
             let v = variable.Block w.in-Block.field-0 in
-            let is = rank_read m rs d market holds k c.ranked-name.result c.variable_of.result v lt c.ranked-name.ensures c.variable_of.ensures w.in-Block.is in
-            energy_step m cost (variables m (in_order m rs)) k v (rank_inside m rs d market holds k lt) is (λ e. absurd cc) (λ before. ap worth w.energy-is ∙ c.loop-rank.invariant.energy rs cost holds same before);
+            let is = rank_read m rs d market alone holds k c.ranked-name.result c.variable_of.result v lt c.ranked-name.ensures c.variable_of.ensures w.in-Block.is in
+            energy_step m cost (variables m (in_order m rs)) k v (rank_inside m rs d market alone holds k lt) is (λ e. absurd cc) (λ before. ap worth w.energy-is ∙ c.loop-rank.invariant.energy rs cost holds same before);
       }
       | in-Balance w ↦ record {
         limits = λ rs cost holds same.
             let vs = variables m (in_order m rs) in
-            let is = rank_read m rs d market holds k c.ranked-name.result c.variable_of.result variable.Balance lt c.ranked-name.ensures c.variable_of.ensures w.in-Balance.is in
-            limits_step m cost vs k variable.Balance _ _ [] (rank_inside m rs d market holds k lt) is (c.loop-rank.invariant.limits rs cost holds same) (ap (map (dual_at worth)) w.limits-is ∙ sym (append-nil _)) refl;
+            let is = rank_read m rs d market alone holds k c.ranked-name.result c.variable_of.result variable.Balance lt c.ranked-name.ensures c.variable_of.ensures w.in-Balance.is in
+            limits_step m cost vs k variable.Balance _ _ [] (rank_inside m rs d market alone holds k lt) is (c.loop-rank.invariant.limits rs cost holds same) (ap (map (dual_at worth)) w.limits-is ∙ sym (append-nil _)) refl;
         energy = λ rs cost holds same among.
-            let is = rank_read m rs d market holds k c.ranked-name.result c.variable_of.result variable.Balance lt c.ranked-name.ensures c.variable_of.ensures w.in-Balance.is in
+            let is = rank_read m rs d market alone holds k c.ranked-name.result c.variable_of.result variable.Balance lt c.ranked-name.ensures c.variable_of.ensures w.in-Balance.is in
             ap worth w.energy-is ∙ w.neg-energy.ensures
-            ∙ ap neg_ℚ (rank_cost m rs d market holds worth cost c.args.costs.now k w.index-costs-rank.result variable.Balance same test lt w.index-costs-rank.is is);
+            ∙ ap neg_ℚ (rank_cost m rs d market alone holds worth cost c.args.costs.now k w.index-costs-rank.result variable.Balance same test lt w.index-costs-rank.is is);
       }
       | in-Limit+in_ok-push_dual-in-Limit w ↦ record {
         limits = λ rs cost holds same.
             let vs = variables m (in_order m rs) in
             let v = variable.Limit w.in-Limit.row in
-            let is = rank_read m rs d market holds k c.ranked-name.result c.variable_of.result v lt c.ranked-name.ensures c.variable_of.ensures w.in-Limit.is in
-            let priced = rank_cost m rs d market holds worth cost c.args.costs.now k w.index-costs-rank-in-Limit.result v same test lt w.index-costs-rank-in-Limit.is is in
-            limits_step m cost vs k v _ _ _ (rank_inside m rs d market holds k lt) is (c.loop-rank.invariant.limits rs cost holds same) (ap (map (dual_at worth)) w.limits-is ∙ w.in_ok-push_dual-in-Limit.ensures)
+            let is = rank_read m rs d market alone holds k c.ranked-name.result c.variable_of.result v lt c.ranked-name.ensures c.variable_of.ensures w.in-Limit.is in
+            let priced = rank_cost m rs d market alone holds worth cost c.args.costs.now k w.index-costs-rank-in-Limit.result v same test lt w.index-costs-rank-in-Limit.is is in
+            limits_step m cost vs k v _ _ _ (rank_inside m rs d market alone holds k lt) is (c.loop-rank.invariant.limits rs cost holds same) (ap (map (dual_at worth)) w.limits-is ∙ w.in_ok-push_dual-in-Limit.ensures)
             (ap₂ (λ (id : RowId) (x : Fraction). dual_by id x (sign_of x)) w.name_at.ensures priced);
         energy = λ rs cost holds same.
             let v = variable.Limit w.in-Limit.row in
-            let is = rank_read m rs d market holds k c.ranked-name.result c.variable_of.result v lt c.ranked-name.ensures c.variable_of.ensures w.in-Limit.is in
-            energy_step m cost (variables m (in_order m rs)) k v (rank_inside m rs d market holds k lt) is (λ e. absurd cc) (λ before. ap worth w.energy-is ∙ c.loop-rank.invariant.energy rs cost holds same before);
+            let is = rank_read m rs d market alone holds k c.ranked-name.result c.variable_of.result v lt c.ranked-name.ensures c.variable_of.ensures w.in-Limit.is in
+            energy_step m cost (variables m (in_order m rs)) k v (rank_inside m rs d market alone holds k lt) is (λ e. absurd cc) (λ before. ap worth w.energy-is ∙ c.loop-rank.invariant.energy rs cost holds same before);
       }
       | in-Over w ↦ record {
         limits = λ rs cost holds same.
             let vs = variables m (in_order m rs) in
             let v = variable.Over w.in-Over.field-0 in
-            let is = rank_read m rs d market holds k c.ranked-name.result c.variable_of.result v lt c.ranked-name.ensures c.variable_of.ensures w.in-Over.is in
-            limits_step m cost vs k v _ _ [] (rank_inside m rs d market holds k lt) is (c.loop-rank.invariant.limits rs cost holds same) (ap (map (dual_at worth)) w.limits-is ∙ sym (append-nil _)) refl;
+            let is = rank_read m rs d market alone holds k c.ranked-name.result c.variable_of.result v lt c.ranked-name.ensures c.variable_of.ensures w.in-Over.is in
+            limits_step m cost vs k v _ _ [] (rank_inside m rs d market alone holds k lt) is (c.loop-rank.invariant.limits rs cost holds same) (ap (map (dual_at worth)) w.limits-is ∙ sym (append-nil _)) refl;
         energy = λ rs cost holds same.
             let v = variable.Over w.in-Over.field-0 in
-            let is = rank_read m rs d market holds k c.ranked-name.result c.variable_of.result v lt c.ranked-name.ensures c.variable_of.ensures w.in-Over.is in
-            energy_step m cost (variables m (in_order m rs)) k v (rank_inside m rs d market holds k lt) is (λ e. absurd cc) (λ before. ap worth w.energy-is ∙ c.loop-rank.invariant.energy rs cost holds same before);
+            let is = rank_read m rs d market alone holds k c.ranked-name.result c.variable_of.result v lt c.ranked-name.ensures c.variable_of.ensures w.in-Over.is in
+            energy_step m cost (variables m (in_order m rs)) k v (rank_inside m rs d market alone holds k lt) is (λ e. absurd cc) (λ before. ap worth w.energy-is ∙ c.loop-rank.invariant.energy rs cost holds same before);
       }
       | in-Under w ↦ record {
         limits = λ rs cost holds same.
             let vs = variables m (in_order m rs) in
             let v = variable.Under w.in-Under.field-0 in
-            let is = rank_read m rs d market holds k c.ranked-name.result c.variable_of.result v lt c.ranked-name.ensures c.variable_of.ensures w.in-Under.is in
-            limits_step m cost vs k v _ _ [] (rank_inside m rs d market holds k lt) is (c.loop-rank.invariant.limits rs cost holds same) (ap (map (dual_at worth)) w.limits-is ∙ sym (append-nil _)) refl;
+            let is = rank_read m rs d market alone holds k c.ranked-name.result c.variable_of.result v lt c.ranked-name.ensures c.variable_of.ensures w.in-Under.is in
+            limits_step m cost vs k v _ _ [] (rank_inside m rs d market alone holds k lt) is (c.loop-rank.invariant.limits rs cost holds same) (ap (map (dual_at worth)) w.limits-is ∙ sym (append-nil _)) refl;
         energy = λ rs cost holds same.
             let v = variable.Under w.in-Under.field-0 in
-            let is = rank_read m rs d market holds k c.ranked-name.result c.variable_of.result v lt c.ranked-name.ensures c.variable_of.ensures w.in-Under.is in
-            energy_step m cost (variables m (in_order m rs)) k v (rank_inside m rs d market holds k lt) is (λ e. absurd cc) (λ before. ap worth w.energy-is ∙ c.loop-rank.invariant.energy rs cost holds same before);
+            let is = rank_read m rs d market alone holds k c.ranked-name.result c.variable_of.result v lt c.ranked-name.ensures c.variable_of.ensures w.in-Under.is in
+            energy_step m cost (variables m (in_order m rs)) k v (rank_inside m rs d market alone holds k lt) is (λ e. absurd cc) (λ before. ap worth w.energy-is ∙ c.loop-rank.invariant.energy rs cost holds same before);
+      }
+      | in-Offer w ↦ record {
+        limits = λ rs cost holds same.
+            let vs = variables m (in_order m rs) in
+            let v = variable.Offer w.in-Offer.field-0 in
+            let is = rank_read m rs d market alone holds k c.ranked-name.result c.variable_of.result v lt c.ranked-name.ensures c.variable_of.ensures w.in-Offer.is in
+            limits_step m cost vs k v _ _ [] (rank_inside m rs d market alone holds k lt) is (c.loop-rank.invariant.limits rs cost holds same) (ap (map (dual_at worth)) w.limits-is ∙ sym (append-nil _)) refl;
+        energy = λ rs cost holds same.
+            let v = variable.Offer w.in-Offer.field-0 in
+            let is = rank_read m rs d market alone holds k c.ranked-name.result c.variable_of.result v lt c.ranked-name.ensures c.variable_of.ensures w.in-Offer.is in
+            energy_step m cost (variables m (in_order m rs)) k v (rank_inside m rs d market alone holds k lt) is (λ e. absurd cc) (λ before. ap worth w.energy-is ∙ c.loop-rank.invariant.energy rs cost holds same before);
+      }
+      | in-Need w ↦ record {
+        limits = λ rs cost holds same.
+            let vs = variables m (in_order m rs) in
+            let v = variable.Need in
+            let is = rank_read m rs d market alone holds k c.ranked-name.result c.variable_of.result v lt c.ranked-name.ensures c.variable_of.ensures w.in-Need.is in
+            limits_step m cost vs k v _ _ [] (rank_inside m rs d market alone holds k lt) is (c.loop-rank.invariant.limits rs cost holds same) (ap (map (dual_at worth)) w.limits-is ∙ sym (append-nil _)) refl;
+        energy = λ rs cost holds same.
+            let v = variable.Need in
+            let is = rank_read m rs d market alone holds k c.ranked-name.result c.variable_of.result v lt c.ranked-name.ensures c.variable_of.ensures w.in-Need.is in
+            energy_step m cost (variables m (in_order m rs)) k v (rank_inside m rs d market alone holds k lt) is (λ e. absurd cc) (λ before. ap worth w.energy-is ∙ c.loop-rank.invariant.energy rs cost holds same before);
+      }
+      | in-Room w ↦ record {
+        limits = λ rs cost holds same.
+            let vs = variables m (in_order m rs) in
+            let v = variable.Room w.in-Room.field-0 in
+            let is = rank_read m rs d market alone holds k c.ranked-name.result c.variable_of.result v lt c.ranked-name.ensures c.variable_of.ensures w.in-Room.is in
+            limits_step m cost vs k v _ _ [] (rank_inside m rs d market alone holds k lt) is (c.loop-rank.invariant.limits rs cost holds same) (ap (map (dual_at worth)) w.limits-is ∙ sym (append-nil _)) refl;
+        energy = λ rs cost holds same.
+            let v = variable.Room w.in-Room.field-0 in
+            let is = rank_read m rs d market alone holds k c.ranked-name.result c.variable_of.result v lt c.ranked-name.ensures c.variable_of.ensures w.in-Room.is in
+            energy_step m cost (variables m (in_order m rs)) k v (rank_inside m rs d market alone holds k lt) is (λ e. absurd cc) (λ before. ap worth w.energy-is ∙ c.loop-rank.invariant.energy rs cost holds same before);
       }
     ]
 
@@ -142,8 +179,11 @@ returns g c = λ rs cost holds same.
     let m = c.args.market.now in
     let d = c.args.dict.now in
     let k = c.loop-rank.rank in
-    let count = name_count m rs d c.lines-lines.ensures.market holds in
+    let alone = c.lines-lines.ensures.energy_alone in
+    let count = name_count m rs d c.lines-lines.ensures.market alone holds in
     let all : length (variables m (in_order m rs)) ≤ k = omega (arith, count, c.requires.costs, c.loop-rank-test.false) in
-    ap₂ (λ (x : Fraction) (ds : List (Dual Fraction)). let y : Duals Fraction = record { energy = x; limits = ds } in y)
-    (c.loop-rank.invariant.energy rs cost holds same (balance_all m cost (in_order m rs) k all))
-    (c.loop-rank.invariant.limits rs cost holds same ∙ duals_all m cost (in_order m rs) k all)
+    let priced = c.loop-rank.invariant.energy rs cost holds same (balance_all m cost (in_order m rs) k all) in
+    let limited = c.loop-rank.invariant.limits rs cost holds same ∙ duals_all m cost (in_order m rs) k all in
+    let free = c.datum.ensures ∙ sym (ap (λ (b : Bool). if b then part_above (neg_ℚ (cost (need_name m))) else zero) (not_listed m alone)) in
+    let none = ap (map (room_dual_at g.N.Exact.value)) c.new.ensures in
+    λ i. record { energy = priced i; limits = limited i; reserve = free i; rooms = none i }

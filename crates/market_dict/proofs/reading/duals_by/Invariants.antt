@@ -4,7 +4,8 @@ use Rattle.fraction_theory.specs.Fraction.{Fraction, neg_ℚ}
 use Rattle.market_model.specs.declared.limits.Row.{Row}
 use Rattle.market_model.specs.Valued.{dual_at}
 use Rattle.market_system.specs.declared.variables.Variable.TheVariants.{Balance}
-use Rattle.market_system.specs.MarketSystem.{balance_name, in_order, variables}
+use Rattle.market_system.specs.MarketSystem.{balance_name, in_order}
+use Rattle.market_dict.specs.EnergySystem.{variables}
 use Rattle.market_dict.specs.Holding.{HoldsMarket}
 use Rattle.market_dict.proofs.ReadingLemmas.{duals_to}
 use Rattle.market_dict.proofs.reading.duals_by.Given as goal

@@ -6,7 +6,7 @@ use Rattle.linear_system.proofs.SameSystems.{same_pair}
 use Rattle.simplex_theory.specs.Steps.{opposite_if}
 use Rattle.simplex_theory.specs.Stuck.{multiplier}
 use Rattle.simplex_theory.proofs.SameStates.{same_margin}
-use Rattle.market_system.specs.MarketSystem.{system_of}
+use Rattle.market_dict.specs.EnergySystem.{system_of}
 use Rattle.market_model.specs.declared.stops.Stop.TheVariants.{Passed as StoppedBy}
 use Rattle.market_dict.proofs.ReadingLemmas.{known_names}
 use Rattle.market_dict.proofs.reading.farkas.Goals as goal

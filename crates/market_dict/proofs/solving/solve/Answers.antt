@@ -1,7 +1,7 @@
 use Rattle.std.proofs.Common.{sym, subst}
 use Rattle.linear_dict.specs.Dictionaries.{system_in}
 use Rattle.linear_system.proofs.SameSystems.{same_pair}
-use Rattle.market_system.specs.MarketSystem.{system_of}
+use Rattle.market_dict.specs.EnergySystem.{system_of}
 use Rattle.market_dict.specs.Holding.{HoldsSystem}
 use Rattle.market_dict.proofs.HoldingLaws.{holds_kept}
 use Rattle.market_dict.proofs.solving.solve.Goals as goal

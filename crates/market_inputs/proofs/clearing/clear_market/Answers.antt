@@ -1,4 +1,5 @@
-use Rattle.std.proofs.Common.{◌≡◌, ◌∙◌, Err, rules}
+use Rattle.std.proofs.Common.{◌≡◌, ◌∙◌, Err, rules, subst, sym}
+use Rattle.market_model.specs.Market.{IsMarket}
 use Rattle.market_tables.specs.Tables.{tables_lent}
 use Rattle.market_inputs.specs.Files.{sized_tables}
 use Rattle.market_inputs.proofs.ClearLemmas.{all-read, case-stop, cover-stop, network-stop, offers-stop, offsets-stop, penalties-stop, tables-stop, units-stop}
@@ -102,3 +103,9 @@ returns-clause-told c =
     })
     c.in_ok-offered.offered c.in_ok-offered.ensures.told c.in_ok-offsets.offsets c.in_ok-offsets.ensures c.in_ok-penalties.penalties _ c.in_ok-penalties.ensures
     (c.in_ok-assemble.ensures ∙ c.in_ok-parts.ensures.is)
+
+pub assemble-requires : goal.assemble-requires
+assemble-requires c = c.in_ok-parts.ensures.kept
+
+pub returns-clause-kept : goal.returns-clause-kept
+returns-clause-kept c = subst IsMarket (sym c.in_ok-assemble.ensures) c.in_ok-parts.ensures.kept.0

@@ -1,3 +1,4 @@
+use Rattle.std.proofs.Common.{refl}
 use Rattle.rights_test.proofs.TestMarkets.{triangle_is_market}
 use Rattle.rights_test.proofs.tests.triangle.Goals as goal
 
@@ -12,5 +13,6 @@ assemble-requires c = rw (
   c.in_ok-loss_factors.ensures,
   c.new-3.ensures,
   c.new-4.ensures,
+  c.none.ensures,
 )
-    (triangle_is_market c.args.is_lost)
+    (triangle_is_market c.args.is_lost, refl)

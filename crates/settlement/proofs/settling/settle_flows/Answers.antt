@@ -1,4 +1,4 @@
-use Rattle.std.proofs.Common.{rules, Err, inl, subst₂, ◌≡◌, ◌∙◌, List, ap, map, sym}
+use Rattle.std.proofs.Common.{rules, Err, inl, subst₂, ◌≡◌, ◌∙◌, List, ap, length, map, sym}
 use Rattle.std.proofs.lemmas.List.{length-map}
 use Rattle.fraction_theory.specs.Fraction.{Fraction}
 use Rattle.fraction_theory.specs.Sums.{total}
@@ -9,8 +9,9 @@ use Rattle.market_model.specs.declared.answered.UnitPay.{UnitPay}
 use Rattle.market_model.specs.LimitRows.{lost_unit}
 use Rattle.market_model.specs.NamedSums.{IsRefusedIn}
 use Rattle.market_model.specs.Optimality.{own_price}
-use Rattle.market_model.specs.Valued.{duals_at, load_at, money_at, passed_at, rent_at, total_at, unit_pay_at}
+use Rattle.market_model.specs.Valued.{duals_at, load_at, money_at, passed_at, rent_at, reserve_pay_at, total_at, unit_pay_at}
 use Rattle.market_model.specs.PutIn.{dispatch_of}
+use Rattle.market_model.proofs.EnergyAlone.{no_offers, no_pays}
 use Rattle.limit_screen.proofs.ScreenLemmas.{flow_count}
 use Rattle.market_model.specs.declared.stops.Stop.TheVariants as why
 use Rattle.market_model.specs.Settlement.{left_terms, pay_of_load, pay_of_unit}
@@ -87,6 +88,7 @@ returns-clause-money g c =
       surplus = surplus_is value m x price d c.in_ok-loads.loads c.in_ok-units.units c.in_ok-loads.ensures.loads pays
           (value c.in_ok-surplus.surplus)
           (subst₂ (λ (ls : List (Load g.row.N.Denot)) (us : List (UnitPay g.row.N.Denot)). value c.in_ok-surplus.surplus ≡ total (paid_terms value ls us)) c.slice.ensures c.slice-2.ensures c.in_ok-surplus.ensures.left) i;
+      reserve = (ap (map (reserve_pay_at value)) c.new.ensures ∙ sym (no_pays m c.lines-lines.ensures.energy_alone x d)) i;
     }
 
 pub returns-clause-fits : goal.returns-clause-fits
@@ -103,6 +105,7 @@ returns-clause-fits g c =
       own = count_fits value (λ k. own_price m d price (lost_unit m k)) c.in_ok-own.own _ lost;
       loads = count_fits (load_at value) (pay_of_load m price) c.in_ok-loads.loads _ c.in_ok-loads.ensures.loads;
       rents = rows_fit value m x c.args.duals.now c.in_ok-rents.rents c.requires.duals.named (c.in_ok-rents.ensures.rents x c.requires.flows);
+      reserve = ap length c.new.ensures ∙ sym (ap length (no_offers m c.lines-lines.ensures.energy_alone));
     }
 
 pub returns-clause-surplus_is_rents : goal.returns-clause-surplus_is_rents
@@ -110,7 +113,7 @@ returns-clause-surplus_is_rents g c =
     let m = c.args.market.now in
     let value = g.N.Exact.value in
     let x = dispatch_of value c.args.dispatch.now in
-    let money : Money g.row.N.Denot = record { units = c.in_ok-units.units; own = c.in_ok-own.own; loads = c.in_ok-loads.loads; rents = c.in_ok-rents.rents; surplus = c.in_ok-surplus.surplus } in
+    let money : Money g.row.N.Denot = record { units = c.in_ok-units.units; own = c.in_ok-own.own; loads = c.in_ok-loads.loads; rents = c.in_ok-rents.rents; surplus = c.in_ok-surplus.surplus; reserve = c.new.result } in
     λ best.
     rents_are_left m x (duals_at value c.args.duals.now) (total_at value c.args.prices.now) c.lines-lines.ensures.market (money_at value money) (returns-clause-money g c) best
     ∙ sum_by-map (rent_at value) (λ (r : Rent Fraction). r.rent) c.in_ok-rents.rents
@@ -120,6 +123,6 @@ returns-clause-not_negative g c =
     let m = c.args.market.now in
     let value = g.N.Exact.value in
     let x = dispatch_of value c.args.dispatch.now in
-    let money : Money g.row.N.Denot = record { units = c.in_ok-units.units; own = c.in_ok-own.own; loads = c.in_ok-loads.loads; rents = c.in_ok-rents.rents; surplus = c.in_ok-surplus.surplus } in
+    let money : Money g.row.N.Denot = record { units = c.in_ok-units.units; own = c.in_ok-own.own; loads = c.in_ok-loads.loads; rents = c.in_ok-rents.rents; surplus = c.in_ok-surplus.surplus; reserve = c.new.result } in
     λ best.
     left_not_negative m x (duals_at value c.args.duals.now) (total_at value c.args.prices.now) c.lines-lines.ensures.market (money_at value money) (returns-clause-money g c) best

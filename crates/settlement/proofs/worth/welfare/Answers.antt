@@ -10,7 +10,7 @@ use Rattle.settlement.proofs.WorthLemmas.{cost_refused, worth_less, worth_of_val
 use Rattle.settlement.proofs.worth.welfare.Goals as goal
 
 pub loop-row-init : goal.loop-row-init
-loop-row-init g c = c.in_ok-sum.ensures.values ∙ worth_of_values c.args.market.now (dispatch_of g.N.Exact.value c.args.dispatch.now)
+loop-row-init g c = c.in_ok-sum.ensures.values ∙ worth_of_values c.args.market.now c.buses-buses.ensures.energy_alone (dispatch_of g.N.Exact.value c.args.dispatch.now)
 
 pub is_soft-requires : goal.is_soft-requires
 is_soft-requires g c =
@@ -33,7 +33,7 @@ less_penalty-requires-clause-flows g c =
 
 pub loop-row-preserved : goal.loop-row-preserved
 loop-row-preserved g c =
-    worth_same c.args.market.now (dispatch_of g.N.Exact.value c.args.dispatch.now) c.loop-row.yielded c.in-Some.row (sym c.is_soft.ensures ∙ c.if-is_soft.false) (g.N.Exact.value c.loop-row.sum) c.loop-row.invariant
+    worth_same c.args.market.now c.buses-buses.ensures.energy_alone (dispatch_of g.N.Exact.value c.args.dispatch.now) c.loop-row.yielded c.in-Some.row (sym c.is_soft.ensures ∙ c.if-is_soft.false) (g.N.Exact.value c.loop-row.sum) c.loop-row.invariant
 
 pub loop-row-preserved-then-is_soft : goal.loop-row-preserved-then-is_soft
 loop-row-preserved-then-is_soft g c =
@@ -41,7 +41,7 @@ loop-row-preserved-then-is_soft g c =
     let value = g.N.Exact.value in
     let listed : Contains (rows m) c.in-Some.row =
     taken_listed m _ _ _ c.loop-row.yielded (c.into_iter-row-iterator.ensures.into_iter_gives ∙ c.rows-row-items.ensures.rows) c.loop-row.yielded_by c.next.result c.in-Some.row c.in-Some.is c.next.ensures.steps in
-    worth_less m (dispatch_of value c.args.dispatch.now) c.loop-row.yielded c.in-Some.row (sym c.is_soft.ensures ∙ c.if-is_soft.true) (map value c.args.flows.now) c.requires.flows c.buses-buses.ensures.market listed
+    worth_less m c.buses-buses.ensures.energy_alone (dispatch_of value c.args.dispatch.now) c.loop-row.yielded c.in-Some.row (sym c.is_soft.ensures ∙ c.if-is_soft.true) (map value c.args.flows.now) c.requires.flows c.buses-buses.ensures.market listed
     (value c.loop-row.sum) (value c.in_ok-sum-2.sum) c.loop-row.invariant c.in_ok-sum-2.ensures.less
 
 pub returns-in_err-sum-2-clause-cause : goal.returns-in_err-sum-2-clause-cause
@@ -52,6 +52,6 @@ returns-in_err-sum-2-clause-cause g c =
     let listed : Contains (rows m) c.in-Some.row = taken_listed m _ _ _ c.loop-row.yielded start c.loop-row.yielded_by c.next.result c.in-Some.row c.in-Some.is c.next.ensures.steps in
     let given : c.from_residual-in_err-sum-2.result ≡ Err c.in_err-sum-2.field-0.0 = search rules in
     rw given
-    (cost_refused m (dispatch_of value c.args.dispatch.now) c.loop-row.yielded c.in-Some.row (sym c.is_soft.ensures ∙ c.if-is_soft.true) (map value c.args.flows.now) c.requires.flows c.buses-buses.ensures.market listed
+    (cost_refused m c.buses-buses.ensures.energy_alone (dispatch_of value c.args.dispatch.now) c.loop-row.yielded c.in-Some.row (sym c.is_soft.ensures ∙ c.if-is_soft.true) (map value c.args.flows.now) c.requires.flows c.buses-buses.ensures.market listed
     _ (value c.loop-row.sum) g.N.Exact.bound (passed_at value c.in_err-sum-2.field-0.0)
     (taken_next m _ _ _ c.loop-row.yielded start c.loop-row.yielded_by c.next.result c.in-Some.row c.in-Some.is c.next.ensures.steps) c.loop-row.invariant c.in_err-sum-2.ensures.cause)

@@ -1,4 +1,4 @@
-use Rattle.std.proofs.Common.{◌≡◌, ◌<◌, pos, [], ◌∷◌, Some, None, ℕ, get_or, zero, suc, arith}
+use Rattle.std.proofs.Common.{◌≡◌, ◌<◌, pos, [], ◌∷◌, Some, None, ℕ, get_or, zero, suc, arith, refl}
 use Rattle.std.proofs.lemmas.Int.{ints}
 use Rattle.std.proofs.lemmas.List.Elements.{All-cons, All-nil}
 use Rattle.market_data.specs.Participants.{IsBus, IsUnit}
@@ -12,7 +12,7 @@ use Rattle.market_model.specs.Lines.{hard_line}
 use Rattle.market_model.specs.Market.{bare_parts, IsMarket, IsBlock, IsLine, HasRoom}
 use Rattle.market_model.specs.Stairs.{stair_in}
 use Rattle.market_model.proofs.LinePenalties.{hard_is_line}
-use Rattle.market_model.proofs.PlainMarkets.{no_unit_outages}
+use Rattle.market_model.proofs.PlainMarkets.{is_no_reserve, no_unit_outages}
 use Rattle.offer_book.proofs.tests.edits.market.Goals as goal
 
 abbrev the_bus : Bus
@@ -58,6 +58,7 @@ is_market = record {
   shift = record { each = λ i d lt. absurd (Prim.omega (arith, lt)); distinct = λ i j d p q. absurd (Prim.omega (arith, q)) };
   loss = record { each = λ i d lt. absurd (Prim.omega (arith, lt)); distinct = λ i j d p q. absurd (Prim.omega (arith, q)) };
   unit_outages = no_unit_outages 1;
+  reserve = is_no_reserve 1;
 }
   where
     rooms : (place : ℕ) (d : unit.Unit) → place < 1 → HasRoom (cheap ∷ dear ∷ []) place (get_or (the_unit ∷ []) place d)
@@ -70,4 +71,4 @@ assemble-requires c =
     let units : c.push-2.new.self ≡ the_unit ∷ [] = rw c.new-units.ensures at c.in_ok-push-2.ensures in
     let blocks : c.push-4.new.self ≡ cheap ∷ dear ∷ [] = rw (c.in_ok-push-3.ensures, c.new-blocks.ensures) at c.in_ok-push-4.ensures in
     let lines : c.push-5.new.self ≡ the_line ∷ [] = rw (c.new-lines.ensures, c.hard.ensures) at c.in_ok-push-5.ensures in
-    rw (c.bare.ensures, buses, units, blocks, lines) is_market
+    rw (c.bare.ensures, buses, units, blocks, lines) (is_market, refl)
