@@ -4,31 +4,21 @@ use Rattle.std.proofs.Common.{zero, suc, arith, inl, inr, subst}
 use Rattle.std.proofs.lemmas.Int.{ints}
 use Rattle.std.proofs.lemmas.List.Elements.{All-cons, All-nil, Contains-push_cases}
 use Rattle.market_data.specs.Participants.{IsBus, IsUnit}
-use Rattle.market_data.specs.declared.participants.Bus.{Bus}
 use Rattle.market_data.specs.declared.participants.Unit as unit
 use Rattle.market_model.proofs.PlainMarkets.{is_no_reserve, no_unit_outages}
 use Rattle.market_model.specs.declared.limits.Cause.TheVariants.{Base}
 use Rattle.market_model.specs.declared.limits.Row.{Row}
-use Rattle.market_model.specs.declared.participants.Block.{Block}
 use Rattle.market_model.specs.declared.participants.Line.{Line}
 use Rattle.market_model.specs.declared.participants.Parts.{Parts}
 use Rattle.market_model.specs.declared.participants.Side.TheVariants.{Sell, Buy}
 use Rattle.market_model.specs.LimitRows.{rows}
 use Rattle.market_model.specs.Lines.{hard_line, IsPenalty}
-use Rattle.market_model.specs.Market.{bare_parts, IsMarket, IsBlock, IsLine, HasRoom}
+use Rattle.market_model.specs.Market.{IsMarket, IsBlock, IsLine, HasRoom}
 use Rattle.market_model.specs.Stairs.{stair_in}
 use Rattle.market_model.proofs.LinePenalties.{hard_is_line, no_cost}
 use Rattle.limit_rows.proofs.TestMarkets.{losses, one_is_market, shifts}
 use Rattle.limit_screen.specs.Screening.{AreNamesOf}
-
-abbrev bus_of : ℕ → ℕ → ℕ → Bus
-bus_of number pd gs = record { number = number; pd = pos pd; gs = pos gs }
-
-abbrev unit_of : ℕ → ℕ → unit.Unit
-unit_of row bus = record { row = row; bus = bus; fixed = pos 0; up = pos 100000000000; down = pos 0 }
-
-abbrev block_of : ℕ → ℕ → Block
-block_of u price = record { unit = u; side = Sell; quantity = pos 100000000000; price = pos price }
+use Rattle.clear_tests.specs.Worked.{block_of, blocks, bus_of, participants, unit_of}
 
 abbrev line_free : ℕ → Line
 line_free row = hard_line row None None (pos 0)
@@ -36,11 +26,8 @@ line_free row = hard_line row None None (pos 0)
 abbrev line_limited : ℤ → ℤ → Line
 line_limited price excess = record (hard_line 2 (Some (pos 40000000000)) (Some (pos 1000000000000)) (pos 0)) { base_price = price; base_excess = excess }
 
-abbrev blocks : List Block
-blocks = block_of 0 10000000 ∷ block_of 1 30000000 ∷ []
-
 abbrev pub worked : ℤ → ℤ → Parts
-worked price excess = record (bare_parts (bus_of 1 0 0 ∷ bus_of 2 0 0 ∷ bus_of 3 50000000000 10000000000 ∷ []) (unit_of 1 0 ∷ unit_of 2 1 ∷ []) blocks) {
+worked price excess = record participants {
   lines = line_free 1 ∷ line_limited price excess ∷ line_free 3 ∷ [];
   outages = 1 ∷ [];
   shift = shifts;

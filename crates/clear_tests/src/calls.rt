@@ -1,7 +1,7 @@
 //! Calls that a clear does not make in this form: the prices of duals, the worst limit by its name, and a settlement that makes its
 //! flows. In the market bus prices are 10, 30 and 40, and the rent is all of the surplus.
 
-ghost use Rattle.std.specs.Prelude.{◌≤ℤ◌, pos, List, IfOk};
+ghost use Rattle.std.specs.Prelude.{◌≤ℤ◌, pos, List, [], ◌∷◌, IfOk};
 ghost use Rattle.limit_screen.specs.Screening.{AreNamesOf};
 ghost use Rattle.market_model.specs.Fitting.{FitsMarket};
 ghost use Rattle.market_model.specs.RightAnswers.{IsRight};
@@ -60,9 +60,14 @@ fn answer_of<N: Exact>(alloc: Global, market: &Market) -> Result<Answer<N>, Clea
 }
 
 /// The prices of the duals of the market's answer, and its settlement.
-fn prices_and_money<N: Exact + Debug>(alloc: Global) -> Result<bool, Fail> {
-    let market = limited(alloc)?;
-    let answer: Answer<N> = answer_of(alloc, &market)?;
+fn is_priced_and_settled<N: Exact + Debug>(
+    alloc: Global,
+    market: &Market,
+    answer: &Answer<N>,
+) -> Result<bool, Fail>
+    requires fits { FitsMarket market.now answer.now }
+    requires right { IsRight market.now (answer_at N.value answer.now) }
+{
     let none = N::of_parts(0, 1);
     let unpriced = Price {
         energy: none,
@@ -70,16 +75,22 @@ fn prices_and_money<N: Exact + Debug>(alloc: Global) -> Result<bool, Fail> {
         total: none,
     };
     let mut out = vec![in alloc; unpriced; market.buses().len()]?;
-    prices(&market, &answer.duals, &mut out)?;
+    prices(market, &answer.duals, &mut out)?;
     let dispatch = answer.dispatch.slice();
     let money = settle(
         alloc,
-        &market,
+        market,
         dispatch,
         answer.prices.slice(),
         &answer.duals,
     )?;
     Ok(are_prices(&out, &[0, 20, 30], &[10, 30, 40]) && is_settled(&money))
+}
+
+fn prices_and_money<N: Exact + Debug>(alloc: Global) -> Result<bool, Fail> {
+    let market = limited(alloc)?;
+    let answer: Answer<N> = answer_of(alloc, &market)?;
+    is_priced_and_settled(alloc, &market, &answer)
 }
 
 /// The worst limit by its name, where some are taken and the two blocks have these MW accepted.
@@ -105,17 +116,35 @@ fn worst_at<N: Exact + Debug>(
 }
 
 /// With 60 MW of the first unit branch 2 carries 45, and with 50 it carries 40.
-fn worst_limits<N: Exact + Debug>(alloc: Global) -> Result<bool, Fail> {
-    let market = limited(alloc)?;
+fn are_worst<N: Exact + Debug>(alloc: Global, market: &Market) -> Result<bool, Fail> {
     let none = N::of_parts(0, 1);
-    let broken = worst_at(alloc, &market, &[], N::of_parts(60 * MW_ONE, 1), none)?;
     let ten = N::of_parts(10 * MW_ONE, 1);
-    let held = worst_at(alloc, &market, &[], N::of_parts(50 * MW_ONE, 1), ten)?;
+    let broken = worst_at(alloc, market, &[], N::of_parts(60 * MW_ONE, 1), none)?;
+    let held = worst_at(alloc, market, &[], N::of_parts(50 * MW_ONE, 1), ten)?;
     Ok(broken == Some(IN_THE_BASE) && held == None)
 }
 
-/// The worst limit at 60 MW of the first unit, where branch 2 carries 45 and its limit of 40 in the base may be exceeded by so much: where
-/// that limit is taken, and where it is not.
+fn worst_limits<N: Exact + Debug>(alloc: Global) -> Result<bool, Fail> {
+    let market = limited(alloc)?;
+    are_worst::<N>(alloc, &market)
+}
+
+/// The worst limit at 60 MW of the first unit, where branch 2 carries 45 and its limit of 40 in the base gives way: where that limit is
+/// taken, and where it is not.
+fn worst_where_soft<N: Exact + Debug>(
+    alloc: Global,
+    market: &Market,
+) -> Result<(Option<RowId>, Option<RowId>), Fail>
+    requires { (g : List Row) × AreNamesOf market.now g (record { branch = 2; outage = 0; unit = 0 } ∷ []) }
+{
+    let all = N::of_parts(60 * MW_ONE, 1);
+    let none = N::of_parts(0, 1);
+    let taken = worst_at(alloc, market, &[IN_THE_BASE], all, none)?;
+    let untaken = worst_at(alloc, market, &[], all, none)?;
+    Ok((taken, untaken))
+}
+
+/// The same where the limit may be exceeded by so much.
 fn worst_soft<N: Exact + Debug>(
     alloc: Global,
     excess: i64,
@@ -123,11 +152,7 @@ fn worst_soft<N: Exact + Debug>(
     requires { pos 0 ≤ℤ excess }
 {
     let market = soft(alloc, PRICE_ONE, excess)?;
-    let all = N::of_parts(60 * MW_ONE, 1);
-    let none = N::of_parts(0, 1);
-    let taken = worst_at(alloc, &market, &[IN_THE_BASE], all, none)?;
-    let untaken = worst_at(alloc, &market, &[], all, none)?;
-    Ok((taken, untaken))
+    worst_where_soft::<N>(alloc, &market)
 }
 
 /// An excess of 5 is enough where the limit is taken, and one of 4 is not; where it is not taken neither counts.
@@ -137,13 +162,18 @@ fn worst_by_excess<N: Exact + Debug>(alloc: Global) -> Result<bool, Fail> {
     Ok(enough == (None, Some(IN_THE_BASE)) && less == (Some(IN_THE_BASE), Some(IN_THE_BASE)))
 }
 
-/// Both limits are passed, and that of 45 after the outage is taken alone.
+/// Whether the limit of 45 after the outage is taken alone.
+fn takes_alone<N: Exact + Debug>(alloc: Global, market: &Market) -> Result<bool, Fail> {
+    let mut clearer: Clearer<N> = Clearer::new(market);
+    let answer = clearer.clear(alloc, market)?;
+    Ok(has_taken(&clearer, 1) && is_answer(&answer, &[45, 15], &[0, 20, 20], &[10, 30, 30]))
+}
+
+/// Both limits are passed, and that after the outage by more.
 fn takes_the_worst<N: Exact + Debug>(alloc: Global) -> Result<bool, Fail> {
     let mut market = limited(alloc)?;
     edit(&mut market, &limit(true, 45 * MW_ONE))?;
-    let mut clearer: Clearer<N> = Clearer::new(&market);
-    let answer = clearer.clear(alloc, &market)?;
-    Ok(has_taken(&clearer, 1) && is_answer(&answer, &[45, 15], &[0, 20, 20], &[10, 30, 30]))
+    takes_alone::<N>(alloc, &market)
 }
 
 #[test]

@@ -52,14 +52,18 @@ fn clears_to<N: Exact>(
 }
 
 /// A clear, one after another price, and one after a limit that nothing reaches. Each starts from the limit that the first one took.
+fn is_warm<N: Exact>(session: &mut Session<N>, alloc: Global) -> Result<bool, Memory> {
+    let first = clears_to(session, alloc, &[50, 10], &[0, 20, 30], &[10, 30, 40])?;
+    let cheaper = session.edit(&price(20 * PRICE_ONE)).is_ok();
+    let second = clears_to(session, alloc, &[50, 10], &[0, 10, 15], &[10, 20, 25])?;
+    let wider = session.edit(&limit(false, 50 * MW_ONE)).is_ok();
+    let third = clears_to(session, alloc, &[60, 0], &[0, 0, 0], &[10, 10, 10])?;
+    Ok(first && cheaper && second && wider && third && session.market().blocks().len() == 2)
+}
+
 fn starts_warm<N: Exact>(alloc: Global) -> Result<bool, Memory> {
     let mut session: Session<N> = Session::new(limited(alloc)?);
-    let first = clears_to(&mut session, alloc, &[50, 10], &[0, 20, 30], &[10, 30, 40])?;
-    let cheaper = session.edit(&price(20 * PRICE_ONE)).is_ok();
-    let second = clears_to(&mut session, alloc, &[50, 10], &[0, 10, 15], &[10, 20, 25])?;
-    let wider = session.edit(&limit(false, 50 * MW_ONE)).is_ok();
-    let third = clears_to(&mut session, alloc, &[60, 0], &[0, 0, 0], &[10, 10, 10])?;
-    Ok(first && cheaper && second && wider && third && session.market().blocks().len() == 2)
+    is_warm(&mut session, alloc)
 }
 
 /// A first clear where the limit is 50: unit 1 makes all, with a flow of 45, and no limit is taken.
@@ -84,17 +88,22 @@ fn is_used_up<N: Exact>(session: &mut Session<N>, alloc: Global) -> Result<bool,
     Ok(edited && cleared)
 }
 
-/// A limit that gives way by 3 MW at 24 is tightened from one that nothing reaches until its excess is used up, and widened again. From
-/// the second clear on it is in hand, and at last too, where the first clear took nothing.
+/// The limit is tightened from one that nothing reaches until its excess is used up, and widened again. From the second clear on it is in
+/// hand, and at last too, where the first clear took nothing.
+fn gives_way<N: Exact>(session: &mut Session<N>, alloc: Global) -> Result<bool, Memory> {
+    let slack = is_slack(session, alloc)?;
+    let exceeded = is_exceeded(session, alloc)?;
+    let used_up = is_used_up(session, alloc)?;
+    let again = is_exceeded(session, alloc)?;
+    let wide = session.edit(&limit(false, 50 * MW_ONE)).is_ok();
+    let back = clears_to(session, alloc, &[60, 0], &[0, 0, 0], &[10, 10, 10])?;
+    Ok(slack && exceeded && used_up && again && wide && back)
+}
+
+/// A limit that gives way by 3 MW at 24.
 fn tightens<N: Exact>(alloc: Global) -> Result<bool, Memory> {
     let mut session: Session<N> = Session::new(soft(alloc, 24 * PRICE_ONE, 3 * MW_ONE)?);
-    let slack = is_slack(&mut session, alloc)?;
-    let exceeded = is_exceeded(&mut session, alloc)?;
-    let used_up = is_used_up(&mut session, alloc)?;
-    let again = is_exceeded(&mut session, alloc)?;
-    let wide = session.edit(&limit(false, 50 * MW_ONE)).is_ok();
-    let back = clears_to(&mut session, alloc, &[60, 0], &[0, 0, 0], &[10, 10, 10])?;
-    Ok(slack && exceeded && used_up && again && wide && back)
+    gives_way(&mut session, alloc)
 }
 
 /// An edit of a block that is not there and a clear, and then a limit that no dispatch keeps and one of 40, each with a clear.
@@ -108,10 +117,14 @@ fn few_steps(alloc: Global) -> Result<Steps, StepFault>
 }
 
 /// What the steps come to, in a session that has cleared nothing.
-fn replays<N: Exact>(alloc: Global) -> Result<bool, Fail> {
-    let mut session: Session<N> = Session::new(limited(alloc)?);
-    let steps = few_steps(alloc)?;
-    let outcomes = session.replay(alloc, &steps)?;
+fn replays_few<N: Exact>(
+    session: &mut Session<N>,
+    alloc: Global,
+    steps: &Steps,
+) -> Result<bool, Memory>
+    requires { All IsStep steps.now }
+{
+    let outcomes = session.replay(alloc, steps)?;
     match outcomes.slice() {
         [
             StepOutcome::Refused(EditFault::NoBlock),
@@ -127,6 +140,12 @@ fn replays<N: Exact>(alloc: Global) -> Result<bool, Fail> {
         ),
         _ => Ok(false),
     }
+}
+
+fn replays<N: Exact>(alloc: Global) -> Result<bool, Fail> {
+    let steps = few_steps(alloc)?;
+    let mut session: Session<N> = Session::new(limited(alloc)?);
+    Ok(replays_few(&mut session, alloc, &steps)?)
 }
 
 /// A price of all that 63 bits hold, which nothing is paid by; then prices at which what the first unit is paid is more than they hold; the
@@ -158,12 +177,11 @@ fn is_range(outcome: &StepOutcome<Frac63>, left: Frac63, right: Frac63, op: Op) 
     }
 }
 
-fn passes_63_bits(alloc: Global) -> Result<bool, Memory> {
-    let Ok(steps) = dear_steps(alloc) else {
-        return Ok(false);
-    };
-    let mut session: Session<Frac63> = Session::new(limited(alloc)?);
-    let outcomes = session.replay(alloc, &steps)?;
+/// What these steps come to.
+fn replays_dear(session: &mut Session<Frac63>, alloc: Global, steps: &Steps) -> Result<bool, Memory>
+    requires { All IsStep steps.now }
+{
+    let outcomes = session.replay(alloc, steps)?;
     let told = outcomes.slice();
     let paid = Frac63::of_parts(-200_000_000, 1);
     let made = Frac63::of_parts(60_000_000_000, 1);
@@ -179,15 +197,25 @@ fn passes_63_bits(alloc: Global) -> Result<bool, Memory> {
     )
 }
 
+fn passes_63_bits(alloc: Global) -> Result<bool, Fail> {
+    let steps = dear_steps(alloc)?;
+    let mut session: Session<Frac63> = Session::new(limited(alloc)?);
+    Ok(replays_dear(&mut session, alloc, &steps)?)
+}
+
 /// With unit 2 at 2000 a MW of flow is worth 3980, so 5 MW beyond the limit at 3000 are cheaper: 15,000, where 63 bits hold 9,223.
-fn a_penalty_passes_63_bits(alloc: Global) -> Result<bool, Memory> {
-    let market = soft(alloc, 3000 * PRICE_ONE, 10 * MW_ONE)?;
-    let mut session: Session<Frac63> = Session::new(market);
+fn is_penalty_too_large(session: &mut Session<Frac63>, alloc: Global) -> Result<bool, Memory> {
     let dear = session.edit(&price(2000 * PRICE_ONE)).is_ok();
     let outcome = StepOutcome::Clear(session.clear(alloc)?);
     let penalty = Frac63::of_parts(-3_000_000_000, 1);
     let excess = Frac63::of_parts(5_000_000_000, 1);
     Ok(dear && is_range(&outcome, penalty, excess, Op::Times) && session.clearer().taken() == 0)
+}
+
+fn a_penalty_passes_63_bits(alloc: Global) -> Result<bool, Memory> {
+    let market = soft(alloc, 3000 * PRICE_ONE, 10 * MW_ONE)?;
+    let mut session: Session<Frac63> = Session::new(market);
+    is_penalty_too_large(&mut session, alloc)
 }
 
 #[test]

@@ -7,13 +7,14 @@ ghost use Rattle.limit_screen.specs.Screening.{AreNamesOf};
 ghost use Rattle.market_model.specs.Lines.{hard_line, IsPenalty};
 ghost use Rattle.market_model.specs.declared.limits.Row.{Row};
 ghost use Rattle.offer_book.specs.Edits.{number_of};
+ghost use Rattle.clear_tests.specs.Worked.{participants};
 
 use clear_loop::Clearer;
 use exact_fraction::Exact;
-use market_data::{FactorPlaces, MW_ONE, PRICE_ONE};
+use market_data::{MW_ONE, PRICE_ONE};
 use market_model::{
-    Answer, Block, Bus, Factor, Line, List, Market, Memory, Parts, Price, Reserve, RowId, Side,
-    Unit, assemble,
+    Answer, Block, Bus, Factor, Line, List, Market, Memory, Parts, Price, RowId, Side, Unit,
+    assemble,
 };
 use offer_book::Edit;
 use std::alloc::Global;
@@ -153,24 +154,26 @@ fn lines(alloc: Global, price: i64, excess: i64) -> Result<List<Line>, Memory>
     Ok(lines)
 }
 
+/// The buses, units and blocks of the market, which has nothing else yet.
+fn participants(alloc: Global) -> Result<Parts, Memory>
+    ensures { IfOk result (λ parts. parts ≡ participants) }
+{
+    let buses = listed(alloc, &BUSES)?;
+    let units = listed(alloc, &UNITS)?;
+    let blocks = listed(alloc, &BLOCKS)?;
+    Ok(Parts::bare(alloc, buses, units, blocks))
+}
+
 /// The market with these branches.
 pub(crate) fn soft(alloc: Global, price: i64, excess: i64) -> Result<Market, Memory>
     requires { IsPenalty price excess }
     ensures { IfOk result (λ market. (g : List Row) × AreNamesOf market g (record { branch = 2; outage = 0; unit = 0 } ∷ [])) }
 {
-    let parts = Parts {
-        buses: listed(alloc, &BUSES)?,
-        units: listed(alloc, &UNITS)?,
-        blocks: listed(alloc, &BLOCKS)?,
-        lines: lines(alloc, price, excess)?,
-        outages: listed(alloc, &[1])?,
-        shift: listed(alloc, &SHIFT)?,
-        loss: listed(alloc, &LOSS)?,
-        unit_outages: List::new(alloc),
-        pickups: List::new(alloc),
-        places: FactorPlaces::Six,
-        reserve: Reserve::none(alloc),
-    };
+    let mut parts = participants(alloc)?;
+    parts.lines = lines(alloc, price, excess)?;
+    parts.outages = listed(alloc, &[1])?;
+    parts.shift = listed(alloc, &SHIFT)?;
+    parts.loss = listed(alloc, &LOSS)?;
     assemble(alloc, parts)
 }
 

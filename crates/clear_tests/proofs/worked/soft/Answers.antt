@@ -9,16 +9,11 @@ use Rattle.clear_tests.proofs.worked.soft.Goals as goal
 pub assemble-requires : goal.assemble-requires
 assemble-requires c =
     rw (
-      c.in_ok-listed.ensures,
-      c.in_ok-listed-2.ensures,
-      c.in_ok-listed-3.ensures,
-      c.in_ok-lines.ensures,
-      c.in_ok-listed-4.ensures,
-      c.in_ok-listed-5.ensures,
-      c.in_ok-listed-6.ensures,
-      c.new.ensures,
-      c.new-2.ensures,
-      c.none.ensures,
+      c.in_ok-parts.ensures,
+      c.in_ok-parts-2.ensures,
+      c.in_ok-parts-3.ensures,
+      c.in_ok-parts-4.ensures,
+      c.in_ok-parts-5.ensures,
       to_z-of_z w64 c.args.price c.ranges.price,
       to_z-of_z w64 c.args.excess c.ranges.excess,
     )
@@ -30,16 +25,11 @@ returns c =
     let excess = c.args.excess in
     let named = base_is_named price excess in
     let same = rw (
-      c.in_ok-listed.ensures,
-      c.in_ok-listed-2.ensures,
-      c.in_ok-listed-3.ensures,
-      c.in_ok-lines.ensures,
-      c.in_ok-listed-4.ensures,
-      c.in_ok-listed-5.ensures,
-      c.in_ok-listed-6.ensures,
-      c.new.ensures,
-      c.new-2.ensures,
-      c.none.ensures,
+      c.in_ok-parts.ensures,
+      c.in_ok-parts-2.ensures,
+      c.in_ok-parts-3.ensures,
+      c.in_ok-parts-4.ensures,
+      c.in_ok-parts-5.ensures,
       to_z-of_z w64 price c.ranges.price,
       to_z-of_z w64 excess c.ranges.excess,
     ) at c.assemble.ensures in

@@ -1,17 +1,17 @@
 use Rattle.std.proofs.Common.{arith, ap, length}
-use Rattle.clear_tests.proofs.calls.prices_and_money.Goals as goal
+use Rattle.clear_tests.proofs.calls.is_priced_and_settled.Goals as goal
 
 pub prices-requires-clause-duals : goal.prices-requires-clause-duals
-prices-requires-clause-duals g c = c.in_ok-answer.ensures.right.proper
+prices-requires-clause-duals g c = c.requires.right.proper
 
 pub prices-requires-clause-out : goal.prices-requires-clause-out
 prices-requires-clause-out g c = omega (arith, c.deref_mut.ensures.len, c.in_ok-out.ensures.len, c.len.ensures, ap length c.buses.ensures.list)
 
 pub settle-requires-clause-dispatch : goal.settle-requires-clause-dispatch
-settle-requires-clause-dispatch g c = omega (arith, ap length c.slice-dispatch.ensures, c.in_ok-answer.ensures.fits.dispatch)
+settle-requires-clause-dispatch g c = omega (arith, ap length c.slice-dispatch.ensures, c.requires.fits.dispatch)
 
 pub settle-requires-clause-prices : goal.settle-requires-clause-prices
-settle-requires-clause-prices g c = omega (arith, ap length c.slice.ensures, c.in_ok-answer.ensures.fits.prices)
+settle-requires-clause-prices g c = omega (arith, ap length c.slice.ensures, c.requires.fits.prices)
 
 pub settle-requires-clause-duals : goal.settle-requires-clause-duals
-settle-requires-clause-duals g c = c.in_ok-answer.ensures.right.proper
+settle-requires-clause-duals g c = c.requires.right.proper
