@@ -1,7 +1,8 @@
 -- Chains of neighbours turned round and put together: a network that is connected to one bus is connected to each.
-use Rattle.std.specs.Prelude.{ℕ, ◌<◌, List, [], ◌∷◌, ◌++◌, refl}
-use Rattle.std.proofs.Common.{sym, subst, inl, inr}
-use Rattle.network_theory.specs.Networks.{Network, AreNeighbours, Lead, AreJoined, IsConnected}
+use Rattle.std.specs.Prelude.{◌≡◌, ℕ, ◌<◌, List, [], ◌∷◌, ◌++◌, refl}
+use Rattle.std.specs.List.{Contains}
+use Rattle.std.proofs.Common.{ap, sym, ◌∙◌, subst, inl, inr}
+use Rattle.network_theory.specs.Networks.{Branch, Network, AreNeighbours, Lead, AreJoined, IsConnected}
 
 module _ (n : Network) where
   neighbours_sym : (i j : ℕ) → AreNeighbours n i j → AreNeighbours n j i
@@ -26,3 +27,14 @@ module _ (n : Network) where
   -- two that are joined to a third
   pub joined_by : (i r j : ℕ) → AreJoined n i r → AreJoined n j r → AreJoined n i j
   joined_by i r j h g = joined_trans i r j h (turned_lead g.chain j r g.lead)
+
+  -- what is the same at both ends of each branch is the same at both ends of each chain
+  module _ {T : Type 0} (value : ℕ → T) (same : (b : Branch) → Contains n.branches b → value b.from ≡ value b.to) where
+    same_beside : (i j : ℕ) → AreNeighbours n i j → value i ≡ value j
+    same_beside i j near =
+        let ends_same = same near.branch near.there in
+        elim near.ends [ inl e ↦ ap value (sym e.0) ∙ ends_same ∙ ap value e.1 | inr e ↦ ap value (sym e.1) ∙ sym ends_same ∙ ap value e.0 ]
+
+    pub same_along : (chain : List ℕ) (i j : ℕ) → Lead n chain i j → value i ≡ value j
+    same_along [] i j e = ap value e
+    same_along (k ∷ ks) i j lead = same_beside i k lead.0 ∙ same_along ks k j lead.1

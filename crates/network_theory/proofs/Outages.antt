@@ -14,9 +14,9 @@ use Rattle.fraction_theory.proofs.SignLaws.{abs_above}
 use Rattle.fraction_theory.proofs.SumLaws.{sum_by-same, sum_by-nil, sum_by-plus, sum_by-times}
 use Rattle.fraction_theory.proofs.ListSums.{kept, sum_by-members, Contains-head, Contains-cons, Contains-cases}
 use Rattle.network_theory.specs.Laws.{LawOfTheOutage, LawOfTheDetour, LawOfTheOutageFactors}
-use Rattle.network_theory.specs.Networks.{Branch, Network, places, IsNetwork, flow, injection, AreNeighbours, Lead, AreJoined, IsTransfer, StandsAt, without, moved}
+use Rattle.network_theory.specs.Networks.{Branch, Network, places, IsNetwork, flow, injection, AreJoined, IsTransfer, StandsAt, without, moved}
 use Rattle.network_theory.proofs.ByParts.{taken, injection_taken, by_parts}
-use Rattle.network_theory.proofs.Chains.{joined_by}
+use Rattle.network_theory.proofs.Chains.{joined_by, same_along}
 use Rattle.network_theory.proofs.Factors.{law_of_the_factors}
 use Rattle.network_theory.proofs.FlowSigns.{carried_down, carried_back}
 use Rattle.network_theory.proofs.Places.{below_places}
@@ -59,7 +59,7 @@ pub flow_moved : (angle : ℕ → Fraction) (times : Fraction) (transfer : ℕ �
 flow_moved angle times transfer b = by_ring ring_ℚ (b.susceptance ∷ angle b.from ∷ angle b.to ∷ times ∷ transfer b.from ∷ transfer b.to ∷ [])
     (at 0 ⊗ ((at 1 ⊕ (at 3 ⊗ at 4)) ⊕ pneg (at 2 ⊕ (at 3 ⊗ at 5)))) ((at 0 ⊗ (at 1 ⊕ pneg (at 2))) ⊕ (at 3 ⊗ (at 0 ⊗ (at 4 ⊕ pneg (at 5))))) refl
 
-injection_moved : (n : Network) (angle : ℕ → Fraction) (times : Fraction) (transfer : ℕ → Fraction) (i : ℕ)
+pub injection_moved : (n : Network) (angle : ℕ → Fraction) (times : Fraction) (transfer : ℕ → Fraction) (i : ℕ)
     → injection n (moved angle times transfer) i ≡ injection n angle i +ℚ times *ℚ injection n transfer i
 injection_moved n angle times transfer i =
     injection_taken n (moved angle times transfer) i
@@ -74,7 +74,7 @@ injection_moved n angle times transfer i =
         ∙ by_ring ring_ℚ (ends i b ∷ flow angle b ∷ times ∷ flow transfer b ∷ []) (at 0 ⊗ (at 1 ⊕ (at 2 ⊗ at 3))) ((at 0 ⊗ at 1) ⊕ (at 2 ⊗ (at 0 ⊗ at 3))) refl
         ∙ ap₂ (λ s t. s +ℚ times *ℚ t) (sym (taken_ends angle i b)) (sym (taken_ends transfer i b))
 
-one_above : whole (pos 0) <ℚ whole (pos 1)
+pub one_above : whole (pos 0) <ℚ whole (pos 1)
 unfolding whole
 one_above = record { cross = Prim.omega arith }
 
@@ -113,7 +113,7 @@ module _ (n : Network) (place : ℕ) (lost : Branch) (stands : StandsAt n place 
   }
 
   -- the lost branch takes nothing any more
-  injection_without : (angle : ℕ → Fraction) (i : ℕ) → injection n angle i ≡ ends i lost *ℚ flow angle lost +ℚ injection (without n place) angle i
+  pub injection_without : (angle : ℕ → Fraction) (i : ℕ) → injection n angle i ≡ ends i lost *ℚ flow angle lost +ℚ injection (without n place) angle i
   injection_without angle i =
       injection_taken n angle i
       ∙ sum_by-remove (taken angle i) n.branches place lost stands.within
@@ -139,52 +139,45 @@ module _ (n : Network) (place : ℕ) (lost : Branch) (stands : StandsAt n place 
 pub law_of_the_outage : LawOfTheOutage
 law_of_the_outage n place lost angle transfer times stands t is = (moved_without n place lost stands transfer t angle times is, flow_moved angle times transfer)
 
--- Without injections the angles along each branch are equal, as the sum of the flows times the differences of angles is 0.
-module _ (n : Network) (angle : ℕ → Fraction) (is : IsNetwork n) (rest : (i : ℕ) → i < n.buses → injection n angle i ≡ whole (pos 0)) where
-  abbrev loss : Branch → Fraction
-  loss b = (angle b.from -ℚ angle b.to) *ℚ flow angle b
+-- a flow times the difference of angles along it
+abbrev pub loss : (ℕ → Fraction) → Branch → Fraction
+loss angle b = (angle b.from -ℚ angle b.to) *ℚ flow angle b
 
-  losses_above : (b : Branch) → Contains n.branches b → whole (pos 0) ≤ℚ loss b
+module _ (n : Network) (angle : ℕ → Fraction) (is : IsNetwork n) where
+  pub losses_above : (b : Branch) → Contains n.branches b → whole (pos 0) ≤ℚ loss angle b
   losses_above b c =
       let s = b.susceptance in
       let x = angle b.from in
       let y = angle b.to in
       let above = (is.branches b c).susceptance in
       elim (≤ℚ_total y x) [
-        | inl h ↦ NonNeg_to (loss b) (NonNeg-times (x -ℚ y) (flow angle b) (le_to y x h) (NonNeg_from (flow angle b) (carried_down s x y above h)))
+        | inl h ↦ NonNeg_to (loss angle b) (NonNeg-times (x -ℚ y) (flow angle b) (le_to y x h) (NonNeg_from (flow angle b) (carried_down s x y above h)))
         | inr h ↦ by_rest (x ∷ y ∷ flow angle b ∷ []) pnil ((at 0 ⊕ pneg (at 1)) ⊗ at 2) ((at 1 ⊕ pneg (at 0)) ⊗ (pnil ⊕ pneg (at 2)))
             (NonNeg-times (y -ℚ x) (whole (pos 0) -ℚ flow angle b) (le_to x y h) (le_to (flow angle b) (whole (pos 0)) (carried_back s x y above h))) refl
       ]
 
-  no_losses : sum_by loss n.branches ≡ whole (pos 0)
-  no_losses =
-      sym (by_parts n is angle angle)
-      ∙ sum_by-members (λ i. angle i *ℚ injection n angle i) (λ _. whole (pos 0)) (places n) (λ i c. ap (λ t. angle i *ℚ t) (rest i (below_places n i c)) ∙ times_nil ring_ℚ (angle i))
-      ∙ sum_by-nil (places n)
+  -- without injections the angles along each branch are equal, as the losses sum to 0
+  module _ (rest : (i : ℕ) → i < n.buses → injection n angle i ≡ whole (pos 0)) where
+    no_losses : sum_by (loss angle) n.branches ≡ whole (pos 0)
+    no_losses =
+        sym (by_parts n is angle angle)
+        ∙ sum_by-members (λ i. angle i *ℚ injection n angle i) (λ _. whole (pos 0)) (places n) (λ i c. ap (λ t. angle i *ℚ t) (rest i (below_places n i c)) ∙ times_nil ring_ℚ (angle i))
+        ∙ sum_by-nil (places n)
 
-  level : (b : Branch) → Contains n.branches b → angle b.from ≡ angle b.to
-  level b c =
-      let s = b.susceptance in
-      let x = angle b.from in
-      let y = angle b.to in
-      let nothing : loss b ≡ whole (pos 0) = ≤ℚ_antisym (loss b) (whole (pos 0)) (subst (λ t. loss b ≤ℚ t) no_losses (term_within loss n.branches losses_above b c)) (losses_above b c) in
-      let same : x -ℚ y ≡ whole (pos 0) → x ≡ y = λ e. by_ring1 ring_ℚ (x ∷ y ∷ []) (at 0) (at 1) pone (at 0 ⊕ pneg (at 1)) pnil e refl in
-      elim (*ℚ-nil (x -ℚ y) (flow angle b) nothing) [
-        | inl e ↦ same e
-        | inr f ↦ elim (*ℚ-nil s (x -ℚ y) f) [
-          | inl e ↦ absurd (<ℚ_irrefl (whole (pos 0)) (subst (λ t. whole (pos 0) <ℚ t) e (is.branches b c).susceptance))
-          | inr e ↦ same e
+    level : (b : Branch) → Contains n.branches b → angle b.from ≡ angle b.to
+    level b c =
+        let s = b.susceptance in
+        let x = angle b.from in
+        let y = angle b.to in
+        let nothing : loss angle b ≡ whole (pos 0) = ≤ℚ_antisym (loss angle b) (whole (pos 0)) (subst (λ t. loss angle b ≤ℚ t) no_losses (term_within (loss angle) n.branches losses_above b c)) (losses_above b c) in
+        let same : x -ℚ y ≡ whole (pos 0) → x ≡ y = λ e. by_ring1 ring_ℚ (x ∷ y ∷ []) (at 0) (at 1) pone (at 0 ⊕ pneg (at 1)) pnil e refl in
+        elim (*ℚ-nil (x -ℚ y) (flow angle b) nothing) [
+          | inl e ↦ same e
+          | inr f ↦ elim (*ℚ-nil s (x -ℚ y) f) [
+            | inl e ↦ absurd (<ℚ_irrefl (whole (pos 0)) (subst (λ t. whole (pos 0) <ℚ t) e (is.branches b c).susceptance))
+            | inr e ↦ same e
+          ]
         ]
-      ]
-
-  level_beside : (i j : ℕ) → AreNeighbours n i j → angle i ≡ angle j
-  level_beside i j near =
-      let same = level near.branch near.there in
-      elim near.ends [ inl e ↦ ap angle (sym e.0) ∙ same ∙ ap angle e.1 | inr e ↦ ap angle (sym e.1) ∙ sym same ∙ ap angle e.0 ]
-
-  pub level_along : (chain : List ℕ) (i j : ℕ) → Lead n chain i j → angle i ≡ angle j
-  level_along [] i j e = ap angle e
-  level_along (k ∷ ks) i j lead = level_beside i k lead.0 ∙ level_along ks k j lead.1
 
 -- no branch carries more than the transfer
 pub carries_all : (n : Network) (transfer : ℕ → Fraction) (b : Branch) → IsNetwork n → Contains n.branches b → IsTransfer n transfer b.from b.to
@@ -202,7 +195,7 @@ law_of_the_detour n place lost transfer is stands t joined = elim (≤ℚ-or-<�
       let all : flow transfer lost ≡ whole (pos 1) = carries_all n transfer lost is (contains_lost n place lost stands) t above in
       let rest : (i : ℕ) → i < n.buses → injection (without n place) transfer i ≡ whole (pos 0) = λ i p. transfer_without n place lost stands transfer t i p
       ∙ ap (λ y. ends i lost *ℚ (whole (pos 1) -ℚ y)) all ∙ by_ring ring_ℚ (ends i lost ∷ []) (at 0 ⊗ (pone ⊕ pneg pone)) pnil refl in
-      let same : transfer lost.from ≡ transfer lost.to = level_along (without n place) transfer (network_without n place lost stands is) rest joined.chain lost.from lost.to joined.lead in
+      let same : transfer lost.from ≡ transfer lost.to = same_along (without n place) transfer (level (without n place) transfer (network_without n place lost stands is) rest) joined.chain lost.from lost.to joined.lead in
       absurd (apart (sym all ∙ ap (λ y. lost.susceptance *ℚ (y -ℚ transfer lost.to)) same
       ∙ by_ring ring_ℚ (lost.susceptance ∷ transfer lost.to ∷ []) (at 0 ⊗ (at 1 ⊕ pneg (at 1))) pnil refl))
 ]

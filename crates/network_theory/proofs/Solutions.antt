@@ -38,7 +38,7 @@ module _ (a b : ℕ → Fraction) where
 flows_level : (c : Fraction) (bs : List Branch) → sum_by (flow (λ _. c)) bs ≡ whole (pos 0)
 flows_level c bs = sum_by-same (flow (λ _. c)) (λ _. whole (pos 0)) bs (λ br. by_ring ring_ℚ (br.susceptance ∷ c ∷ []) (at 0 ⊗ (at 1 ⊕ pneg (at 1))) pnil refl) ∙ sum_by-nil bs
 
-injection_level : (n : Network) (c : Fraction) (i : ℕ) → injection n (λ _. c) i ≡ whole (pos 0)
+pub injection_level : (n : Network) (c : Fraction) (i : ℕ) → injection n (λ _. c) i ≡ whole (pos 0)
 unfolding leaving entering
 injection_level n c i =
     ap₂ ◌-ℚ◌ (flows_level c (filter (λ (br : Branch). br.from == i) n.branches)) (flows_level c (filter (λ (br : Branch). br.to == i) n.branches))

@@ -7,7 +7,7 @@ use Rattle.fraction_theory.specs.Fraction.{Fraction, whole, ◌+ℚ◌, ◌-ℚ�
 use Rattle.fraction_theory.specs.Order.{◌≤ℚ◌, ◌<ℚ◌}
 use Rattle.fraction_theory.specs.Signs.{abs_ℚ}
 use Rattle.fraction_theory.specs.Sums.{sum_by}
-use Rattle.network_theory.specs.Networks.{Branch, Network, places, IsNetwork, flow, injection, AreJoined, IsConnected, IsTransfer, StandsAt, without, moved, outage_factor}
+use Rattle.network_theory.specs.Networks.{Branch, Network, places, IsNetwork, flow, injection, AreJoined, IsConnected, IsSolution, IsTransfer, StandsAt, without, moved, outage_factor}
 
 -- where no bus but the reference has an injection below 0, no angle is below that of the reference
 abbrev pub LawOfTheLeastAngle : Type 0
@@ -27,6 +27,17 @@ LawOfOneSolution = (n : Network) (reference : ℕ) (angle other : ℕ → Fracti
     → angle reference ≡ other reference
     → ((i : ℕ) → i < n.buses → ¬ (i ≡ reference) → injection n angle i ≡ injection n other i)
     → (i : ℕ) → i < n.buses → angle i ≡ other i
+
+-- in a connected network there is a solution, whatever injections are wanted of the buses other than the reference
+abbrev pub LawOfSolutions : Type 0
+LawOfSolutions = (n : Network) (reference : ℕ) (wanted : ℕ → Fraction) → IsNetwork n → IsConnected n reference
+    → (angle : ℕ → Fraction) × IsSolution n reference wanted angle
+
+-- and there is a transfer between any two buses
+abbrev pub LawOfTransfers : Type 0
+LawOfTransfers = (n : Network) (reference source sink : ℕ) → IsNetwork n → IsConnected n reference
+    → source < n.buses → sink < n.buses → ¬ (source ≡ sink)
+    → (angle : ℕ → Fraction) × IsTransfer n angle source sink
 
 -- where no bus but the reference has an injection, all angles are that of the reference
 abbrev pub LawOfRest : Type 0
@@ -77,8 +88,8 @@ LawOfTheBridge = (n : Network) (place : ℕ) (lost : Branch) (transfer : ℕ →
     → (flow transfer lost <ℚ whole (pos 1) → AreJoined (without n place) lost.from lost.to)
     × (¬ (AreJoined (without n place) lost.from lost.to) → flow transfer lost ≡ whole (pos 1))
 
--- where the network stays connected without the branch and no injection changes, each other branch carries besides its outage factor times
--- what the lost one carried
+-- where the network stays connected without the branch and no bus but the reference has another injection, each other branch carries besides
+-- its outage factor times what the lost one carried
 abbrev pub LawOfTheOutageFactors : Type 0
 LawOfTheOutageFactors = (n : Network) (place : ℕ) (lost : Branch) (reference : ℕ) (angle after transfer : ℕ → Fraction) → IsNetwork n
     → StandsAt n place lost → IsTransfer n transfer lost.from lost.to → IsConnected (without n place) reference

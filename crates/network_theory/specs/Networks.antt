@@ -68,6 +68,12 @@ pub record AreJoined (n : Network) (i j : ℕ) : Type 0 where
 pub record IsConnected (n : Network) (reference : ℕ) : Type 0 where
   pub joined : (i : ℕ) → i < n.buses → AreJoined n i reference
 
+-- ---- solutions
+-- The angle at the reference is 0, and each other bus has the injection that is wanted of it.
+pub record IsSolution (n : Network) (reference : ℕ) (wanted angle : ℕ → Fraction) : Type 0 where
+  pub at_reference : angle reference ≡ whole (pos 0)
+  pub injections : (i : ℕ) → i < n.buses → ¬ (i ≡ reference) → injection n angle i ≡ wanted i
+
 -- ---- transfers
 -- 1 is put in at the source and taken out at the sink, and nothing elsewhere. The flows at such angles are the factors of the
 -- transfer: a shift factor is one of a transfer to the reference.

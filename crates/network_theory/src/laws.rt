@@ -1,5 +1,5 @@
 //! Laws of the definitions, each the contract of a function that does nothing.
-ghost use Rattle.network_theory.specs.Laws.{LawOfTheLeastAngle, LawOfTheGreatestAngle, LawOfOneSolution, LawOfRest, LawOfTheTransfer, LawOfTheFactors, LawOfBalance, LawOfReciprocity, LawOfTheOutage, LawOfTheDetour, LawOfTheBridge, LawOfTheOutageFactors};
+ghost use Rattle.network_theory.specs.Laws.{LawOfTheLeastAngle, LawOfTheGreatestAngle, LawOfOneSolution, LawOfSolutions, LawOfTransfers, LawOfRest, LawOfTheTransfer, LawOfTheFactors, LawOfBalance, LawOfReciprocity, LawOfTheOutage, LawOfTheDetour, LawOfTheBridge, LawOfTheOutageFactors};
 
 /// In a connected network where no bus but the reference has an injection below 0, no angle is below that of the reference.
 pub fn least_angle()
@@ -14,6 +14,16 @@ pub fn greatest_angle()
 /// Angles are fixed by the angle at the reference and the injections at all other buses.
 pub fn one_solution()
     ensures { LawOfOneSolution }
+{}
+
+/// A connected network has a solution for any injections of the buses other than the reference.
+pub fn solutions_exist()
+    ensures { LawOfSolutions }
+{}
+
+/// A connected network has a transfer between any two buses.
+pub fn transfers_exist()
+    ensures { LawOfTransfers }
 {}
 
 /// Without injections all angles are that of the reference.
