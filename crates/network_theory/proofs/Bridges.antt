@@ -17,9 +17,10 @@ use Rattle.network_theory.specs.Laws.{LawOfTheBridge}
 use Rattle.network_theory.specs.Networks.{Branch, Network, places, IsNetwork, flow, injection, AreNeighbours, AreJoined, IsTransfer, StandsAt, without}
 use Rattle.network_theory.proofs.ByParts.{taken, injection_taken}
 use Rattle.network_theory.proofs.FlowSigns.{carried_down, carried_back}
-use Rattle.network_theory.proofs.Outages.{ends_differ, transfer_without, network_without, contains_lost, carries_all}
+use Rattle.network_theory.proofs.Outages.{transfer_without, network_without, contains_lost, carries_all}
 use Rattle.network_theory.proofs.Places.{in_places}
 use Rattle.network_theory.proofs.SignedSums.{sum_above, term_within, sum_by-neg}
+use Rattle.network_theory.proofs.Solutions.{ends_differ}
 
 -- of finitely many numbers one is above 0, or none is
 some_above : {T : Type 0} (f : T → Fraction) (xs : List T) → ((x : T) × Contains xs x × (whole (pos 0) <ℚ f x)) ⊎ ((x : T) → Contains xs x → f x ≤ℚ whole (pos 0))

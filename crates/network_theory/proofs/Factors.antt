@@ -1,5 +1,6 @@
--- A cut between the two ends of a branch: no branch carries anything back over it, and what crosses it is at most 1.
-use Rattle.std.specs.Prelude.{◌≡◌, ℕ, ◌==◌, pos, [], ◌∷◌, Bool, refl}
+-- A cut between the two ends of a branch: no branch carries anything back over it, and what crosses it is no more than the injections of
+-- all buses but one are in size. So no branch carries more, of a transfer no more than 1, and of what a guess is wrong by no more than that.
+use Rattle.std.specs.Prelude.{◌≡◌, ℕ, ◌==◌, pos, [], ◌∷◌, Bool, not, refl}
 use Rattle.std.specs.List.{Contains}
 use Rattle.std.proofs.Common.{ap, sym, ◌∙◌, subst, subst₂, inl, inr}
 use Rattle.std.proofs.lemmas.Bool.Decides.{eqb_tells}
@@ -7,19 +8,21 @@ use Rattle.fraction_theory.specs.declared.Sign.{Sign}
 use Rattle.fraction_theory.specs.declared.Sign.TheVariants.{Below, Zero, Above}
 use Rattle.fraction_theory.specs.Fraction.{Fraction, whole, ◌-ℚ◌, ◌*ℚ◌, neg_ℚ}
 use Rattle.fraction_theory.specs.Order.{◌≤ℚ◌, ◌<ℚ◌}
-use Rattle.fraction_theory.specs.Signs.{sign_of}
+use Rattle.fraction_theory.specs.Signs.{sign_of, abs_ℚ}
 use Rattle.fraction_theory.specs.Sums.{sum_by}
-use Rattle.fraction_theory.proofs.Ring.{at, pnil, pone, pneg, ◌⊕◌, ◌⊗◌}
+use Rattle.fraction_theory.proofs.Ring.{by_ring, at, pnil, pone, pneg, ◌⊕◌, ◌⊗◌}
 use Rattle.fraction_theory.proofs.FieldLaws.{ring_ℚ}
-use Rattle.fraction_theory.proofs.OrderLaws.{≤ℚ_refl, ≤ℚ_trans, ≤ℚ_of_same, ≤ℚ_total, ≤ℚ-or-<ℚ, <ℚ-≤ℚ, <ℚ-not-≤ℚ, by_rest, by_le1, NonNeg-one, NonNeg-times, NonNeg_from, NonNeg_to, le_to, NonNeg-nil}
-use Rattle.fraction_theory.proofs.SignLaws.{IsSign, sign_of_is, abs_within}
-use Rattle.fraction_theory.proofs.ListSums.{kept, same_or_not}
-use Rattle.network_theory.specs.Laws.{LawOfTheFactors}
-use Rattle.network_theory.specs.Networks.{Branch, Network, places, IsNetwork, flow, injection, IsTransfer}
+use Rattle.fraction_theory.proofs.OrderLaws.{≤ℚ_refl, ≤ℚ_trans, ≤ℚ_of_same, ≤ℚ_total, ≤ℚ-or-<ℚ, <ℚ-≤ℚ, <ℚ-not-≤ℚ, by_rest, by_le1, by_le2, NonNeg-one, NonNeg-times, NonNeg_from, le_to}
+use Rattle.fraction_theory.proofs.SignLaws.{IsSign, sign_of_is, abs_above, abs_below, abs_within}
+use Rattle.fraction_theory.proofs.SumLaws.{sum_by-same}
+use Rattle.fraction_theory.proofs.ListSums.{kept, sum_by-filter, sum_by-one}
+use Rattle.network_theory.specs.Laws.{LawOfTheFactors, LawOfTheGuess}
+use Rattle.network_theory.specs.Networks.{Branch, Network, places, others, IsNetwork, flow, injection, IsTransfer}
 use Rattle.network_theory.proofs.ByParts.{by_parts}
 use Rattle.network_theory.proofs.FlowSigns.{carried_down, carried_back}
-use Rattle.network_theory.proofs.Places.{below_places, sum_at}
-use Rattle.network_theory.proofs.SignedSums.{sum_above, term_within, sum_by-minus}
+use Rattle.network_theory.proofs.Places.{in_places, below_places, distinct_places}
+use Rattle.network_theory.proofs.SignedSums.{term_within, sum_within}
+use Rattle.network_theory.proofs.Solutions.{flow_minus, injection_minus, zero_within_one, ends_differ}
 
 -- 1 above the level, 0 at it and below
 abbrev side_by : Sign → Fraction
@@ -51,13 +54,10 @@ side_below level x h = by_sign (sign_of (x -ℚ level)) (sign_of_is (x -ℚ leve
     by_sign Zero p = refl
     by_sign Above p = absurd (<ℚ-not-≤ℚ (whole (pos 0)) (x -ℚ level) p (by_le1 (x ∷ level ∷ []) (at 0 ⊕ pneg (at 1)) pnil pone (at 0) (at 1) NonNeg-one h refl))
 
-zero_one : whole (pos 0) ≤ℚ whole (pos 1)
-zero_one = NonNeg_to (whole (pos 1)) NonNeg-one
-
 side_range : (level x : Fraction) → (whole (pos 0) ≤ℚ side level x) × (side level x ≤ℚ whole (pos 1))
 side_range level x = elim (≤ℚ-or-<ℚ x level) [
-  | inl h ↦ subst (λ t. (whole (pos 0) ≤ℚ t) × (t ≤ℚ whole (pos 1))) (sym (side_below level x h)) (≤ℚ_refl (whole (pos 0)), zero_one)
-  | inr h ↦ subst (λ t. (whole (pos 0) ≤ℚ t) × (t ≤ℚ whole (pos 1))) (sym (side_above level x h)) (zero_one, ≤ℚ_refl (whole (pos 1)))
+  | inl h ↦ subst (λ t. (whole (pos 0) ≤ℚ t) × (t ≤ℚ whole (pos 1))) (sym (side_below level x h)) (≤ℚ_refl (whole (pos 0)), zero_within_one)
+  | inr h ↦ subst (λ t. (whole (pos 0) ≤ℚ t) × (t ≤ℚ whole (pos 1))) (sym (side_above level x h)) (zero_within_one, ≤ℚ_refl (whole (pos 1)))
 ]
 
 side_grows : (level x y : Fraction) → x ≤ℚ y → side level x ≤ℚ side level y
@@ -66,9 +66,19 @@ side_grows level x y h = elim (≤ℚ-or-<ℚ y level) [
   | inr high ↦ subst (λ t. side level x ≤ℚ t) (sym (side_above level y high)) (side_range level x).1
 ]
 
-module _ (n : Network) (angle : ℕ → Fraction) (source sink : ℕ) (is : IsNetwork n) (t : IsTransfer n angle source sink) (level : Fraction) where
+-- so many times a number, which is no more than its size
+times_size : (k x : Fraction) → neg_ℚ (whole (pos 1)) ≤ℚ k → k ≤ℚ whole (pos 1) → (k *ℚ x) ≤ℚ abs_ℚ x
+times_size k x low high = elim (≤ℚ-or-<ℚ x (whole (pos 0))) [
+  | inl h ↦ subst (λ t. (k *ℚ x) ≤ℚ t) (sym (abs_below x h)) (by_le1 (k ∷ x ∷ []) (at 0 ⊗ at 1) (pneg (at 1)) (at 0 ⊕ pneg (pneg pone)) (at 1) pnil (le_to (neg_ℚ (whole (pos 1))) k low) h refl)
+  | inr h ↦
+      let above = <ℚ-≤ℚ (whole (pos 0)) x h in
+      subst (λ t. (k *ℚ x) ≤ℚ t) (sym (abs_above x above)) (by_le1 (k ∷ x ∷ []) (at 0 ⊗ at 1) (at 1) (pone ⊕ pneg (at 0)) pnil (at 1) (le_to k (whole (pos 1)) high) above refl)
+]
+
+module _ (n : Network) (angle : ℕ → Fraction) (is : IsNetwork n) (reference : ℕ) (level : Fraction) where
+  -- which side of the cut, against that of the reference
   abbrev weight : ℕ → Fraction
-  weight i = side level (angle i)
+  weight i = side level (angle i) -ℚ side level (angle reference)
 
   abbrev crossing : Branch → Fraction
   crossing b = (weight b.from -ℚ weight b.to) *ℚ flow angle b
@@ -77,57 +87,91 @@ module _ (n : Network) (angle : ℕ → Fraction) (source sink : ℕ) (is : IsNe
   forward : (b : Branch) → Contains n.branches b → whole (pos 0) ≤ℚ crossing b
   forward b c =
       let one = is.branches b c in
-      let u = weight b.from in
-      let v = weight b.to in
+      let u = side level (angle b.from) in
+      let v = side level (angle b.to) in
       let x = flow angle b in
+      let vs = u ∷ v ∷ side level (angle reference) ∷ x ∷ [] in
       elim (≤ℚ_total (angle b.to) (angle b.from)) [
-        | inl h ↦ NonNeg_to (crossing b) (NonNeg-times (u -ℚ v) x (le_to v u (side_grows level (angle b.to) (angle b.from) h))
-            (NonNeg_from x (carried_down b.susceptance (angle b.from) (angle b.to) one.susceptance h)))
-        | inr h ↦ by_rest (u ∷ v ∷ x ∷ []) pnil ((at 0 ⊕ pneg (at 1)) ⊗ at 2) ((at 1 ⊕ pneg (at 0)) ⊗ (pnil ⊕ pneg (at 2)))
+        | inl h ↦ by_rest vs pnil (((at 0 ⊕ pneg (at 2)) ⊕ pneg (at 1 ⊕ pneg (at 2))) ⊗ at 3) ((at 0 ⊕ pneg (at 1)) ⊗ at 3)
+            (NonNeg-times (u -ℚ v) x (le_to v u (side_grows level (angle b.to) (angle b.from) h))
+            (NonNeg_from x (carried_down b.susceptance (angle b.from) (angle b.to) one.susceptance h))) refl
+        | inr h ↦ by_rest vs pnil (((at 0 ⊕ pneg (at 2)) ⊕ pneg (at 1 ⊕ pneg (at 2))) ⊗ at 3) ((at 1 ⊕ pneg (at 0)) ⊗ (pnil ⊕ pneg (at 3)))
             (NonNeg-times (v -ℚ u) (whole (pos 0) -ℚ x) (le_to u v (side_grows level (angle b.from) (angle b.to) h))
             (le_to x (whole (pos 0)) (carried_back b.susceptance (angle b.from) (angle b.to) one.susceptance h))) refl
       ]
 
-  -- what is put in above the level is at most 1
-  put_in : (i : ℕ) → Contains (places n) i → whole (pos 0) ≤ℚ (whole (pos 1) *ℚ kept (source == i) (whole (pos 1)) -ℚ weight i *ℚ injection n angle i)
-  put_in i c = elim (eqb_tells source i) [
-    | inl e ↦ subst₂ (λ (k : Bool) (p : Fraction). whole (pos 0) ≤ℚ (whole (pos 1) *ℚ kept k (whole (pos 1)) -ℚ weight i *ℚ p)) (sym e.0) (sym (ap (injection n angle) (sym e.1) ∙ t.source_has))
-        (by_le1 (weight i ∷ []) pnil ((pone ⊗ pone) ⊕ pneg (at 0 ⊗ pone)) pone (at 0) pone NonNeg-one (side_range level (angle i)).1 refl)
-    | inr e ↦ subst (λ (k : Bool). whole (pos 0) ≤ℚ (whole (pos 1) *ℚ kept k (whole (pos 1)) -ℚ weight i *ℚ injection n angle i)) (sym e.0) (elim (same_or_not i sink) [
-      | inl s ↦ subst (λ p. whole (pos 0) ≤ℚ (whole (pos 1) *ℚ whole (pos 0) -ℚ weight i *ℚ p)) (sym (ap (injection n angle) s ∙ t.sink_has))
-          (by_le1 (weight i ∷ []) pnil ((pone ⊗ pnil) ⊕ pneg (at 0 ⊗ pneg pone)) pone pnil (at 0) NonNeg-one (side_range level (angle i)).0 refl)
-      | inr s ↦ subst (λ p. whole (pos 0) ≤ℚ (whole (pos 1) *ℚ whole (pos 0) -ℚ weight i *ℚ p)) (sym (t.elsewhere i (below_places n i c) (λ q. e.1 (sym q)) s))
-          (by_rest (weight i ∷ []) pnil ((pone ⊗ pnil) ⊕ pneg (at 0 ⊗ pnil)) pnil NonNeg-nil refl)
-    ])
-  ]
+  -- what the buses but the reference put in is no less
+  put_in : (i : ℕ) → (weight i *ℚ injection n angle i) ≤ℚ kept (not (i == reference)) (abs_ℚ (injection n angle i))
+  put_in i =
+      let s = side level (angle i) in
+      let r = side level (angle reference) in
+      let here = side_range level (angle i) in
+      let there = side_range level (angle reference) in
+      let x = injection n angle i in
+      elim (eqb_tells i reference) [
+        | inl e ↦ subst₂ (λ (k : Bool) (p : Fraction). ((p -ℚ r) *ℚ x) ≤ℚ kept (not k) (abs_ℚ x)) (sym e.0) (sym (ap (λ (j : ℕ). side level (angle j)) e.1))
+            (≤ℚ_of_same ((r -ℚ r) *ℚ x) (whole (pos 0)) (by_ring ring_ℚ (r ∷ x ∷ []) ((at 0 ⊕ pneg (at 0)) ⊗ at 1) pnil refl))
+        | inr e ↦ subst (λ (k : Bool). (weight i *ℚ x) ≤ℚ kept (not k) (abs_ℚ x)) (sym e.0)
+            (times_size (weight i) x
+            (by_le2 (s ∷ r ∷ []) (pneg pone) (at 0 ⊕ pneg (at 1)) pone pnil (at 0) pone (at 1) pone NonNeg-one here.0 NonNeg-one there.1 refl)
+            (by_le2 (s ∷ r ∷ []) (at 0 ⊕ pneg (at 1)) pone pone (at 0) pone pone pnil (at 1) NonNeg-one here.1 NonNeg-one there.0 refl))
+      ]
 
-  crossing_within : sum_by crossing n.branches ≤ℚ whole (pos 1)
-  crossing_within =
-      let first = λ (i : ℕ). whole (pos 1) *ℚ kept (source == i) (whole (pos 1)) in
-      let second = λ (i : ℕ). weight i *ℚ injection n angle i in
-      let above : whole (pos 0) ≤ℚ (sum_by first (places n) -ℚ sum_by second (places n)) =
-      subst (λ p. whole (pos 0) ≤ℚ p) (sum_by-minus first second (places n)) (sum_above (λ i. first i -ℚ second i) (places n) put_in) in
-      subst₂ ◌≤ℚ◌ (by_parts n is weight angle) (sum_at n (λ _. whole (pos 1)) source (whole (pos 1)) t.source_is ∙ ring_ℚ.times_one (whole (pos 1)))
-      (by_le1 (sum_by first (places n) ∷ sum_by second (places n) ∷ []) (at 1) (at 0) pone pnil (at 0 ⊕ pneg (at 1)) NonNeg-one above refl)
+  crossing_within : (b : Branch) → Contains n.branches b → crossing b ≤ℚ sum_by (λ i. abs_ℚ (injection n angle i)) (others n reference)
+  crossing_within b c = ≤ℚ_trans (crossing b) (sum_by crossing n.branches) (sum_by (λ i. abs_ℚ (injection n angle i)) (others n reference)) (term_within crossing n.branches forward b c)
+      (subst₂ ◌≤ℚ◌ (by_parts n is weight angle) (sym (sum_by-filter (λ i. abs_ℚ (injection n angle i)) (λ i. not (i == reference)) (places n)))
+      (sum_within (λ i. weight i *ℚ injection n angle i) (λ i. kept (not (i == reference)) (abs_ℚ (injection n angle i))) (places n) (λ i _. put_in i)))
 
-  branch_within : (b : Branch) → Contains n.branches b → crossing b ≤ℚ whole (pos 1)
-  branch_within b c = ≤ℚ_trans (crossing b) (sum_by crossing n.branches) (whole (pos 1)) (term_within crossing n.branches forward b c) crossing_within
-
--- the level of the lower end is the cut
-pub law_of_the_factors : LawOfTheFactors
-law_of_the_factors n angle source sink is t b c =
+-- The level of the lower end is the cut.
+flow_within : (n : Network) (angle : ℕ → Fraction) (reference : ℕ) → IsNetwork n → (b : Branch) → Contains n.branches b
+    → abs_ℚ (flow angle b) ≤ℚ sum_by (λ i. abs_ℚ (injection n angle i)) (others n reference)
+flow_within n angle reference is b c =
     let one = is.branches b c in
     let x = flow angle b in
     let a = angle b.from in
     let z = angle b.to in
-    abs_within x (whole (pos 1))
+    let r = λ (level : Fraction). side level (angle reference) in
+    let most = sum_by (λ i. abs_ℚ (injection n angle i)) (others n reference) in
+    let within = λ (level : Fraction). crossing_within n angle is reference level b c in
+    let above : whole (pos 0) ≤ℚ most = ≤ℚ_trans (whole (pos 0)) (crossing n angle is reference a b) most (forward n angle is reference a b c) (within a) in
+    abs_within x most
     (elim (≤ℚ-or-<ℚ z a) [
-      | inl h ↦ ≤ℚ_trans (neg_ℚ (whole (pos 1))) (whole (pos 0)) x (by_le1 [] (pneg pone) pnil pone pnil pone NonNeg-one zero_one refl) (carried_down b.susceptance a z one.susceptance h)
-      | inr h ↦ by_le1 (x ∷ []) (pneg pone) (at 0) pone ((pnil ⊕ pneg pone) ⊗ at 0) pone NonNeg-one
-          (subst₂ (λ u v. ((u -ℚ v) *ℚ x) ≤ℚ whole (pos 1)) (side_below a a (≤ℚ_refl a)) (side_above a z h) (branch_within n angle source sink is t a b c)) refl
+      | inl h ↦ by_le2 (x ∷ most ∷ []) (pneg (at 1)) (at 0) pone pnil (at 0) pone pnil (at 1) NonNeg-one (carried_down b.susceptance a z one.susceptance h) NonNeg-one above refl
+      | inr h ↦ by_le1 (x ∷ most ∷ r a ∷ []) (pneg (at 1)) (at 0) pone (((pnil ⊕ pneg (at 2)) ⊕ pneg (pone ⊕ pneg (at 2))) ⊗ at 0) (at 1) NonNeg-one
+          (subst₂ (λ u v. (((u -ℚ r a) -ℚ (v -ℚ r a)) *ℚ x) ≤ℚ most) (side_below a a (≤ℚ_refl a)) (side_above a z h) (within a)) refl
     ])
     (elim (≤ℚ-or-<ℚ a z) [
-      | inl h ↦ ≤ℚ_trans x (whole (pos 0)) (whole (pos 1)) (carried_back b.susceptance a z one.susceptance h) zero_one
-      | inr h ↦ by_le1 (x ∷ []) (at 0) pone pone ((pone ⊕ pneg pnil) ⊗ at 0) pone NonNeg-one
-          (subst₂ (λ u v. ((u -ℚ v) *ℚ x) ≤ℚ whole (pos 1)) (side_above z a h) (side_below z z (≤ℚ_refl z)) (branch_within n angle source sink is t z b c)) refl
+      | inl h ↦ ≤ℚ_trans x (whole (pos 0)) most (carried_back b.susceptance a z one.susceptance h) above
+      | inr h ↦ by_le1 (x ∷ most ∷ r z ∷ []) (at 0) (at 1) pone (((pone ⊕ pneg (at 2)) ⊕ pneg (pnil ⊕ pneg (at 2))) ⊗ at 0) (at 1) NonNeg-one
+          (subst₂ (λ u v. (((u -ℚ r z) -ℚ (v -ℚ r z)) *ℚ x) ≤ℚ most) (side_above z a h) (side_below z z (≤ℚ_refl z)) (within z)) refl
     ])
+
+-- of all buses but the sink the source alone has an injection, which is 1
+module _ (n : Network) (angle : ℕ → Fraction) (source sink : ℕ) (t : IsTransfer n angle source sink) where
+  abbrev counted : ℕ → Fraction
+  counted i = kept (not (i == sink)) (abs_ℚ (injection n angle i))
+
+  at_source : counted source ≡ whole (pos 1)
+  at_source = elim (eqb_tells source sink) [
+    | inl e ↦ absurd (ends_differ n angle source sink t e.1)
+    | inr e ↦ ap (λ (k : Bool). kept (not k) (abs_ℚ (injection n angle source))) e.0 ∙ ap abs_ℚ t.source_has ∙ abs_above (whole (pos 1)) zero_within_one
+  ]
+
+  not_source : (i : ℕ) → Contains (places n) i → ¬ (i ≡ source) → counted i ≡ whole (pos 0)
+  not_source i c d = elim (eqb_tells i sink) [
+    | inl e ↦ ap (λ (k : Bool). kept (not k) (abs_ℚ (injection n angle i))) e.0
+    | inr e ↦ ap (λ (k : Bool). kept (not k) (abs_ℚ (injection n angle i))) e.0 ∙ ap abs_ℚ (t.elsewhere i (below_places n i c) d e.1) ∙ abs_above (whole (pos 0)) (≤ℚ_refl (whole (pos 0)))
+  ]
+
+  counted_one : sum_by (λ i. abs_ℚ (injection n angle i)) (others n sink) ≡ whole (pos 1)
+  counted_one = sum_by-filter (λ i. abs_ℚ (injection n angle i)) (λ i. not (i == sink)) (places n)
+      ∙ sum_by-one counted source (places n) (distinct_places n) (in_places n source t.source_is) not_source ∙ at_source
+
+pub law_of_the_factors : LawOfTheFactors
+law_of_the_factors n angle source sink is t b c = subst (λ x. abs_ℚ (flow angle b) ≤ℚ x) (counted_one n angle source sink t) (flow_within n angle sink is b c)
+
+-- Angles of what a guess is wrong by are the differences.
+pub law_of_the_guess : LawOfTheGuess
+law_of_the_guess n reference angle guess is b c = subst₂ (λ x y. abs_ℚ x ≤ℚ y) (flow_minus guess angle b)
+    (sum_by-same (λ i. abs_ℚ (injection n (λ j. guess j -ℚ angle j) i)) (λ i. abs_ℚ (injection n guess i -ℚ injection n angle i)) (others n reference) (λ i. ap abs_ℚ (injection_minus guess angle n i)))
+    (flow_within n (λ j. guess j -ℚ angle j) reference is b c)

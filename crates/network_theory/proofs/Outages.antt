@@ -9,7 +9,7 @@ use Rattle.fraction_theory.specs.Order.{◌≤ℚ◌, ◌<ℚ◌}
 use Rattle.fraction_theory.specs.Sums.{sum_by}
 use Rattle.fraction_theory.proofs.Ring.{by_ring, by_ring1, by_ring2, at, pnil, pone, pneg, ◌⊕◌, ◌⊗◌, times_nil}
 use Rattle.fraction_theory.proofs.FieldLaws.{ring_ℚ, *ℚ-recip}
-use Rattle.fraction_theory.proofs.OrderLaws.{≤ℚ_trans, ≤ℚ_antisym, ≤ℚ_of_same, ≤ℚ_total, ≤ℚ-or-<ℚ, <ℚ_irrefl, <ℚ-not-≤ℚ, by_le1, by_le2, by_rest, NonNeg-one, NonNeg-times, NonNeg_from, NonNeg_to, le_to, *ℚ-nil}
+use Rattle.fraction_theory.proofs.OrderLaws.{≤ℚ_trans, ≤ℚ_antisym, ≤ℚ_of_same, ≤ℚ_total, ≤ℚ-or-<ℚ, <ℚ_irrefl, <ℚ-not-≤ℚ, by_le1, by_rest, NonNeg-one, NonNeg-times, NonNeg_from, NonNeg_to, le_to, *ℚ-nil}
 use Rattle.fraction_theory.proofs.SignLaws.{abs_above}
 use Rattle.fraction_theory.proofs.SumLaws.{sum_by-same, sum_by-nil, sum_by-plus, sum_by-times}
 use Rattle.fraction_theory.proofs.ListSums.{kept, sum_by-members, Contains-head, Contains-cons, Contains-cases}
@@ -21,7 +21,7 @@ use Rattle.network_theory.proofs.Factors.{law_of_the_factors}
 use Rattle.network_theory.proofs.FlowSigns.{carried_down, carried_back}
 use Rattle.network_theory.proofs.Places.{below_places}
 use Rattle.network_theory.proofs.SignedSums.{term_within}
-use Rattle.network_theory.proofs.Solutions.{injection_minus, law_of_rest}
+use Rattle.network_theory.proofs.Solutions.{injection_minus, law_of_rest, apart, ends_differ}
 
 module _ {T : Type 0} where
   -- a list without one place
@@ -73,20 +73,6 @@ injection_moved n angle times transfer i =
         ∙ ap (λ t. ends i b *ℚ t) (flow_moved angle times transfer b)
         ∙ by_ring ring_ℚ (ends i b ∷ flow angle b ∷ times ∷ flow transfer b ∷ []) (at 0 ⊗ (at 1 ⊕ (at 2 ⊗ at 3))) ((at 0 ⊗ at 1) ⊕ (at 2 ⊗ (at 0 ⊗ at 3))) refl
         ∙ ap₂ (λ s t. s +ℚ times *ℚ t) (sym (taken_ends angle i b)) (sym (taken_ends transfer i b))
-
-pub one_above : whole (pos 0) <ℚ whole (pos 1)
-unfolding whole
-one_above = record { cross = Prim.omega arith }
-
-apart : ¬ (whole (pos 1) ≡ whole (pos 0))
-apart e = <ℚ_irrefl (whole (pos 0)) (subst (λ t. whole (pos 0) <ℚ t) e one_above)
-
--- the ends of a transfer are two
-pub ends_differ : (n : Network) (angle : ℕ → Fraction) (source sink : ℕ) → IsTransfer n angle source sink → ¬ (source ≡ sink)
-ends_differ n angle source sink t e =
-    let one : whole (pos 1) ≡ whole (pos 0) -ℚ whole (pos 1) = sym t.source_has ∙ ap (injection n angle) e ∙ t.sink_has ∙ by_ring ring_ℚ [] (pneg pone) (pnil ⊕ pneg pone) refl in
-    <ℚ-not-≤ℚ (whole (pos 0)) (whole (pos 1)) one_above (by_le2 [] pone pnil pone pone (pnil ⊕ pneg pone) pone pnil pone NonNeg-one (≤ℚ_of_same (whole (pos 1)) (whole (pos 0) -ℚ whole (pos 1)) one)
-    NonNeg-one (NonNeg_to (whole (pos 1)) NonNeg-one) refl)
 
 pub transfer_ends : (n : Network) (transfer : ℕ → Fraction) (b : Branch) → IsTransfer n transfer b.from b.to → (i : ℕ) → i < n.buses → injection n transfer i ≡ ends i b
 transfer_ends n transfer b t i p = elim (eqb_tells b.from i) [

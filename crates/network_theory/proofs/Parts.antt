@@ -15,9 +15,10 @@ use Rattle.fraction_theory.proofs.ListSums.{kept, sum_by-members, Contains-head,
 use Rattle.network_theory.specs.Networks.{Branch, Network, places, IsNetwork, flow, injection, StandsAt, moved}
 use Rattle.network_theory.proofs.ByParts.{taken, injection_taken, by_parts}
 use Rattle.network_theory.proofs.FlowSigns.{carried_down}
-use Rattle.network_theory.proofs.Outages.{ends, taken_ends, flow_moved, injection_moved, network_without, injection_without, loss, losses_above, one_above}
+use Rattle.network_theory.proofs.Outages.{ends, taken_ends, flow_moved, injection_moved, network_without, injection_without, loss, losses_above}
 use Rattle.network_theory.proofs.Places.{sum_at}
 use Rattle.network_theory.proofs.SignedSums.{sum_above, sum_by-minus}
+use Rattle.network_theory.proofs.Solutions.{one_above}
 
 -- 1 at the first place and -1 at the second, and 0 elsewhere or where the two are one
 abbrev pub passed : ℕ → ℕ → ℕ → Fraction

@@ -32,3 +32,9 @@ sum_by-neg f (x ∷ xs) = ap (λ t. neg_ℚ (f x) +ℚ t) (sum_by-neg f xs) ∙ 
 
 pub sum_by-minus : {T : Type 0} (f g : T → Fraction) (xs : List T) → sum_by (λ x. f x -ℚ g x) xs ≡ sum_by f xs -ℚ sum_by g xs
 sum_by-minus f g xs = sum_by-plus f (λ x. neg_ℚ (g x)) xs ∙ ap (λ t. sum_by f xs +ℚ t) (sum_by-neg g xs)
+
+-- sums in the order of their terms
+pub sum_within : {T : Type 0} (f g : T → Fraction) (xs : List T) → ((x : T) → Contains xs x → f x ≤ℚ g x) → sum_by f xs ≤ℚ sum_by g xs
+sum_within f g xs h = by_le1 (sum_by f xs ∷ sum_by g xs ∷ []) (at 0) (at 1) pone pnil (at 1 ⊕ pneg (at 0)) NonNeg-one
+    (subst (λ t. whole (pos 0) ≤ℚ t) (sum_by-minus g f xs)
+    (sum_above (λ x. g x -ℚ f x) xs (λ x c. by_le1 (f x ∷ g x ∷ []) pnil (at 1 ⊕ pneg (at 0)) pone (at 0) (at 1) NonNeg-one (h x c) refl))) refl

@@ -1,24 +1,24 @@
 -- Differences of angles are angles of the differences of injections; with the least angle this gives the greatest one, that there is one
--- solution alone, and how the angles of a transfer fall.
+-- solution alone, and how the angles of a transfer fall between its two ends.
 use Rattle.std.specs.Prelude.{◌≡◌, ℕ, ◌<◌, ◌==◌, pos, List, [], ◌∷◌, filter, refl}
-use Rattle.std.proofs.Common.{ap, sym, ◌∙◌, subst, inl, inr}
+use Rattle.std.proofs.Common.{arith, ap, sym, ◌∙◌, subst, inl, inr}
 use mathlib.Core.Path.{ap₂}
 use Rattle.fraction_theory.specs.Fraction.{Fraction, whole, ◌-ℚ◌}
-use Rattle.fraction_theory.specs.Order.{◌≤ℚ◌}
+use Rattle.fraction_theory.specs.Order.{◌≤ℚ◌, ◌<ℚ◌}
 use Rattle.fraction_theory.specs.Sums.{sum_by}
 use Rattle.fraction_theory.proofs.Ring.{by_ring, by_ring1, at, pnil, pone, pneg, ◌⊕◌, ◌⊗◌}
 use Rattle.fraction_theory.proofs.FieldLaws.{ring_ℚ}
-use Rattle.fraction_theory.proofs.OrderLaws.{≤ℚ_antisym, ≤ℚ_of_same, by_le1, NonNeg-one, NonNeg_to}
+use Rattle.fraction_theory.proofs.OrderLaws.{≤ℚ_antisym, ≤ℚ_of_same, <ℚ_irrefl, <ℚ-≤ℚ, <ℚ-not-≤ℚ, by_le1, by_le2, NonNeg-one, NonNeg_to}
 use Rattle.fraction_theory.proofs.SumLaws.{sum_by-same, sum_by-nil}
 use Rattle.fraction_theory.proofs.ListSums.{same_or_not}
 use Rattle.network_theory.specs.Laws.{LawOfTheLeastAngle, LawOfTheGreatestAngle, LawOfOneSolution, LawOfRest, LawOfTheTransfer}
-use Rattle.network_theory.specs.Networks.{Branch, Network, flow, leaving, entering, injection}
+use Rattle.network_theory.specs.Networks.{Branch, Network, flow, leaving, entering, injection, IsTransfer}
 use Rattle.network_theory.proofs.SignedSums.{sum_by-minus}
 use Rattle.network_theory.proofs.LeastAngles.{least_angle}
 use Rattle.network_theory.proofs.Chains.{connected_to}
 
 module _ (a b : ℕ → Fraction) where
-  flow_minus : (br : Branch) → flow (λ j. a j -ℚ b j) br ≡ flow a br -ℚ flow b br
+  pub flow_minus : (br : Branch) → flow (λ j. a j -ℚ b j) br ≡ flow a br -ℚ flow b br
   flow_minus br = by_ring ring_ℚ (br.susceptance ∷ a br.from ∷ a br.to ∷ b br.from ∷ b br.to ∷ [])
       (at 0 ⊗ ((at 1 ⊕ pneg (at 3)) ⊕ pneg (at 2 ⊕ pneg (at 4)))) ((at 0 ⊗ (at 1 ⊕ pneg (at 2))) ⊕ pneg (at 0 ⊗ (at 3 ⊕ pneg (at 4)))) refl
 
@@ -67,8 +67,22 @@ law_of_one_solution n r a b is c same h i p =
     (λ i p d. injection_minus a b n i ∙ ap (λ t. t -ℚ injection n b i) (h i p d) ∙ ring_ℚ.plus_neg (injection n b i)) i p in
     by_ring1 ring_ℚ (a i ∷ b i ∷ []) (at 0) (at 1) pone (at 0 ⊕ pneg (at 1)) pnil (apart ∙ ap (λ t. t -ℚ b r) same ∙ ring_ℚ.plus_neg (b r)) refl
 
-zero_within_one : whole (pos 0) ≤ℚ whole (pos 1)
-zero_within_one = by_le1 [] pnil pone pone pnil pone NonNeg-one (NonNeg_to (whole (pos 1)) NonNeg-one) refl
+pub one_above : whole (pos 0) <ℚ whole (pos 1)
+unfolding whole
+one_above = record { cross = Prim.omega arith }
+
+pub apart : ¬ (whole (pos 1) ≡ whole (pos 0))
+apart e = <ℚ_irrefl (whole (pos 0)) (subst (λ t. whole (pos 0) <ℚ t) e one_above)
+
+pub zero_within_one : whole (pos 0) ≤ℚ whole (pos 1)
+zero_within_one = <ℚ-≤ℚ (whole (pos 0)) (whole (pos 1)) one_above
+
+-- the ends of a transfer are two
+pub ends_differ : (n : Network) (angle : ℕ → Fraction) (source sink : ℕ) → IsTransfer n angle source sink → ¬ (source ≡ sink)
+ends_differ n angle source sink t e =
+    let one : whole (pos 1) ≡ whole (pos 0) -ℚ whole (pos 1) = sym t.source_has ∙ ap (injection n angle) e ∙ t.sink_has ∙ by_ring ring_ℚ [] (pneg pone) (pnil ⊕ pneg pone) refl in
+    <ℚ-not-≤ℚ (whole (pos 0)) (whole (pos 1)) one_above (by_le2 [] pone pnil pone pone (pnil ⊕ pneg pone) pone pnil pone NonNeg-one (≤ℚ_of_same (whole (pos 1)) (whole (pos 0) -ℚ whole (pos 1)) one)
+    NonNeg-one (NonNeg_to (whole (pos 1)) NonNeg-one) refl)
 
 pub law_of_the_transfer : LawOfTheTransfer
 law_of_the_transfer n r angle source sink is c t i p = (

@@ -7,7 +7,7 @@ use Rattle.fraction_theory.specs.Fraction.{Fraction, whole, ◌+ℚ◌, ◌-ℚ�
 use Rattle.fraction_theory.specs.Order.{◌≤ℚ◌, ◌<ℚ◌}
 use Rattle.fraction_theory.specs.Signs.{abs_ℚ}
 use Rattle.fraction_theory.specs.Sums.{sum_by}
-use Rattle.network_theory.specs.Networks.{Branch, Network, places, IsNetwork, flow, injection, AreJoined, IsConnected, IsSolution, IsTransfer, StandsAt, without, moved, outage_factor}
+use Rattle.network_theory.specs.Networks.{Branch, Network, places, others, IsNetwork, flow, injection, AreJoined, IsConnected, IsSolution, IsTransfer, StandsAt, without, moved, outage_factor}
 
 -- where no bus but the reference has an injection below 0, no angle is below that of the reference
 abbrev pub LawOfTheLeastAngle : Type 0
@@ -55,6 +55,13 @@ LawOfTheTransfer = (n : Network) (reference : ℕ) (angle : ℕ → Fraction) (s
 abbrev pub LawOfTheFactors : Type 0
 LawOfTheFactors = (n : Network) (angle : ℕ → Fraction) (source sink : ℕ) → IsNetwork n → IsTransfer n angle source sink
     → (b : Branch) → Contains n.branches b → abs_ℚ (flow angle b) ≤ℚ whole (pos 1)
+
+-- However wrong guessed angles are, the flows at them are off by no more than their injections are in all, those of the reference left out.
+-- (That flows are linear in injections, and factors at most 1, gives this; by the cut between the ends of a branch it needs neither.)
+abbrev pub LawOfTheGuess : Type 0
+LawOfTheGuess = (n : Network) (reference : ℕ) (angle guess : ℕ → Fraction) → IsNetwork n
+    → (b : Branch) → Contains n.branches b
+    → abs_ℚ (flow guess b -ℚ flow angle b) ≤ℚ sum_by (λ i. abs_ℚ (injection n guess i -ℚ injection n angle i)) (others n reference)
 
 -- all injections sum to 0
 abbrev pub LawOfBalance : Type 0

@@ -1,6 +1,6 @@
 -- Networks of buses and branches by the DC model: a flow is a susceptance times a difference of angles.
 -- Source: the DC power flow (Wood and Wollenberg, Power Generation, Operation, and Control).
-use Rattle.std.specs.Prelude.{◌≡◌, ℕ, ◌<◌, ◌==◌, pos, List, [], ◌∷◌, ◌⊎◌, filter, length, slice_index_or}
+use Rattle.std.specs.Prelude.{◌≡◌, ℕ, ◌<◌, ◌==◌, pos, List, [], ◌∷◌, ◌⊎◌, not, filter, length, slice_index_or}
 use Rattle.std.specs.List.{Contains, range_with_len, remove}
 use Rattle.fraction_theory.specs.Fraction.{Fraction, whole, ◌+ℚ◌, ◌-ℚ◌, ◌*ℚ◌, neg_ℚ, recip_ℚ}
 use Rattle.fraction_theory.specs.Order.{◌<ℚ◌}
@@ -69,6 +69,10 @@ pub record IsConnected (n : Network) (reference : ℕ) : Type 0 where
   pub joined : (i : ℕ) → i < n.buses → AreJoined n i reference
 
 -- ---- solutions
+-- the places of the buses other than the reference
+abbrev pub others : Network → ℕ → List ℕ
+others n reference = filter (λ i. not (i == reference)) (places n)
+
 -- The angle at the reference is 0, and each other bus has the injection that is wanted of it.
 pub record IsSolution (n : Network) (reference : ℕ) (wanted angle : ℕ → Fraction) : Type 0 where
   pub at_reference : angle reference ≡ whole (pos 0)
