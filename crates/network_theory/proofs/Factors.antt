@@ -1,5 +1,5 @@
 -- A cut between the two ends of a branch: no branch carries anything back over it, and what crosses it is no more than the injections of
--- all buses but one are in size. So no branch carries more, of a transfer no more than 1, and of what a guess is wrong by no more than that.
+-- all buses but one are in size. So no branch carries more, and of a transfer no more than 1.
 use Rattle.std.specs.Prelude.{◌≡◌, ℕ, ◌==◌, pos, [], ◌∷◌, Bool, not, refl}
 use Rattle.std.specs.List.{Contains}
 use Rattle.std.proofs.Common.{ap, sym, ◌∙◌, subst, subst₂, inl, inr}
@@ -14,15 +14,14 @@ use Rattle.fraction_theory.proofs.Ring.{by_ring, at, pnil, pone, pneg, ◌⊕◌
 use Rattle.fraction_theory.proofs.FieldLaws.{ring_ℚ}
 use Rattle.fraction_theory.proofs.OrderLaws.{≤ℚ_refl, ≤ℚ_trans, ≤ℚ_of_same, ≤ℚ_total, ≤ℚ-or-<ℚ, <ℚ-≤ℚ, <ℚ-not-≤ℚ, by_rest, by_le1, by_le2, NonNeg-one, NonNeg-times, NonNeg_from, le_to}
 use Rattle.fraction_theory.proofs.SignLaws.{IsSign, sign_of_is, abs_above, abs_below, abs_within}
-use Rattle.fraction_theory.proofs.SumLaws.{sum_by-same}
 use Rattle.fraction_theory.proofs.ListSums.{kept, sum_by-filter, sum_by-one}
-use Rattle.network_theory.specs.Laws.{LawOfTheFactors, LawOfTheGuess}
+use Rattle.network_theory.specs.Laws.{LawOfTheFactors}
 use Rattle.network_theory.specs.Networks.{Branch, Network, places, others, IsNetwork, flow, injection, IsTransfer}
 use Rattle.network_theory.proofs.ByParts.{by_parts}
 use Rattle.network_theory.proofs.FlowSigns.{carried_down, carried_back}
 use Rattle.network_theory.proofs.Places.{in_places, below_places, distinct_places}
 use Rattle.network_theory.proofs.SignedSums.{term_within, sum_within}
-use Rattle.network_theory.proofs.Solutions.{flow_minus, injection_minus, zero_within_one, ends_differ}
+use Rattle.network_theory.proofs.Solutions.{zero_within_one, ends_differ}
 
 -- 1 above the level, 0 at it and below
 abbrev side_by : Sign → Fraction
@@ -67,7 +66,7 @@ side_grows level x y h = elim (≤ℚ-or-<ℚ y level) [
 ]
 
 -- so many times a number, which is no more than its size
-times_size : (k x : Fraction) → neg_ℚ (whole (pos 1)) ≤ℚ k → k ≤ℚ whole (pos 1) → (k *ℚ x) ≤ℚ abs_ℚ x
+pub times_size : (k x : Fraction) → neg_ℚ (whole (pos 1)) ≤ℚ k → k ≤ℚ whole (pos 1) → (k *ℚ x) ≤ℚ abs_ℚ x
 times_size k x low high = elim (≤ℚ-or-<ℚ x (whole (pos 0))) [
   | inl h ↦ subst (λ t. (k *ℚ x) ≤ℚ t) (sym (abs_below x h)) (by_le1 (k ∷ x ∷ []) (at 0 ⊗ at 1) (pneg (at 1)) (at 0 ⊕ pneg (pneg pone)) (at 1) pnil (le_to (neg_ℚ (whole (pos 1))) k low) h refl)
   | inr h ↦
@@ -123,7 +122,7 @@ module _ (n : Network) (angle : ℕ → Fraction) (is : IsNetwork n) (reference 
       (sum_within (λ i. weight i *ℚ injection n angle i) (λ i. kept (not (i == reference)) (abs_ℚ (injection n angle i))) (places n) (λ i _. put_in i)))
 
 -- The level of the lower end is the cut.
-flow_within : (n : Network) (angle : ℕ → Fraction) (reference : ℕ) → IsNetwork n → (b : Branch) → Contains n.branches b
+pub flow_within : (n : Network) (angle : ℕ → Fraction) (reference : ℕ) → IsNetwork n → (b : Branch) → Contains n.branches b
     → abs_ℚ (flow angle b) ≤ℚ sum_by (λ i. abs_ℚ (injection n angle i)) (others n reference)
 flow_within n angle reference is b c =
     let one = is.branches b c in
@@ -169,9 +168,3 @@ module _ (n : Network) (angle : ℕ → Fraction) (source sink : ℕ) (t : IsTra
 
 pub law_of_the_factors : LawOfTheFactors
 law_of_the_factors n angle source sink is t b c = subst (λ x. abs_ℚ (flow angle b) ≤ℚ x) (counted_one n angle source sink t) (flow_within n angle sink is b c)
-
--- Angles of what a guess is wrong by are the differences.
-pub law_of_the_guess : LawOfTheGuess
-law_of_the_guess n reference angle guess is b c = subst₂ (λ x y. abs_ℚ x ≤ℚ y) (flow_minus guess angle b)
-    (sum_by-same (λ i. abs_ℚ (injection n (λ j. guess j -ℚ angle j) i)) (λ i. abs_ℚ (injection n guess i -ℚ injection n angle i)) (others n reference) (λ i. ap abs_ℚ (injection_minus guess angle n i)))
-    (flow_within n (λ j. guess j -ℚ angle j) reference is b c)

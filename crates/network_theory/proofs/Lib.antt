@@ -4,6 +4,7 @@ pub mod Chains
 pub mod Existence
 pub mod Factors
 pub mod FlowSigns
+pub mod Guesses
 pub mod LeastAngles
 pub mod Outages
 pub mod Parts

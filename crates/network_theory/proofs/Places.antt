@@ -1,5 +1,5 @@
 -- The places of a network's buses: each once; and sums over them where one place alone counts.
-use Rattle.std.specs.Prelude.{◌≡◌, ℕ, ◌+◌, ◌<◌, ◌==◌, Bool, refl}
+use Rattle.std.specs.Prelude.{◌≡◌, ℕ, ◌+◌, ◌<◌, ◌==◌, Bool, true, false, not, refl}
 use Rattle.std.specs.List.{Contains}
 use Rattle.std.proofs.Common.{arith, ap, sym, ◌∙◌, inl, inr}
 use Rattle.std.proofs.lemmas.Bool.Decides.{eqb_tells}
@@ -8,8 +8,8 @@ use Rattle.fraction_theory.specs.Fraction.{Fraction, ◌*ℚ◌}
 use Rattle.fraction_theory.specs.Sums.{sum_by}
 use Rattle.fraction_theory.proofs.Ring.{times_nil}
 use Rattle.fraction_theory.proofs.FieldLaws.{ring_ℚ}
-use Rattle.fraction_theory.proofs.ListSums.{Distinct, kept, sum_by-one}
-use Rattle.network_theory.specs.Networks.{Network, places}
+use Rattle.fraction_theory.proofs.ListSums.{Distinct, kept, sum_by-one, Contains-from_filter}
+use Rattle.network_theory.specs.Networks.{Network, places, others}
 
 module _ (n : Network) where
   pub in_places : (i : ℕ) → i < n.buses → Contains (places n) i
@@ -30,6 +30,17 @@ module _ (n : Network) where
       let high = get_or-range_with_len 0 n.buses j d below in
       let same : 0 + i ≡ 0 + j = sym low ∙ e ∙ high in
       Prim.omega (arith, p, same)
+
+  -- the places of the buses other than one
+  pub other_place : (reference i : ℕ) → Contains (others n reference) i → (i < n.buses) × ¬ (i ≡ reference)
+  other_place reference i c =
+      let k = Contains-from_filter (λ j. not (j == reference)) (places n) i c in (
+        below_places i k.0,
+        λ e. elim (eqb_tells i reference) [
+          | inl t ↦ let wrong : false ≡ true = sym (ap not t.0) ∙ k.1 in absurd (Prim.cc)
+          | inr t ↦ t.1 e
+        ],
+      )
 
   -- a weighed number that one place alone has
   pub sum_at : (weight : ℕ → Fraction) (p : ℕ) (x : Fraction) → p < n.buses → sum_by (λ i. weight i *ℚ kept (p == i) x) (places n) ≡ weight p *ℚ x

@@ -7,9 +7,11 @@ use Rattle.std.proofs.Common.{zero, suc, arith, subst, inl, inr}
 use Rattle.fraction_theory.specs.Divisors.{gcd, gcd_in}
 use Rattle.fraction_theory.specs.Fraction.{Fraction, whole, over, same_fraction, ◌+ℚ◌, ◌-ℚ◌, ◌*ℚ◌, neg_ℚ, recip_ℚ}
 use Rattle.fraction_theory.specs.Order.{◌<ℚ◌}
+use Rattle.fraction_theory.specs.Signs.{sign_of, abs_ℚ}
+use Rattle.fraction_theory.specs.Sums.{sum_by}
 use Rattle.fraction_theory.proofs.ListSums.{Contains-cases}
 use Rattle.std.proofs.lemmas.Int.{ints}
-use Rattle.network_theory.specs.Networks.{Branch, Network, IsBranchOf, IsNetwork, flow, leaving, entering, injection, AreNeighbours, AreJoined, IsConnected, IsTransfer, StandsAt, without, moved, outage_factor}
+use Rattle.network_theory.specs.Networks.{Branch, Network, others, IsBranchOf, IsNetwork, flow, leaving, entering, injection, AreNeighbours, AreJoined, IsConnected, IsTransfer, StandsAt, without, moved, outage_factor}
 
 abbrev between : ℕ → ℕ → ℕ → Branch
 between from to susceptance = record { from = from; to = to; susceptance = whole (pos susceptance) }
@@ -80,6 +82,11 @@ first_to_second = same_fraction (flow angles (between 0 1 5)) (over (pos 1) 4) r
 second_to_third : flow angles (between 1 2 10) ≡ over (pos 1) 4
 unfolding ◌+ℚ◌ ◌*ℚ◌ neg_ℚ over whole gcd gcd_in
 second_to_third = same_fraction (flow angles (between 1 2 10)) (over (pos 1) 4) refl refl
+
+-- That all angles are 0 is a guess that lacks the injection of 1 at the first bus, and nothing at the second: no flow is off by more than 1.
+guess_off : sum_by (λ i. abs_ℚ (injection triangle (λ _. whole (pos 0)) i -ℚ injection triangle angles i)) (others triangle 2) ≡ whole (pos 1)
+unfolding leaving entering ◌+ℚ◌ ◌*ℚ◌ neg_ℚ abs_ℚ sign_of over whole gcd gcd_in
+guess_off = same_fraction (sum_by (λ i. abs_ℚ (injection triangle (λ _. whole (pos 0)) i -ℚ injection triangle angles i)) (others triangle 2)) (whole (pos 1)) refl refl
 
 -- The branch from the first bus to the third is lost: the others take over all that it carried, and 1 goes over the second bus.
 stands : StandsAt triangle 2 (between 0 2 10)

@@ -7,7 +7,7 @@ use Rattle.fraction_theory.specs.Fraction.{Fraction, whole, ◌+ℚ◌, ◌-ℚ�
 use Rattle.fraction_theory.specs.Order.{◌≤ℚ◌, ◌<ℚ◌}
 use Rattle.fraction_theory.specs.Signs.{abs_ℚ}
 use Rattle.fraction_theory.specs.Sums.{sum_by}
-use Rattle.network_theory.specs.Networks.{Branch, Network, places, others, IsNetwork, flow, injection, AreJoined, IsConnected, IsSolution, IsTransfer, StandsAt, without, moved, outage_factor}
+use Rattle.network_theory.specs.Networks.{Branch, Network, places, others, IsNetwork, flow, injection, balance, AreJoined, IsConnected, IsSolution, IsTransfer, StandsAt, without, moved, outage_factor}
 
 -- where no bus but the reference has an injection below 0, no angle is below that of the reference
 abbrev pub LawOfTheLeastAngle : Type 0
@@ -57,11 +57,21 @@ LawOfTheFactors = (n : Network) (angle : ℕ → Fraction) (source sink : ℕ) �
     → (b : Branch) → Contains n.branches b → abs_ℚ (flow angle b) ≤ℚ whole (pos 1)
 
 -- However wrong guessed angles are, the flows at them are off by no more than their injections are in all, those of the reference left out.
--- (That flows are linear in injections, and factors at most 1, gives this; by the cut between the ends of a branch it needs neither.)
+-- Source: the shift factors of Wood and Wollenberg. What an injection is off by moves no flow by more, as no factor is above 1.
 abbrev pub LawOfTheGuess : Type 0
 LawOfTheGuess = (n : Network) (reference : ℕ) (angle guess : ℕ → Fraction) → IsNetwork n
     → (b : Branch) → Contains n.branches b
     → abs_ℚ (flow guess b -ℚ flow angle b) ≤ℚ sum_by (λ i. abs_ℚ (injection n guess i -ℚ injection n angle i)) (others n reference)
+
+-- Where no more than bounds on the flows at a guess are known, and an error of each bus but the reference: if the injections that the bounds
+-- leave possible are all within the error of the bus, each flow is within the bounds widened by the sum of the errors.
+abbrev pub LawOfGuessedBounds : Type 0
+LawOfGuessedBounds = (n : Network) (reference : ℕ) (angle guess : ℕ → Fraction) (low high : Branch → Fraction) (error : ℕ → Fraction) → IsNetwork n
+    → ((b : Branch) → Contains n.branches b → (low b ≤ℚ flow guess b) × (flow guess b ≤ℚ high b))
+    → ((i : ℕ) → i < n.buses → ¬ (i ≡ reference)
+    → ((injection n angle i -ℚ error i) ≤ℚ balance n low high i) × (balance n high low i ≤ℚ (injection n angle i +ℚ error i)))
+    → (b : Branch) → Contains n.branches b
+    → ((low b -ℚ sum_by error (others n reference)) ≤ℚ flow angle b) × (flow angle b ≤ℚ (high b +ℚ sum_by error (others n reference)))
 
 -- all injections sum to 0
 abbrev pub LawOfBalance : Type 0

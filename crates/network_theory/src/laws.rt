@@ -1,5 +1,5 @@
 //! Laws of the definitions, each the contract of a function that does nothing.
-ghost use Rattle.network_theory.specs.Laws.{LawOfTheLeastAngle, LawOfTheGreatestAngle, LawOfOneSolution, LawOfSolutions, LawOfTransfers, LawOfRest, LawOfTheTransfer, LawOfTheFactors, LawOfTheGuess, LawOfBalance, LawOfReciprocity, LawOfTheOutage, LawOfTheDetour, LawOfTheBridge, LawOfTheOutageFactors};
+ghost use Rattle.network_theory.specs.Laws.{LawOfTheLeastAngle, LawOfTheGreatestAngle, LawOfOneSolution, LawOfSolutions, LawOfTransfers, LawOfRest, LawOfTheTransfer, LawOfTheFactors, LawOfTheGuess, LawOfGuessedBounds, LawOfBalance, LawOfReciprocity, LawOfTheOutage, LawOfTheDetour, LawOfTheBridge, LawOfTheOutageFactors};
 
 /// In a connected network where no bus but the reference has an injection below 0, no angle is below that of the reference.
 pub fn least_angle()
@@ -44,6 +44,11 @@ pub fn factors_within_one()
 /// Flows at guessed angles are off by no more than the injections of all buses but one are in sum.
 pub fn guess_within_injections()
     ensures { LawOfTheGuess }
+{}
+
+/// Where only bounds on the flows at the guess are known, each flow is within them widened by the errors of all buses but one.
+pub fn bounds_within_errors()
+    ensures { LawOfGuessedBounds }
 {}
 
 /// All injections sum to 0.

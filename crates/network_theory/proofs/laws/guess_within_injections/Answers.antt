@@ -1,4 +1,4 @@
-use Rattle.network_theory.proofs.Factors.{law_of_the_guess}
+use Rattle.network_theory.proofs.Guesses.{law_of_the_guess}
 use Rattle.network_theory.proofs.laws.guess_within_injections.Goals as goal
 
 pub returns : goal.returns
