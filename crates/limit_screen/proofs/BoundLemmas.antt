@@ -1,5 +1,5 @@
 -- Numbers by whole ones that are near them, and what these tell of flows and their limits.
-use Rattle.std.specs.Prelude.{◌≡◌, ℕ, ◌*◌, ◌<◌, ℤ, pos, negsuc, ◌+ℤ◌, ◌*ℤ◌, neg_ℤ, ◌≤ℤ◌, unsigned_abs, [], ◌∷◌, refl}
+use Rattle.std.specs.Prelude.{◌≡◌, ℕ, ◌*◌, ◌<◌, ◌≤◌, ℤ, pos, negsuc, ◌+ℤ◌, ◌*ℤ◌, neg_ℤ, ◌≤ℤ◌, unsigned_abs, [], ◌∷◌, refl}
 use Rattle.std.proofs.Common.{suc, arith, ap, sym, subst, ◌∙◌}
 use Rattle.std.proofs.lemmas.Int.{ints}
 use Rattle.fraction_theory.specs.Fraction.{Fraction, whole, over, neg_ℚ, ◌+ℚ◌, ◌*ℚ◌}
@@ -13,7 +13,7 @@ use Rattle.fraction_theory.proofs.Ring.{at, by_ring, by_ring1, padd, pmul, pneg,
 use Rattle.fraction_theory.proofs.SignLaws.{abs_within}
 use Rattle.exact_fraction.specs.Floor.{IsFloor}
 use Rattle.limit_screen.specs.declared.bounds.Near.{Near}
-use Rattle.limit_screen.specs.Bounds.{IsNear}
+use Rattle.limit_screen.specs.Bounds.{IsNear, IsUpTo}
 
 -- ---- products
 next_product : (h k : ℤ) → h *ℤ (k +ℤ pos 1) ≡ h *ℤ k +ℤ h
@@ -99,3 +99,7 @@ size_within f d near most times h is e above below = abs_within f (whole most) f
 -- a size that is at most a limit and so much more passes the limit by no more than that
 pub overrun_within : (size limit more : Fraction) → size ≤ℚ (limit +ℚ more) → (size +ℚ neg_ℚ limit) ≤ℚ more
 overrun_within size limit more h = by_le1 (size ∷ limit ∷ more ∷ []) (padd (at 0) (pneg (at 1))) (at 2) pone (at 0) (padd (at 1) (at 2)) NonNeg-one h refl
+
+-- whole numbers that are at most so large are at most so large as a larger number
+pub up_to_more : (a b : ℕ) (near : Near) → a ≤ b → IsUpTo a near → IsUpTo b near
+up_to_more a b near h is = record { number = Prim.omega (arith, h, is.number); off = Prim.omega (arith, h, is.off) }

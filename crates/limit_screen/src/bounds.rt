@@ -1,25 +1,35 @@
 //! Bounds of the flows of rows, in whole numbers.
 
-ghost use Rattle.std.specs.Prelude.{◌≡◌, ◌≤◌, ◌<◌, ◌^◌, ◌+ℤ◌, ◌*ℤ◌, pos, unsigned_abs, IsTrue, IfSome, Some, length};
+ghost use Rattle.std.specs.Prelude.{◌≡◌, ℕ, ◌≤◌, ◌<◌, ◌^◌, ◌+◌, ◌*◌, ◌+ℤ◌, ◌*ℤ◌, pos, unsigned_abs, IsTrue, IfSome, Some, length};
 ghost use Rattle.std.specs.List.{slice_get};
-ghost use Rattle.fraction_theory.specs.Fraction.{Fraction, ◌+ℚ◌, ◌*ℚ◌, whole};
+ghost use Rattle.fraction_theory.specs.Fraction.{Fraction, ◌+ℚ◌, ◌*ℚ◌, over, whole};
 ghost use Rattle.fraction_theory.specs.Order.{◌≤ℚ◌};
 ghost use Rattle.fraction_theory.specs.Signs.{abs_ℚ};
 ghost use Rattle.exact_fraction.specs.Floor.{IsFloor};
-ghost use Rattle.market_data.specs.Participants.{IsDatum};
-ghost use Rattle.market_data.specs.Scales.{factor_one, most_factor};
-ghost use Rattle.market_model.specs.LimitRows.{Carried, flow_by, IsCauseOf};
-ghost use Rattle.limit_screen.specs.Bounds.{AreWholeParts, HasBits, IsNear};
+ghost use Rattle.market_model.specs.declared.participants.Parts.{Parts};
+ghost use Rattle.market_model.specs.LimitRows.{Carried, flow_by, pickup_factor, IsCauseOf};
+ghost use Rattle.limit_screen.specs.Bounds.{AreWholeParts, IsModest, IsNear, IsNearFlow, IsUpTo, pickup_one};
 
+use crate::parts::WholeParts;
 use limit_rows::loss_of;
-use market_data::FACTOR_ONE;
+use market_data::{FACTOR_ONE, SHARE_ONE};
 use market_model::{Cause, Market, Row};
+
+/// What factors after the loss of a unit are told in: 10^-15, shares in 10^-6 of factors in 10^-9.
+const PICKUP_ONE: u64 = SHARE_ONE * FACTOR_ONE;
 
 /// A whole number that is near another number, and how far from it that is at the most.
 #[derive(Clone, Copy)]
 pub(crate) struct Near {
     number: i128,
     off: i128,
+}
+
+/// A flow in parts of 10^-9 MW, by a number near it, and how many of these parts are 10^-9 MW.
+#[derive(Clone, Copy)]
+pub(crate) struct NearFlow {
+    parts: Near,
+    one: u64,
 }
 
 /// The whole part at a place, where there is one.
@@ -29,11 +39,17 @@ fn part_at(parts: &[Option<i64>], place: usize) -> Option<i64>
     *parts.get(place)?
 }
 
+/// The pickup factor of a line at an outage of a unit, in 10^-15, where there is one.
+fn pickup_at(parts: &WholeParts, line: usize, outage: usize) -> Option<i64>
+    ensures { (m : Parts) (c : Carried) → AreWholeParts m c parts.now → IfSome result (λ factor. pickup_factor m line outage ≡ over factor pickup_one) }
+{
+    part_at(parts.pickups.get(outage)?, line)
+}
+
 /// The product of a factor and a number, by the whole part of that.
 fn near_product(factor: i64, part: i64) -> Near
-    requires { unsigned_abs factor ≤ most_factor }
     ensures near { (x : Fraction) → IsFloor x part → IsNear (whole factor *ℚ x) result }
-    ensures small { HasBits 104 result }
+    ensures small { (most : ℕ) → unsigned_abs factor ≤ most → IsUpTo (most * 2 ^ 63) result }
 {
     Near {
         number: i128::from(factor) * i128::from(part),
@@ -43,10 +59,10 @@ fn near_product(factor: i64, part: i64) -> Near
 
 /// The sum of two numbers.
 fn near_sum(first: Near, second: Near) -> Near
-    requires first { HasBits 104 first }
-    requires second { HasBits 104 second }
+    requires first { IsUpTo (2 ^ 113) first }
+    requires second { IsUpTo (2 ^ 126) second }
     ensures near { (x y : Fraction) → IsNear x first → IsNear y second → IsNear (x +ℚ y) result }
-    ensures small { HasBits 105 result }
+    ensures small { IsUpTo (2 ^ 126 + 2 ^ 113) result }
 {
     Near {
         number: first.number + second.number,
@@ -54,38 +70,57 @@ fn near_sum(first: Near, second: Near) -> Near
     }
 }
 
-/// The flow of a row, in 10^-18 MW, by the whole parts of what lines carry. Nothing where one of them is missing, and for a row after the
-/// loss of a unit.
-pub(crate) fn near_flow(market: &Market, parts: &[Option<i64>], row: Row) -> Option<Near>
-    requires line { row.line < length market.now.lines }
-    requires lost { IsCauseOf market.now row.cause }
-    ensures near { (c : Carried) → AreWholeParts market.now c parts.now → IfSome result (IsNear (whole (pos factor_one) *ℚ flow_by market.now c row)) }
-    ensures small { IfSome result (HasBits 105) }
+/// A flow and a factor of a number besides, by the whole parts of both. So many of the factor are one.
+fn near_flow_with(own: i64, factor: i64, part: i64, one: u64) -> NearFlow
+    requires above { 0 < one }
+    requires most { one ≤ pickup_one }
+    ensures near { (f x : Fraction) → IsFloor f own → IsFloor x part → IsNearFlow (f +ℚ over factor one *ℚ x) result }
+    ensures modest { IsModest result }
 {
-    let own = near_product(FACTOR_ONE as i64, part_at(parts, row.line)?);
-    match row.cause {
-        Cause::Base => Some(own),
-        Cause::Branch(lost) => {
-            let over = near_product(loss_of(market, row.line, lost), part_at(parts, lost)?);
-            Some(near_sum(own, over))
-        }
-        Cause::UnitOutage(_) => None,
+    NearFlow {
+        parts: near_sum(near_product(one as i64, own), near_product(factor, part)),
+        one,
     }
 }
 
-/// A limit and so much more, in 10^-18 MW.
-fn most_flow(limit: i64, more: i64) -> i128
-    ensures is { result ≡ (limit +ℤ more) *ℤ pos factor_one }
-    ensures small { unsigned_abs result < 2 ^ 104 }
+/// The flow of a row, by the whole parts of what is carried. Nothing where one of them is missing.
+pub(crate) fn near_flow(market: &Market, parts: Option<&WholeParts>, row: Row) -> Option<NearFlow>
+    requires line { row.line < length market.now.lines }
+    requires lost { IsCauseOf market.now row.cause }
+    ensures near { (c : Carried) → IfSome parts.entry (λ parts. AreWholeParts market.now c parts.now) → IfSome result (IsNearFlow (flow_by market.now c row)) }
+    ensures modest { IfSome result IsModest }
 {
-    (i128::from(limit) + i128::from(more)) * i128::from(FACTOR_ONE)
+    let parts = parts?;
+    let own = part_at(&parts.carried, row.line)?;
+    match row.cause {
+        Cause::Base => Some(near_flow_with(own, 0, own, FACTOR_ONE)),
+        Cause::Branch(lost) => {
+            let gone = part_at(&parts.carried, lost)?;
+            let factor = loss_of(market, row.line, lost);
+            Some(near_flow_with(own, factor, gone, FACTOR_ONE))
+        }
+        Cause::UnitOutage(outage) => {
+            let gone = part_at(&parts.carried, market.lines().len() + outage)?;
+            let factor = pickup_at(parts, row.line, outage)?;
+            Some(near_flow_with(own, factor, gone, PICKUP_ONE))
+        }
+    }
 }
 
-/// Whether it is told that the size of a flow is at most a limit and so much more: these in 10^-9 MW, the flow in 10^-18 MW.
-pub(crate) fn is_within(flow: Near, limit: i64, more: i64) -> bool
-    requires { HasBits 105 flow }
-    ensures { (f : Fraction) → IsNear (whole (pos factor_one) *ℚ f) flow → IsTrue result → abs_ℚ f ≤ℚ (whole limit +ℚ whole more) }
+/// A limit and so much more, in parts of 10^-9 MW.
+fn most_flow(limit: i64, more: i64, one: u64) -> i128
+    requires { one ≤ pickup_one }
+    ensures is { result ≡ (limit +ℤ more) *ℤ pos one }
+    ensures small { unsigned_abs result ≤ 2 ^ 114 }
 {
-    let most = most_flow(limit, more);
-    flow.number <= most - flow.off && flow.off - most <= flow.number
+    (i128::from(limit) + i128::from(more)) * i128::from(one)
+}
+
+/// Whether it is told that the size of a flow is at most a limit and so much more, in 10^-9 MW.
+pub(crate) fn is_within(flow: NearFlow, limit: i64, more: i64) -> bool
+    requires { IsModest flow }
+    ensures { (f : Fraction) → IsNearFlow f flow → IsTrue result → abs_ℚ f ≤ℚ (whole limit +ℚ whole more) }
+{
+    let most = most_flow(limit, more, flow.one);
+    flow.parts.number <= most - flow.parts.off && flow.parts.off - most <= flow.parts.number
 }

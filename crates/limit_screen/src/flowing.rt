@@ -5,12 +5,11 @@ ghost use Rattle.market_model.specs.Dispatch.{Dispatch};
 ghost use Rattle.market_model.specs.PutIn.{AreInjections, carried_in, dispatch_of};
 ghost use Rattle.market_model.specs.Stops.{StopsBy};
 ghost use Rattle.market_model.specs.Valued.{passed_at};
-ghost use Rattle.limit_screen.specs.Bounds.{AreWholeParts};
 ghost use Rattle.limit_screen.specs.Flows.{carried_at, flows_at, IsFlowsRefusal};
 
 use exact_fraction::{Exact, Passed};
 use limit_rows::{put_line_flows, put_lost_outputs};
-use market_model::{Market, Memory, Stop, injections, zeros};
+use market_model::{Market, Stop, injections, zeros};
 use std::alloc::Global;
 
 /// What each bus puts in at a dispatch, then the flow of each line, and then the output of the unit of each outage of a unit, in 10^-9 MW.
@@ -59,23 +58,4 @@ pub fn carried_flows<'a, N: Exact>(market: &Market, flows: &'a [N]) -> &'a [N]
     ensures is { carried_in market.now (map N.value result.now) ≡ carried_at market.now (map N.value flows.now) }
 {
     &flows[market.buses().len()..]
-}
-
-/// The whole parts of what the network carries, in its order, where 64 bits hold them.
-pub fn whole_parts<N: Exact>(
-    alloc: Global,
-    market: &Market,
-    flows: &[N],
-) -> Result<Vec<Option<i64>>, Memory>
-    requires { length flows.now ≡ length market.now.buses + length market.now.lines + length market.now.unit_outages }
-    ensures { IfOk result (λ parts. AreWholeParts market.now (carried_at market.now (map N.value flows.now)) parts.items) }
-{
-    let mut parts = Vec::new(alloc);
-    for number in carried_flows(market, flows) {
-        match parts.push(number.floor()) {
-            Ok(()) => {}
-            Err(_) => return Err(Memory),
-        }
-    }
-    Ok(parts)
 }

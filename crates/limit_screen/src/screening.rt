@@ -1,6 +1,6 @@
 //! Which limit flows pass by the most.
 
-ghost use Rattle.std.specs.Prelude.{◌≡◌, ◌+◌, ◌≤ℤ◌, ℤ, pos, List, [], ◌∷◌, ◌++◌, length, map, Contains, IfOk, IfErr, MatchBool, MatchOption, IsTrue};
+ghost use Rattle.std.specs.Prelude.{◌≡◌, ◌+◌, ◌≤ℤ◌, ℤ, pos, List, [], ◌∷◌, ◌++◌, length, map, Contains, IfOk, IfErr, IfSome, MatchBool, MatchOption, IsTrue};
 ghost use Rattle.fraction_theory.specs.Fraction.{Fraction, ◌-ℚ◌, whole};
 ghost use Rattle.fraction_theory.specs.Order.{◌<ℚ◌, ◌≤ℚ◌};
 ghost use Rattle.fraction_theory.specs.Signs.{abs_ℚ};
@@ -17,6 +17,7 @@ ghost use Rattle.limit_screen.specs.Screening.{AllKeep, AreNamesOf, AreTaken, Is
 
 use crate::bounds::{is_within, near_flow};
 use crate::flowing::carried_flows;
+use crate::parts::WholeParts;
 use crate::taking::{Taken, is_taken};
 use exact_fraction::{Exact, Passed, exact_difference, size};
 use limit_rows::{excess_at, limit_at, name_at, row_flow, rows};
@@ -127,9 +128,9 @@ fn least_overrun<N: Exact>(worst: Option<RowOverrun<N>>) -> i64
 }
 
 /// Whether whole parts of what is carried tell that a row passes its limit by no more than this, in 10^-9 MW.
-fn is_told_within(market: &Market, parts: &[Option<i64>], row: Row, most: i64) -> bool
+fn is_told_within(market: &Market, parts: Option<&WholeParts>, row: Row, most: i64) -> bool
     requires { Contains (rows market.now) row }
-    ensures { (c : Carried) → AreWholeParts market.now c parts.now → IsTrue result → overrun_of market.now row (flow_by market.now c row) ≤ℚ whole most }
+    ensures { (c : Carried) → IfSome parts.entry (λ parts. AreWholeParts market.now c parts.now) → IsTrue result → overrun_of market.now row (flow_by market.now c row) ≤ℚ whole most }
 {
     let _lines = market.lines();
     match near_flow(market, parts, row) {
@@ -142,13 +143,13 @@ fn is_told_within(market: &Market, parts: &[Option<i64>], row: Row, most: i64) -
 fn with_row_by_parts<N: Exact>(
     market: &Market,
     flows: &[N],
-    parts: &[Option<i64>],
+    parts: Option<&WholeParts>,
     taken: Taken<'_>,
     row: Row,
     worst: Option<RowOverrun<N>>,
 ) -> Result<Option<RowOverrun<N>>, Passed<N>>
     requires flows { length flows.now ≡ length market.now.buses + length market.now.lines + length market.now.unit_outages }
-    requires parts { AreWholeParts market.now (carried_at market.now (map N.value flows.now)) parts.now }
+    requires parts { IfSome parts (λ parts. AreWholeParts market.now (carried_at market.now (map N.value flows.now)) parts.now) }
     requires row { Contains (rows market.now) row }
     ensures worst { (g rs : List Row) → AreTaken market.now g taken.entry → IsWorstOf N.value market.now g (flow_by market.now (carried_at market.now (map N.value flows.now))) rs worst
         → IfOk result (IsWorstOf N.value market.now g (flow_by market.now (carried_at market.now (map N.value flows.now))) (rs ++ row ∷ [])) }
@@ -166,10 +167,10 @@ fn with_row_by_parts<N: Exact>(
 fn worst_taken<N: Exact>(
     market: &Market,
     flows: &[N],
-    parts: &[Option<i64>],
+    parts: Option<&WholeParts>,
     taken: Taken<'_>,
 ) -> Result<Option<Row>, Passed<N>>
-    requires parts { AreWholeParts market.now (carried_at market.now (map N.value flows.now)) parts.now }
+    requires parts { IfSome parts (λ parts. AreWholeParts market.now (carried_at market.now (map N.value flows.now)) parts.now) }
     requires flows { length flows.now ≡ length market.now.buses + length market.now.lines + length market.now.unit_outages }
     ensures worst { (g : List Row) → AreTaken market.now g taken.entry → IfOk result (λ worst. MatchOption worst (AllKeep market.now g (carried_at market.now (map N.value flows.now)))
         (IsWorstBy market.now g (carried_at market.now (map N.value flows.now)))) }
@@ -197,14 +198,14 @@ pub fn worst_row<N: Exact>(
     ensures worst { IfOk result (λ worst. MatchOption worst (AllKeep market.now taken.now (carried_at market.now (map N.value flows.now))) (IsWorstBy market.now taken.now (carried_at market.now (map N.value flows.now)))) }
     ensures cause { IfErr result (λ passed. IsScreenRefusal market.now (carried_at market.now (map N.value flows.now)) N.bound (passed_at N.value passed)) }
 {
-    worst_taken(market, flows, &[], Taken::Rows(taken))
+    worst_taken(market, flows, None, Taken::Rows(taken))
 }
 
 /// The same by the whole parts of what is carried too, as `whole_parts` gives them: by these most rows that keep their limits are told.
 pub fn worst_row_by_parts<N: Exact>(
     market: &Market,
     flows: &[N],
-    parts: &[Option<i64>],
+    parts: &WholeParts,
     taken: &[Row],
 ) -> Result<Option<Row>, Passed<N>>
     requires flows { length flows.now ≡ length market.now.buses + length market.now.lines + length market.now.unit_outages }
@@ -212,7 +213,7 @@ pub fn worst_row_by_parts<N: Exact>(
     ensures worst { IfOk result (λ worst. MatchOption worst (AllKeep market.now taken.now (carried_at market.now (map N.value flows.now))) (IsWorstBy market.now taken.now (carried_at market.now (map N.value flows.now)))) }
     ensures cause { IfErr result (λ passed. IsScreenRefusal market.now (carried_at market.now (map N.value flows.now)) N.bound (passed_at N.value passed)) }
 {
-    worst_taken(market, flows, parts, Taken::Rows(taken))
+    worst_taken(market, flows, Some(parts), Taken::Rows(taken))
 }
 
 /// The same by names.
@@ -228,7 +229,7 @@ pub fn worst<N: Exact>(
     ensures cause { IfErr result (λ passed. IsScreenRefusal market.now (carried_at market.now (map N.value flows.now)) N.bound (passed_at N.value passed)) }
 {
     let _lines = market.lines();
-    match worst_taken(market, flows, &[], Taken::Names(taken))? {
+    match worst_taken(market, flows, None, Taken::Names(taken))? {
         Some(row) => Ok(Some(name_at(market, row))),
         None => Ok(None),
     }
