@@ -12,7 +12,7 @@ use Rattle.fraction_theory.proofs.SignLaws.{abs_within}
 use Rattle.fraction_theory.proofs.SumLaws.{sum_by-same}
 use Rattle.fraction_theory.proofs.ListSums.{Contains-from_filter}
 use Rattle.network_theory.specs.Laws.{LawOfTheGuess, LawOfGuessedBounds}
-use Rattle.network_theory.specs.Networks.{Branch, Network, others, flow, leaving, entering, injection, balance}
+use Rattle.network_theory.specs.Networks.{Branch, Network, others, flow, leaving, entering, injection, net_outflow}
 use Rattle.network_theory.proofs.Factors.{times_size, flow_within}
 use Rattle.network_theory.proofs.Places.{other_place}
 use Rattle.network_theory.proofs.SignedSums.{sum_within}
@@ -37,7 +37,7 @@ within_size x most h =
 module _ (n : Network) (guess : ℕ → Fraction) (low high : Branch → Fraction)
     (bounds : (b : Branch) → Contains n.branches b → (low b ≤ℚ flow guess b) × (flow guess b ≤ℚ high b)) where
   -- what a bus puts in is within what the bounds leave possible
-  possible : (i : ℕ) → (balance n low high i ≤ℚ injection n guess i) × (injection n guess i ≤ℚ balance n high low i)
+  possible : (i : ℕ) → (net_outflow n low high i ≤ℚ injection n guess i) × (injection n guess i ≤ℚ net_outflow n high low i)
   unfolding leaving entering
   possible i =
       let out = filter (λ (b : Branch). b.from == i) n.branches in
@@ -51,11 +51,11 @@ module _ (n : Network) (guess : ℕ → Fraction) (low high : Branch → Fractio
             NonNeg-one (sum_within low (flow guess) into (λ b c. (into_bounds b c).0)) refl,
       )
 
-  off_within : (wanted error : Fraction) (i : ℕ) → ((wanted -ℚ error) ≤ℚ balance n low high i) × (balance n high low i ≤ℚ (wanted +ℚ error))
+  off_within : (wanted error : Fraction) (i : ℕ) → ((wanted -ℚ error) ≤ℚ net_outflow n low high i) × (net_outflow n high low i ≤ℚ (wanted +ℚ error))
       → abs_ℚ (injection n guess i -ℚ wanted) ≤ℚ error
   off_within wanted error i h =
       let possible_is = possible i in
-      let vs = injection n guess i ∷ wanted ∷ error ∷ balance n low high i ∷ balance n high low i ∷ [] in
+      let vs = injection n guess i ∷ wanted ∷ error ∷ net_outflow n low high i ∷ net_outflow n high low i ∷ [] in
       abs_within (injection n guess i -ℚ wanted) error
       (by_le2 vs (pneg (at 2)) (at 0 ⊕ pneg (at 1)) pone (at 1 ⊕ pneg (at 2)) (at 3) pone (at 3) (at 0) NonNeg-one h.0 NonNeg-one possible_is.0 refl)
       (by_le2 vs (at 0 ⊕ pneg (at 1)) (at 2) pone (at 0) (at 4) pone (at 4) (at 1 ⊕ at 2) NonNeg-one possible_is.1 NonNeg-one h.1 refl)

@@ -7,7 +7,7 @@ use Rattle.fraction_theory.specs.Fraction.{Fraction, whole, ◌+ℚ◌, ◌-ℚ�
 use Rattle.fraction_theory.specs.Order.{◌≤ℚ◌, ◌<ℚ◌}
 use Rattle.fraction_theory.specs.Signs.{abs_ℚ}
 use Rattle.fraction_theory.specs.Sums.{sum_by}
-use Rattle.network_theory.specs.Networks.{Branch, Network, places, others, IsNetwork, flow, injection, balance, AreJoined, IsConnected, IsSolution, IsTransfer, StandsAt, without, moved, outage_factor}
+use Rattle.network_theory.specs.Networks.{Branch, Network, places, others, IsNetwork, flow, injection, net_outflow, AreJoined, IsConnected, IsSolution, IsTransfer, StandsAt, without, moved, outage_factor}
 
 -- where no bus but the reference has an injection below 0, no angle is below that of the reference
 abbrev pub LawOfTheLeastAngle : Type 0
@@ -69,7 +69,7 @@ abbrev pub LawOfGuessedBounds : Type 0
 LawOfGuessedBounds = (n : Network) (reference : ℕ) (angle guess : ℕ → Fraction) (low high : Branch → Fraction) (error : ℕ → Fraction) → IsNetwork n
     → ((b : Branch) → Contains n.branches b → (low b ≤ℚ flow guess b) × (flow guess b ≤ℚ high b))
     → ((i : ℕ) → i < n.buses → ¬ (i ≡ reference)
-    → ((injection n angle i -ℚ error i) ≤ℚ balance n low high i) × (balance n high low i ≤ℚ (injection n angle i +ℚ error i)))
+    → ((injection n angle i -ℚ error i) ≤ℚ net_outflow n low high i) × (net_outflow n high low i ≤ℚ (injection n angle i +ℚ error i)))
     → (b : Branch) → Contains n.branches b
     → ((low b -ℚ sum_by error (others n reference)) ≤ℚ flow angle b) × (flow angle b ≤ℚ (high b +ℚ sum_by error (others n reference)))
 

@@ -48,8 +48,8 @@ abbrev pub injection : Network → (ℕ → Fraction) → ℕ → Fraction
 injection n angle i = leaving n angle i -ℚ entering n angle i
 
 -- the same by two other numbers of each branch: what leaves by the one less what enters by the other
-abbrev pub balance : Network → (Branch → Fraction) → (Branch → Fraction) → ℕ → Fraction
-balance n leaves enters i = sum_by leaves (filter (λ b. b.from == i) n.branches) -ℚ sum_by enters (filter (λ b. b.to == i) n.branches)
+abbrev pub net_outflow : Network → (Branch → Fraction) → (Branch → Fraction) → ℕ → Fraction
+net_outflow n leaves enters i = sum_by leaves (filter (λ b. b.from == i) n.branches) -ℚ sum_by enters (filter (λ b. b.to == i) n.branches)
 
 -- ---- which buses are joined
 -- a branch has the one place at one end and the other place at the other, either way round
