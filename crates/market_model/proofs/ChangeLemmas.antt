@@ -14,7 +14,7 @@ use Rattle.market_model.specs.declared.participants.Line.{Line}
 use Rattle.market_model.specs.declared.participants.Parts.{Parts}
 use Rattle.market_model.specs.declared.participants.Side.{Side}
 use Rattle.market_model.specs.declared.participants.Side.TheVariants.{Sell, Buy}
-use Rattle.market_model.specs.Changes.{with_price, with_quantity, with_demand, with_limit, line_with}
+use Rattle.market_model.specs.Changes.{with_price, with_quantity, with_demand, with_limit, with_need, line_with}
 use Rattle.market_model.specs.Dispatch.{bus_at, unit_at, block_at, line_at}
 use Rattle.market_model.specs.Market.{IsMarket, IsBlock, IsLine, AreTableFactors, HasRoom}
 use Rattle.market_model.specs.Stairs.{same_side, is_on_stair, stair_in, offered, room_of}
@@ -228,3 +228,33 @@ pub put_limit : (m : Parts) (l : ℕ) (post : Bool) (mw : ℤ) (old : Line) (lin
 put_limit m l post mw old lines at is =
     ap (λ (ls : List Line). record m { lines = ls })
     (is ∙ ap (λ (k : Line). slice_set m.lines l (line_with k post mw)) (sym (get_or_from_slice_get m.lines l old (hard_line 0 None None (pos 0)) at)))
+
+-- a need at least 0, where reserve is listed
+pub kept_need : (m : Parts) → IsMarket m → (mw : ℤ) → m.reserve.listed ≡ true → pos 0 ≤ℤ mw → IsMarket (with_need m mw)
+kept_need m market mw listed least = record {
+  bus_count = market.bus_count;
+  unit_count = market.unit_count;
+  block_count = market.block_count;
+  line_count = market.line_count;
+  outage_count = market.outage_count;
+  buses = market.buses;
+  bus_numbers = market.bus_numbers;
+  units = market.units;
+  unit_rows = market.unit_rows;
+  blocks = market.blocks;
+  room = market.room;
+  lines = market.lines;
+  line_rows = market.line_rows;
+  outages = market.outages;
+  outages_distinct = market.outages_distinct;
+  shift = market.shift;
+  loss = market.loss;
+  unit_outages = market.unit_outages;
+  reserve = record {
+    count = market.reserve.count;
+    each = market.reserve.each;
+    distinct = market.reserve.distinct;
+    need = least;
+    unlisted = λ none. let clash : true ≡ false = sym listed ∙ none in absurd Prim.cc;
+  };
+}

@@ -2,12 +2,12 @@
 
 use crate::factor_table::{listed_factor, loss_table, table_of};
 use crate::outages::{lost_lines, outage_index, place_of_line};
-use crate::{Block, Bus, FactorPlaces, Line, Parts, Pickup, Unit};
+use crate::{Block, Bus, FactorPlaces, Line, Parts, Pickup, Reserve, Unit};
 use plain_list::{List, Memory};
 use std::alloc::Global;
 use std::marker::Model;
 
-/// The market of one interval. It is of energy alone for now: no reserve is cleared.
+/// The market of one interval: energy, and spinning reserve where that is cleared together with it.
 #[derive(Drop, Debug)]
 pub struct Market {
     parts: Parts,
@@ -27,31 +27,28 @@ impl Model for Market {
     ghost use Rattle.market_model.specs.Factors.{factor_in, IsTable};
     ghost use Rattle.market_model.specs.LostLines.{AreLostLines};
     ghost use Rattle.market_model.specs.Market.{IsMarket};
-    ghost use Rattle.market_model.specs.Reserves.{no_reserve};
 
     ghost Value = { Parts };
 
     ghost view = { λ m. m.parts };
 
-    ghost invariant = { λ m. IsMarket m.parts × IsTable (length m.parts.lines) (length m.parts.buses) (factor_in m.parts.shift) m.shift.items × AreLostLines m.parts m.lost m.index.items m.loss.items × (m.parts.reserve ≡ no_reserve) };
+    ghost invariant = { λ m. IsMarket m.parts × IsTable (length m.parts.lines) (length m.parts.buses) (factor_in m.parts.shift) m.shift.items × AreLostLines m.parts m.lost m.index.items m.loss.items };
 }
 
 impl Market {
     ghost use Rattle.std.specs.Prelude.{◌≡◌, ◌<◌, pos, ◌≤ℤ◌, length, true, is_some};
     ghost use Rattle.market_data.specs.Participants.{IsDatum};
-    ghost use Rattle.market_model.specs.Changes.{with_price, with_quantity, with_demand, with_limit};
+    ghost use Rattle.market_model.specs.Changes.{with_price, with_quantity, with_demand, with_limit, with_need};
     ghost use Rattle.market_model.specs.Dispatch.{unit_at, block_at, line_at};
     ghost use Rattle.market_model.specs.Factors.{factor_in};
     ghost use Rattle.market_model.specs.LimitRows.{limit_of, lost_lines, place_of_line};
     ghost use Rattle.market_model.specs.Market.{IsMarket};
-    ghost use Rattle.market_model.specs.Reserves.{no_reserve};
     ghost use Rattle.market_model.specs.Stairs.{stair_in, offered, room_of};
 
     /// The live buses, in the order in which they were given.
     pub fn buses(&self) -> &List<Bus>
         ensures list { result.now ≡ self.now.buses }
         ensures market { IsMarket self.now }
-        ensures energy_alone { self.now.reserve ≡ no_reserve }
     {
         &self.parts.buses
     }
@@ -60,7 +57,6 @@ impl Market {
     pub fn units(&self) -> &List<Unit>
         ensures list { result.now ≡ self.now.units }
         ensures market { IsMarket self.now }
-        ensures energy_alone { self.now.reserve ≡ no_reserve }
     {
         &self.parts.units
     }
@@ -69,7 +65,6 @@ impl Market {
     pub fn blocks(&self) -> &List<Block>
         ensures list { result.now ≡ self.now.blocks }
         ensures market { IsMarket self.now }
-        ensures energy_alone { self.now.reserve ≡ no_reserve }
     {
         &self.parts.blocks
     }
@@ -78,7 +73,6 @@ impl Market {
     pub fn lines(&self) -> &List<Line>
         ensures list { result.now ≡ self.now.lines }
         ensures market { IsMarket self.now }
-        ensures energy_alone { self.now.reserve ≡ no_reserve }
     {
         &self.parts.lines
     }
@@ -87,7 +81,6 @@ impl Market {
     pub fn outages(&self) -> &List<u32>
         ensures list { result.now ≡ self.now.outages }
         ensures market { IsMarket self.now }
-        ensures energy_alone { self.now.reserve ≡ no_reserve }
     {
         &self.parts.outages
     }
@@ -96,7 +89,6 @@ impl Market {
     pub fn lost_lines(&self) -> &List<usize>
         ensures list { result.now ≡ lost_lines self.now }
         ensures market { IsMarket self.now }
-        ensures energy_alone { self.now.reserve ≡ no_reserve }
     {
         &self.lost
     }
@@ -105,7 +97,6 @@ impl Market {
     pub fn unit_outages(&self) -> &List<usize>
         ensures list { result.now ≡ self.now.unit_outages }
         ensures market { IsMarket self.now }
-        ensures energy_alone { self.now.reserve ≡ no_reserve }
     {
         &self.parts.unit_outages
     }
@@ -114,9 +105,16 @@ impl Market {
     pub fn pickups(&self) -> &List<Pickup>
         ensures list { result.now ≡ self.now.pickups }
         ensures market { IsMarket self.now }
-        ensures energy_alone { self.now.reserve ≡ no_reserve }
     {
         &self.parts.pickups
+    }
+
+    /// What units offer of spinning reserve, in the order in which that was given, and how much is needed.
+    pub fn reserve(&self) -> &Reserve
+        ensures reserve { result.now ≡ self.now.reserve }
+        ensures market { IsMarket self.now }
+    {
+        &self.parts.reserve
     }
 
     /// How many decimal places a factor in the tables may have.
@@ -202,12 +200,20 @@ impl Market {
         let old = *self.parts.lines.at(line);
         self.parts.lines.set(line, limited(old, post, mw));
     }
+
+    /// Sets the need of reserve, in 10^-9 MW, where reserve is cleared together with energy.
+    pub fn set_need(&mut self, mw: i64)
+        requires listed { self.old.reserve.listed ≡ true }
+        requires least { pos 0 ≤ℤ mw }
+        ensures { self.new ≡ with_need self.old mw }
+    {
+        self.parts.reserve.need = mw;
+    }
 }
 
 ghost use Rattle.std.specs.Prelude.{◌≡◌, IfOk};
 ghost use Rattle.market_model.specs.Changes.{line_with};
 ghost use Rattle.market_model.specs.Market.{IsMarket};
-ghost use Rattle.market_model.specs.Reserves.{no_reserve};
 
 /// A line with another limit.
 fn limited(line: Line, post: bool, mw: i64) -> Line
@@ -228,7 +234,7 @@ fn limited(line: Line, post: bool, mw: i64) -> Line
 
 /// The market of these parts. They are dropped where memory is refused.
 pub fn assemble(alloc: Global, parts: Parts) -> Result<Market, Memory>
-    requires { IsMarket parts × (parts.reserve ≡ no_reserve) }
+    requires { IsMarket parts }
     ensures { IfOk result (λ m. m ≡ parts) }
 {
     let lines = parts.lines.len();

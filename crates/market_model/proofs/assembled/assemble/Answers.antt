@@ -10,7 +10,7 @@ lost_is c = c.slice-2.ensures ∙ c.in_ok-lost.ensures
 pub outage_index-requires-clause-inside : goal.outage_index-requires-clause-inside
 outage_index-requires-clause-inside c =
     subst (λ (n : ℕ). All (λ line. line < n) c.slice-2.result.now) (sym c.len-lines.ensures)
-    (subst (All (λ line. line < length c.args.parts.lines)) (sym (lost_is c)) (lost_inside c.args.parts c.requires.0))
+    (subst (All (λ line. line < length c.args.parts.lines)) (sym (lost_is c)) (lost_inside c.args.parts c.requires))
 
 pub outage_index-requires-clause-distinct : goal.outage_index-requires-clause-distinct
-outage_index-requires-clause-distinct c = subst (AllPairs (λ a b. a ≢ b)) (sym (lost_is c)) (lost_distinct c.args.parts c.requires.0)
+outage_index-requires-clause-distinct c = subst (AllPairs (λ a b. a ≢ b)) (sym (lost_is c)) (lost_distinct c.args.parts c.requires)

@@ -24,7 +24,6 @@ invariant_of-self c =
           (subst (λ (m : Parts). c.args.bus < length m.buses) (sym c.self.view_is) c.requires.bus) c.requires.load),
       subst (λ (n : ℕ). IsTable (length c.self.inside.parts.lines) n (factor_in c.self.inside.parts.shift) c.self.inside.shift.items) long c.self.invariant.1,
       record { lines = c.self.invariant.2.lines; index = c.self.invariant.2.index; factors = c.self.invariant.2.factors },
-      c.self.invariant.3,
     )
 
 pub returns : goal.returns

@@ -25,7 +25,6 @@ invariant_of-self c =
       subst (λ (n : ℕ). IsTable n (length c.self.inside.parts.buses) (factor_in c.self.inside.parts.shift) c.self.inside.shift.items) long c.self.invariant.1,
       subst (λ (m : Parts). AreLostLines m c.self.inside.lost c.self.inside.index.items c.self.inside.loss.items) (sym (changed c))
           (lost_kept c.self.inside.parts c.args.line c.args.post c.args.mw c.self.inside.lost c.self.inside.index.items c.self.inside.loss.items c.self.invariant.2),
-      c.self.invariant.3,
     )
 
 pub returns : goal.returns

@@ -21,7 +21,6 @@ invariant_of-self c = (
       (subst (λ (m : Parts). c.args.block < length m.blocks) (sym c.self.view_is) c.requires.block) c.requires.price),
   c.self.invariant.1,
   record { lines = c.self.invariant.2.lines; index = c.self.invariant.2.index; factors = c.self.invariant.2.factors },
-  c.self.invariant.3,
 )
 
 pub returns : goal.returns

@@ -25,7 +25,6 @@ invariant_of-self c = (
       (subst (λ (m : Parts). offered (stair_in (block_at m c.args.block).unit (block_at m c.args.block).side (with_quantity m c.args.block c.args.mw).blocks) ≤ℤ room_of (block_at m c.args.block).side (unit_at m (block_at m c.args.block).unit)) (sym c.self.view_is) c.requires.room)),
   c.self.invariant.1,
   record { lines = c.self.invariant.2.lines; index = c.self.invariant.2.index; factors = c.self.invariant.2.factors },
-  c.self.invariant.3,
 )
 
 pub returns : goal.returns
