@@ -21,7 +21,7 @@ returns-in_err-prices-clause-cause g c = λ rows solution.
     let p = err_from_is_err_and c.from_residual.result c.from_residual.ensures.1 in
     let given : c.from_residual.result ≡ Err c.in_err-prices.field-0.0 = p.1 ∙ ap Err p.2 in
     rw given
-    (price_stop g.N.Exact.value g.N.Exact.bound c.args.market.now rows (dispatch_of g.N.Exact.value c.args.dispatch) (duals_at g.N.Exact.value c.args.duals) c.lines-lines.ensures.market solution.solved c.lines-lines.ensures.energy_alone solution.kept
+    (price_stop g.N.Exact.value g.N.Exact.bound c.args.market.now rows (dispatch_of g.N.Exact.value c.args.dispatch) (duals_at g.N.Exact.value c.args.duals) c.lines-lines.ensures.market solution.solved (c.lines-lines.ensures.market.reserve.unlisted c.requires.energy_alone) solution.kept
     c.in_err-prices.field-0.0 c.in_err-prices.ensures.cause)
 
 pub returns-in_err-welfare-clause-cause : goal.returns-in_err-welfare-clause-cause
@@ -31,7 +31,7 @@ returns-in_err-welfare-clause-cause g c = λ rows solution.
     let p = err_from_is_err_and c.from_residual-in_err-welfare.result c.from_residual-in_err-welfare.ensures.1 in
     let given : c.from_residual-in_err-welfare.result ≡ Err (stop.Passed c.in_err-welfare.field-0.0) = p.1 ∙ ap Err p.2 in
     rw given
-    (welfare_range m rows (dispatch_of value c.args.dispatch) (duals_at value c.args.duals) c.lines-lines.ensures.market solution.solved g.N.Exact.bound (passed_at value c.in_err-welfare.field-0.0) c.lines-lines.ensures.energy_alone solution.kept
+    (welfare_range m rows (dispatch_of value c.args.dispatch) (duals_at value c.args.duals) c.lines-lines.ensures.market solution.solved g.N.Exact.bound (passed_at value c.in_err-welfare.field-0.0) (c.lines-lines.ensures.market.reserve.unlisted c.requires.energy_alone) solution.kept
     (subst (λ xs. IsWelfareRefusal m (dispatch_of value xs) g.N.Exact.bound (passed_at value c.in_err-welfare.field-0.0)) c.slice.ensures c.in_err-welfare.ensures.cause))
 
 pub welfare-requires-clause-flows : goal.welfare-requires-clause-flows
@@ -49,7 +49,7 @@ returns-in_err-money-clause-cause g c = λ rows solution.
     let p = err_from_is_err_and c.from_residual-in_err-money.result c.from_residual-in_err-money.ensures.1 in
     let given : c.from_residual-in_err-money.result ≡ Err stop = p.1 ∙ ap Err p.2 in
     rw given
-    (money_stop value g.N.Exact.bound m rows (dispatch_of value c.args.dispatch) d c.lines-lines.ensures.market solution.solved c.lines-lines.ensures.energy_alone solution.kept (total_at value c.in_ok-prices.prices)
+    (money_stop value g.N.Exact.bound m rows (dispatch_of value c.args.dispatch) d c.lines-lines.ensures.market solution.solved (c.lines-lines.ensures.market.reserve.unlisted c.requires.energy_alone) solution.kept (total_at value c.in_ok-prices.prices)
     (prices_of value m d c.in_ok-prices.prices c.in_ok-prices.ensures.prices) stop
     (subst (λ xs. IsMoneyStop value g.N.Exact.bound m (dispatch_of value xs) (total_at value c.in_ok-prices.prices) d stop) c.slice-2.ensures
     (subst (λ ps. IsMoneyStop value g.N.Exact.bound m (dispatch_of value c.slice-2.result.now) (total_at value ps) d stop) c.slice-3.ensures c.in_err-money.ensures.cause)))
@@ -62,7 +62,7 @@ returns-clause-fits g c =
       dispatch = dispatch_count value m c.requires.solved.0 c.args.dispatch (duals_at value c.args.duals) c.requires.solved.1.solved;
       prices = price_count value m (duals_at value c.args.duals) c.in_ok-prices.prices c.in_ok-prices.ensures.prices;
       money = c.in_ok-money.ensures.fits;
-      reserve = ap length c.new.ensures ∙ sym (ap length (no_offers m c.lines-lines.ensures.energy_alone));
+      reserve = ap length c.new.ensures ∙ sym (ap length (no_offers m (c.lines-lines.ensures.market.reserve.unlisted c.requires.energy_alone)));
     }
 
 pub returns-clause-right : goal.returns-clause-right
@@ -76,7 +76,7 @@ returns-clause-right g c =
     let solved = c.requires.solved.1.solved in
     let kept = c.requires.solved.1.kept in
     right_answer value m c.args.dispatch c.new.result c.args.duals c.in_ok-prices.prices c.in_ok-welfare.welfare c.in_ok-money.money c.new.ensures law_of_right_money market
-    (kept_feasible m market c.lines-lines.ensures.energy_alone rows x (best_for m rows x d market solved) kept) (supports m rows x d market solved kept) (proper m rows x d market solved) c.in_ok-prices.ensures.prices
+    (kept_feasible m market (c.lines-lines.ensures.market.reserve.unlisted c.requires.energy_alone) rows x (best_for m rows x d market solved) kept) (supports m rows x d market solved kept) (proper m rows x d market solved) c.in_ok-prices.ensures.prices
     (c.in_ok-welfare.ensures.worth ∙ ap (λ xs. welfare m (dispatch_of value xs)) c.slice.ensures)
     (subst (λ xs. money_at value c.in_ok-money.money ≡ settlement_at m (dispatch_of value xs) (total_at value c.in_ok-prices.prices) d) c.slice-2.ensures
     (subst (λ ps. money_at value c.in_ok-money.money ≡ settlement_at m (dispatch_of value c.slice-2.result.now) (total_at value ps) d) c.slice-3.ensures c.in_ok-money.ensures.money))
