@@ -63,18 +63,20 @@ pub(crate) fn answer_of<N: Exact>(
 {
     let _lines = market.lines();
     let prices = bus_prices(alloc, market, &duals)?;
-    let welfare = welfare(market, dispatch.slice(), flows)?;
+    let reserve: List<N> = List::new(alloc);
+    let welfare = welfare(market, dispatch.slice(), reserve.slice(), flows)?;
     let money = settle_flows(
         alloc,
         market,
         dispatch.slice(),
+        reserve.slice(),
         flows,
         prices.slice(),
         &duals,
     )?;
     Ok(Answer {
         dispatch,
-        reserve: List::new(alloc),
+        reserve,
         duals,
         prices,
         welfare,
