@@ -82,6 +82,7 @@ fn is_priced_and_settled<N: Exact + Debug>(
         alloc,
         market,
         dispatch,
+        answer.reserve.slice(),
         answer.prices.slice(),
         &answer.duals,
     )?;
