@@ -49,9 +49,12 @@ says r col word = bytes_eq (cell_of r col) word
 abbrev pub is_empty : Record → ℕ → Bool
 is_empty r col = length (cell_of r col) == 0
 
--- a record of its first word alone
+-- a record of its first word and its number, and one of its first word alone
+abbrev pub is_plain : Record → Bool
+is_plain r = is_empty r target && is_empty r side && is_empty r block
+
 abbrev pub is_bare : Record → Bool
-is_bare r = is_empty r target && is_empty r side && is_empty r block && is_empty r value
+is_bare r = is_plain r && is_empty r value
 
 -- the side of an offer
 unfoldable pub side_in : Record → Option Side
@@ -68,6 +71,7 @@ form_in r =
     else if says r op (codes "quantity") then option_map (λ s. form.Quantity s) (side_in r)
     else if says r op (codes "demand") && is_empty r side && is_empty r block then Some form.Demand
     else if says r op (codes "limit") && is_empty r block then option_map (λ post. form.Limit post) (post_in r)
+    else if says r op (codes "need") && is_plain r then Some form.Need
     else if says r op (codes "clear") && is_bare r then Some form.Clear
     else None
 
@@ -96,6 +100,7 @@ numbers_in line r (form.Limit post) =
     and_then (number line r target 0) (λ branch.
     and_then (number line r value mw_places) (λ mw.
     Ok (step.Edit (edit.Limit branch post mw))))
+numbers_in line r form.Need = and_then (number line r value mw_places) (λ mw. Ok (step.Edit (edit.Need mw)))
 numbers_in line r form.Clear = Ok step.Clear
 
 -- a record's words first, then its numbers

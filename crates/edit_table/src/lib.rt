@@ -3,7 +3,7 @@
 
 ghost use Rattle.std.specs.Prelude.{◌≡◌, ◌≢◌, ◌+◌, ◌<◌, ◌≤◌, ◌^◌, length, get_or, [], Ok, Err, IfOk};
 ghost use Rattle.record_reading.specs.Rows.{read_rows};
-ghost use Rattle.edit_table.specs.EditTable.{AreSteps, IsStep, form_in, is_bare, is_empty, most_steps, numbers_in, post_in, side_in, step_in, steps_of_table};
+ghost use Rattle.edit_table.specs.EditTable.{AreSteps, IsStep, form_in, is_bare, is_empty, is_plain, most_steps, numbers_in, post_in, side_in, step_in, steps_of_table};
 ghost use Rattle.edit_table.specs.declared.Form.TheVariants as form;
 
 use csv_table::{Table, read_table};
@@ -81,6 +81,7 @@ enum Form {
     Quantity(Side),
     Demand,
     Limit { post: bool },
+    Need,
     Clear,
 }
 
@@ -129,10 +130,17 @@ fn is_bare(table: &Table, place: usize) -> bool
     requires { place < length table.now }
     ensures { result ≡ is_bare (get_or table.now place []) }
 {
+    is_plain(table, place) && is_empty(table, place, VALUE)
+}
+
+/// Whether a record has its first word and its number alone.
+fn is_plain(table: &Table, place: usize) -> bool
+    requires { place < length table.now }
+    ensures { result ≡ is_plain (get_or table.now place []) }
+{
     is_empty(table, place, TARGET)
         && is_empty(table, place, SIDE)
         && is_empty(table, place, BLOCK)
-        && is_empty(table, place, VALUE)
 }
 
 /// What a record is, as its words say: the first cell names it, and those that it has no use for are empty.
@@ -156,6 +164,8 @@ fn form_of(table: &Table, place: usize) -> Option<Form>
     } else if op == b"limit".as_slice() && is_empty(table, place, BLOCK) {
         let post = post_of(table, place)?;
         Some(Form::Limit { post })
+    } else if op == b"need".as_slice() && is_plain(table, place) {
+        Some(Form::Need)
     } else if op == b"clear".as_slice() && is_bare(table, place) {
         Some(Form::Clear)
     } else {
@@ -223,6 +233,17 @@ fn limit_step(table: &Table, place: usize, post: bool) -> Result<Step, StepFault
     Ok(Step::Edit(Edit::Limit { branch, post, mw }))
 }
 
+/// The step of a new need of reserve.
+#[tactic(auto, unfolding(crate::specs::EditTable::numbers_in))]
+fn need_step(table: &Table, place: usize) -> Result<Step, StepFault>
+    requires { (place < length table.now) × (place + 2 < 2 ^ 64) }
+    ensures kept { IfOk result IsStep }
+    ensures is { result ≡ numbers_in (place + 2) (get_or table.now place []) form.Need }
+{
+    let mw = table.number(place, VALUE, MW_PLACES)?;
+    Ok(Step::Edit(Edit::Need { mw }))
+}
+
 /// The step of a record: its words first, then its numbers from left to right.
 #[tactic(auto, unfolding(crate::specs::EditTable::numbers_in, crate::specs::EditTable::step_in))]
 fn step_of(table: &Table, place: usize) -> Result<Step, StepFault>
@@ -235,6 +256,7 @@ fn step_of(table: &Table, place: usize) -> Result<Step, StepFault>
         Some(Form::Quantity(side)) => quantity_step(table, place, side),
         Some(Form::Demand) => demand_step(table, place),
         Some(Form::Limit { post }) => limit_step(table, place, post),
+        Some(Form::Need) => need_step(table, place),
         Some(Form::Clear) => Ok(Step::Clear),
         None => Err(StepFault::Word { line: place + 2 }),
     }
@@ -254,7 +276,7 @@ fn steps_of(alloc: Global, table: &Table) -> Result<Steps, StepFault>
     Ok(steps)
 }
 
-/// Reads a table of edits and clears. Prices are in 10^-6 per MWh, quantities, loads and limits in 10^-9 MW. Whether a step can be
+/// Reads a table of edits and clears. Prices are in 10^-6 per MWh, quantities, loads, limits and needs in 10^-9 MW. Whether a step can be
 /// done is asked when it is.
 pub fn steps(alloc: Global, bytes: &[u8]) -> Result<Steps, StepFault>
     ensures kept { IfOk result AreSteps }

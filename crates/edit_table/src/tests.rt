@@ -9,7 +9,7 @@ use std::test::Fail;
 #[test]
 fn reads_each_step(rt: HostRuntime) -> Result<(), Fail> {
     let table =
-        b"op,target,side,block,value\nprice,1,sell,2,20.5\r\nquantity,3,buy,1,-4e1\ndemand,3,,,40\nlimit,2,base,,0\nlimit,2,post,,\"45\"\nclear,,,,\n";
+        b"op,target,side,block,value\nprice,1,sell,2,20.5\r\nquantity,3,buy,1,-4e1\ndemand,3,,,40\nlimit,2,base,,0\nlimit,2,post,,\"45\"\nneed,,,,60\nclear,,,,\n";
     let steps = steps(rt.alloc(), table)?;
     let want = [
         Step::Edit(Edit::Price {
@@ -38,6 +38,7 @@ fn reads_each_step(rt: HostRuntime) -> Result<(), Fail> {
             post: true,
             mw: 45_000_000_000,
         }),
+        Step::Edit(Edit::Need { mw: 60_000_000_000 }),
         Step::Clear,
     ];
     assert_eq!(rt; steps.slice(), want.as_slice());

@@ -16,7 +16,7 @@ use Rattle.market_model.specs.declared.participants.Block.{Block}
 use Rattle.market_model.specs.declared.participants.Parts.{Parts}
 use Rattle.market_model.specs.declared.participants.Side.{Side}
 use Rattle.market_model.specs.declared.participants.Side.TheVariants.{Sell, Buy}
-use Rattle.market_model.specs.Changes.{with_price, with_quantity, with_demand, with_limit}
+use Rattle.market_model.specs.Changes.{with_price, with_quantity, with_demand, with_limit, with_need}
 use Rattle.market_model.specs.Dispatch.{places, unit_at, block_at}
 use Rattle.market_model.specs.Market.{IsMarket}
 use Rattle.market_model.specs.Stairs.{same_side, is_on_stair, stair_in}
@@ -283,6 +283,12 @@ module _ (m : Parts) (market : IsMarket m) where
       by None negative = curves
       by (Some l) true = curves
       by (Some l) false = curves
+  edit_curves curves (edit.Need mw) = by m.reserve.listed (lt_z mw (pos 0))
+    where
+      by : (listed negative : Bool) → HasOfferCurves (if is_some (if listed then (if negative then Some fault.Negative else None) else Some fault.NoReserve) then m else with_need m mw)
+      by false negative = curves
+      by true true = curves
+      by true false = curves
 
 pub law_of_offer_curves : LawOfOfferCurves
 law_of_offer_curves m e market curves = edit_curves m market curves e

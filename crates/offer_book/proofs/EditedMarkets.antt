@@ -9,9 +9,9 @@ use Rattle.std.proofs.lemmas.List.Quantifiers.{position-Some}
 use Rattle.market_data.specs.Participants.{IsDatum}
 use Rattle.market_model.specs.declared.participants.Parts.{Parts}
 use Rattle.market_model.specs.declared.participants.Side.{Side}
-use Rattle.market_model.specs.Changes.{with_price, with_quantity, with_demand, with_limit}
+use Rattle.market_model.specs.Changes.{with_price, with_quantity, with_demand, with_limit, with_need}
 use Rattle.market_model.specs.Market.{IsMarket}
-use Rattle.market_model.proofs.ChangeLemmas.{kept_price, kept_quantity, kept_demand, kept_limit}
+use Rattle.market_model.proofs.ChangeLemmas.{kept_price, kept_quantity, kept_demand, kept_limit, kept_need}
 use Rattle.offer_book.specs.declared.edit_parts.Edit.{Edit}
 use Rattle.offer_book.specs.declared.edit_parts.Edit.TheVariants as edit
 use Rattle.offer_book.specs.declared.edit_parts.EditFault.TheVariants as fault
@@ -119,6 +119,13 @@ module _ (m : Parts) (market : IsMarket m) where
       by None negative e f = market
       by (Some l) true e f = market
       by (Some l) false e f = kept_limit m market l post mw (limit_inside m row post l e) (not_below mw (pos 0) f)
+  stepped (edit.Need mw) datum = by m.reserve.listed (lt_z mw (pos 0)) refl refl
+    where
+      by : (listed negative : Bool) → m.reserve.listed ≡ listed → lt_z mw (pos 0) ≡ negative
+          → IsMarket (if is_some (if listed then (if negative then Some fault.Negative else None) else Some fault.NoReserve) then m else with_need m mw)
+      by false negative e f = market
+      by true true e f = market
+      by true false e f = kept_need m market mw e (not_below mw (pos 0) f)
 
 -- ---- edits
 pub law_of_edited_markets : LawOfEditedMarkets

@@ -79,6 +79,7 @@ changed_frame m (edit.Limit row post mw) = by (place_of_limit m row post) refl
     by : (o : Option ℕ) → place_of_limit m row post ≡ o → SameFrame m (option_map_or (λ l. with_limit m l post mw) o m)
     by None e = refl
     by (Some l) e = limit_frame m l post mw (limit_there m row post l e)
+changed_frame m (edit.Need mw) = refl
 
 pub law_of_the_edited_frame : LawOfTheEditedFrame
 law_of_the_edited_frame m e = by (is_some (judge m e))

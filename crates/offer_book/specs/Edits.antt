@@ -6,7 +6,7 @@ use Rattle.std.specs.Option.{option_map_or}
 use Rattle.std.specs.Ordering.{int_eq}
 use Rattle.market_model.specs.declared.participants.Parts.{Parts}
 use Rattle.market_model.specs.declared.participants.Side.{Side}
-use Rattle.market_model.specs.Changes.{with_price, with_quantity, with_demand, with_limit}
+use Rattle.market_model.specs.Changes.{with_price, with_quantity, with_demand, with_limit, with_need}
 use Rattle.market_model.specs.LimitRows.{limit_of}
 use Rattle.market_model.specs.Dispatch.{places, unit_at, block_at}
 use Rattle.market_model.specs.Stairs.{same_side, stair_in, offered, room_of}
@@ -22,6 +22,7 @@ number_of (edit.Price row side block price) = price
 number_of (edit.Quantity row side block mw) = mw
 number_of (edit.Demand bus mw) = mw
 number_of (edit.Limit branch post mw) = mw
+number_of (edit.Need mw) = mw
 
 -- ---- what an edit names
 -- a block of the unit of a gen row, on a side
@@ -78,6 +79,7 @@ judge m (edit.Limit row post mw) =
     if is_some (place_of_limit m row post)
     then (if lt_z mw (pos 0) then Some fault.Negative else None)
     else Some fault.NoLimit
+judge m (edit.Need mw) = if m.reserve.listed then (if lt_z mw (pos 0) then Some fault.Negative else None) else Some fault.NoReserve
 
 -- ---- what an edit changes
 -- the market with the number that an edit names changed
@@ -86,6 +88,7 @@ changed m (edit.Price row side number price) = option_map_or (λ j. with_price m
 changed m (edit.Quantity row side number mw) = option_map_or (λ j. with_quantity m j mw) (place_of_block m row side number) m
 changed m (edit.Demand number mw) = option_map_or (λ i. with_demand m i mw) (place_of_bus m number) m
 changed m (edit.Limit row post mw) = option_map_or (λ l. with_limit m l post mw) (place_of_limit m row post) m
+changed m (edit.Need mw) = with_need m mw
 
 -- the market after an edit: changed where it is accepted, and else as before
 abbrev pub step_of : Parts → Edit → Parts

@@ -31,6 +31,10 @@ pub enum Edit {
         post: bool,
         mw: i64,
     },
+    /// The need of spinning reserve, in 10^-9 MW.
+    Need {
+        mw: i64,
+    },
 }
 
 /// Why an edit is refused.
@@ -42,7 +46,9 @@ pub enum EditFault {
     NoBus,
     /// No live branch of that row has such a limit.
     NoLimit,
-    /// A quantity or a limit below 0.
+    /// No reserve is cleared with energy.
+    NoReserve,
+    /// A quantity, a limit or a need below 0.
     Negative,
     /// The stair breaks against the block before or after, whose price is this.
     OutOfOrder { other: i64 },

@@ -216,8 +216,23 @@ fn edit_limit(market: &mut Market, row: i64, post: bool, mw: i64) -> Result<(), 
     Ok(())
 }
 
+fn edit_need(market: &mut Market, mw: i64) -> Result<(), EditFault>
+    requires { IsDatum mw }
+    ensures judged { result ≡ answer (judge market.old (edit.Need mw)) }
+    ensures changed { market.new ≡ step_of market.old (edit.Need mw) }
+{
+    if !market.reserve().listed {
+        return Err(EditFault::NoReserve);
+    }
+    if mw < 0 {
+        return Err(EditFault::Negative);
+    }
+    market.set_need(mw);
+    Ok(())
+}
+
 /// Sets the one number that an edit names, or says why it is refused and changes nothing. The first cause is told, in this order: no
-/// such block, bus or limit; a negative number; a stair that breaks or a room that is exceeded. It takes no memory.
+/// such block, bus or limit, or no reserve; a negative number; a stair that breaks or a room that is exceeded. It takes no memory.
 pub fn edit(market: &mut Market, edit: &Edit) -> Result<(), EditFault>
     requires { IsDatum (number_of edit.now) }
     ensures judged { result ≡ answer (judge market.old edit.now) }
@@ -238,5 +253,6 @@ pub fn edit(market: &mut Market, edit: &Edit) -> Result<(), EditFault>
         } => edit_quantity(market, unit, side, block, mw),
         Edit::Demand { bus, mw } => edit_demand(market, bus, mw),
         Edit::Limit { branch, post, mw } => edit_limit(market, branch, post, mw),
+        Edit::Need { mw } => edit_need(market, mw),
     }
 }

@@ -17,6 +17,7 @@ abbrev pub fault_text : EditFault → List ℕ
 fault_text fault.NoBlock = codes "NoBlock"
 fault_text fault.NoBus = codes "NoBus"
 fault_text fault.NoLimit = codes "NoLimit"
+fault_text fault.NoReserve = codes "NoReserve"
 fault_text fault.Negative = codes "Negative"
 fault_text (fault.OutOfOrder other) = codes "OutOfOrder " ++ decimal_text price_places other
 fault_text (fault.OverCapacity over) = codes "OverCapacity " ++ decimal_text mw_places over

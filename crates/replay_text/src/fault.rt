@@ -27,6 +27,7 @@ pub fn fault_words(text: &mut Text, fault: EditFault) -> Result<(), Memory>
         EditFault::NoBlock => text.word(b"NoBlock"),
         EditFault::NoBus => text.word(b"NoBus"),
         EditFault::NoLimit => text.word(b"NoLimit"),
+        EditFault::NoReserve => text.word(b"NoReserve"),
         EditFault::Negative => text.word(b"Negative"),
         EditFault::OutOfOrder { other } => {
             amount_words(text, b"OutOfOrder ", i128::from(other), PRICE_PLACES)

@@ -144,6 +144,8 @@ fn buses_and_limits_that_are_not_there(rt: HostRuntime) -> Result<(), Fail> {
         mw: -1,
     };
     assert!(rt; refusal(rt.alloc(), negative)? == Some(EditFault::Negative));
+    let need = Edit::Need { mw: -MW_ONE };
+    assert!(rt; refusal(rt.alloc(), need)? == Some(EditFault::NoReserve));
     Ok(())
 }
 
