@@ -75,6 +75,7 @@ pub fn clear_market(
 ) -> Result<Market, InputStop>
     ensures told { IsToldAs (IsClearMarket rating places (sized_tables (tables_lent bytes.now))) result }
     ensures kept { IfOk result IsMarket }
+    ensures energy_alone { IfOk result (λ m. m.reserve ≡ no_reserve) }
 {
     let raw = case_matrices(alloc, bytes.grid.case)?;
     let network = joined_network(alloc, &raw, rating)?;

@@ -2,6 +2,7 @@
 
 ghost use Rattle.std.specs.Prelude.{◌≡◌, [], IfOk};
 ghost use Rattle.market_model.specs.Market.{IsMarket};
+ghost use Rattle.market_model.specs.Reserves.{no_reserve};
 ghost use Rattle.refusal_text.specs.declared.refusals.Input.TheVariants as input;
 ghost use Rattle.refusal_text.specs.declared.refusals.Refusal.TheVariants as refusal;
 ghost use Rattle.market_inputs.specs.Files.{sized};
@@ -21,6 +22,7 @@ use std::alloc::Global;
 pub fn pool_market(alloc: Global, case: &[u8], offers: &[u8]) -> Result<Market, InputStop>
     ensures told { IsToldAs (IsPoolMarket (sized (refusal.TooLong input.Case) case.now) (sized (refusal.TooLong input.Offers) offers.now)) result }
     ensures kept { IfOk result IsMarket }
+    ensures energy_alone { IfOk result (λ m. m.reserve ≡ no_reserve) }
     ensures bare { IfOk result (λ market. market.lines ≡ []) }
 {
     let raw = case_matrices(alloc, case)?;

@@ -1,4 +1,5 @@
-use Rattle.std.proofs.Common.{◌≡◌, ◌∙◌, Err, rules, subst, sym}
+use Rattle.std.proofs.Common.{◌≡◌, ◌∙◌, ap, Err, rules, subst, sym}
+use Rattle.market_model.specs.declared.participants.Parts.{Parts}
 use Rattle.market_model.specs.Market.{IsMarket}
 use Rattle.market_tables.specs.Tables.{tables_lent}
 use Rattle.market_inputs.specs.Files.{sized_tables}
@@ -105,7 +106,10 @@ returns-clause-told c =
     (c.in_ok-assemble.ensures ∙ c.in_ok-parts.ensures.is)
 
 pub assemble-requires : goal.assemble-requires
-assemble-requires c = c.in_ok-parts.ensures.kept
+assemble-requires c = c.in_ok-parts.ensures.kept.0
 
 pub returns-clause-kept : goal.returns-clause-kept
 returns-clause-kept c = subst IsMarket (sym c.in_ok-assemble.ensures) c.in_ok-parts.ensures.kept.0
+
+pub returns-clause-energy_alone : goal.returns-clause-energy_alone
+returns-clause-energy_alone c = ap (λ (m : Parts). m.reserve) c.in_ok-assemble.ensures ∙ c.in_ok-parts.ensures.kept.1

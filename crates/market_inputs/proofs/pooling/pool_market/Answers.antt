@@ -1,4 +1,4 @@
-use Rattle.std.proofs.Common.{◌≡◌, Ok, Err, refl, rules}
+use Rattle.std.proofs.Common.{◌≡◌, Ok, Err, rules}
 use Rattle.net_case.specs.Networks.{LiveNetwork}
 use Rattle.net_case.specs.declared.live_parts.Branches.TheVariants as branches
 use Rattle.refusal_text.specs.declared.refusals.Input.TheVariants as input
@@ -30,4 +30,4 @@ returns-in_err-offered-clause-told c =
 pub assemble-requires : goal.assemble-requires
 assemble-requires c =
     rw (c.bare-parts.ensures, c.into_buses.ensures)
-    (pool-market c.in_ok-network.network c.in_ok-offered.offered c.in_ok-network.ensures.kept c.in_ok-offered.ensures.kept, refl)
+    (pool-market c.in_ok-network.network c.in_ok-offered.offered c.in_ok-network.ensures.kept c.in_ok-offered.ensures.kept)
