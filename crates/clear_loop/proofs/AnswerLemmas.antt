@@ -1,6 +1,7 @@
 -- The answer of a dispatch and duals is right.
 use Rattle.std.specs.Prelude.{◌≡◌, pos, List, [], length, map}
 use Rattle.std.proofs.Common.{ap, sym, subst, ◌∙◌}
+use Rattle.std.proofs.Common.{ap₂}
 use Rattle.std.proofs.lemmas.List.{length-map}
 use Rattle.std.proofs.lemmas.List.FromFn.{length-map-range_with_len}
 use Rattle.fraction_theory.specs.Fraction.{Fraction, whole}
@@ -8,7 +9,7 @@ use Rattle.market_model.specs.declared.answered.Duals.{Duals}
 use Rattle.market_model.specs.declared.answered.Money.{Money}
 use Rattle.market_model.specs.declared.answered.Price.{Price}
 use Rattle.market_model.specs.declared.participants.Parts.{Parts}
-use Rattle.market_model.specs.Dispatch.{places}
+use Rattle.market_model.specs.Dispatch.{dispatch_with, places}
 use Rattle.market_model.specs.Market.{IsMarket}
 use Rattle.market_model.specs.Optimality.{Feasible, Supports, ProperDuals, bus_price, price_by, welfare}
 use Rattle.market_model.specs.RightAnswers.{IsRight, settlement_at, price_made}
@@ -18,6 +19,10 @@ use Rattle.settlement.specs.Laws.{LawOfRightMoney}
 use Rattle.settlement.specs.Paying.{ArePricesOf}
 use Rattle.market_model.proofs.ListSteps.{map-map}
 use Rattle.market_model.proofs.PlaceLists.{filled_at}
+
+-- blocks and no reserve
+pub of_blocks : {N : Type 0} (value : N → Fraction) (xs ys rs : List N) → xs ≡ ys → rs ≡ [] → dispatch_with (map value xs) (map value rs) ≡ dispatch_of value ys
+of_blocks {N} value xs ys rs same none = ap₂ (λ (ps qs : List N). dispatch_with (map value ps) (map value qs)) same none
 
 module _ {N : Type 0} (value : N → Fraction) (m : Parts) (d : Duals Fraction) (ps : List (Price N)) (made : map (price_at value) ps ≡ map (price_made m d) (places (length m.buses))) where
   pub price_count : length ps ≡ length m.buses

@@ -1,6 +1,6 @@
 //! The answer of a dispatch and duals.
 
-ghost use Rattle.std.specs.Prelude.{◌≡◌, List, length, map, IfOk, IfErr};
+ghost use Rattle.std.specs.Prelude.{◌≡◌, false, List, length, map, IfOk, IfErr};
 ghost use Rattle.market_model.specs.Dispatch.{places};
 ghost use Rattle.market_model.specs.Fitting.{FitsMarket};
 ghost use Rattle.market_model.specs.declared.limits.Row.{Row};
@@ -53,6 +53,7 @@ pub(crate) fn answer_of<N: Exact>(
     flows: &[N],
     duals: Duals<N>,
 ) -> Result<Answer<N>, Stop<N>>
+    requires energy_alone { market.now.reserve.listed ≡ false }
     requires solved { (g : List Row) × IsSolution market.now g (dispatch_of N.value dispatch) (duals_at N.value duals) }
     requires flows { map N.value flows.now ≡ flows_at market.now (dispatch_of N.value dispatch) }
     ensures fits { IfOk result (FitsMarket market.now) }
@@ -62,18 +63,20 @@ pub(crate) fn answer_of<N: Exact>(
 {
     let _lines = market.lines();
     let prices = bus_prices(alloc, market, &duals)?;
-    let welfare = welfare(market, dispatch.slice(), flows)?;
+    let reserve: List<N> = List::new(alloc);
+    let welfare = welfare(market, dispatch.slice(), reserve.slice(), flows)?;
     let money = settle_flows(
         alloc,
         market,
         dispatch.slice(),
+        reserve.slice(),
         flows,
         prices.slice(),
         &duals,
     )?;
     Ok(Answer {
         dispatch,
-        reserve: List::new(alloc),
+        reserve,
         duals,
         prices,
         welfare,

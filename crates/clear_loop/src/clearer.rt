@@ -66,6 +66,7 @@ fn keeping<N: Exact>(dict: Dict<N>, taken: Taken) -> Clearer<N>
 
 /// The start, or that of a market over none of its limits where there is none.
 fn warmed<N: Exact>(alloc: Global, market: &Market, warm: Warm<N>) -> Result<Warm<N>, Memory>
+    requires energy_alone { market.now.reserve.listed ≡ false }
     ensures { (k : Kept) → k.dict ≡ warm → FitsFrame market.now k → IfOk result (HoldsStart market.now k.taken.rows) }
 {
     if warm.is_kept() {
@@ -81,7 +82,8 @@ fn first_hand<N: Exact>(
     market: &Market,
     clearer: Clearer<N>,
 ) -> Result<Hand<N>, Stop<N>>
-    requires { FitsFrame market.now clearer }
+    requires frame { FitsFrame market.now clearer }
+    requires energy_alone { market.now.reserve.listed ≡ false }
     ensures hand { IfOk result (IsInHand N.value market.now) }
     ensures taken { IfOk result (λ hand. hand.taken ≡ clearer.taken) }
     ensures cause { IfErr result (StopsInRange N.value N.bound market.now clearer.taken.rows) }
@@ -131,9 +133,10 @@ impl<N: Exact> Clearer<N> {
     /// feasible, or two numbers that together are too large. Each round takes a limit that is new, so it ends. After an answer and
     /// after `Infeasible` the dictionary with the limits taken is kept; after `Range` and `Memory` nothing is, so that the next clear
     /// starts without limits. A clearer that keeps nothing fits every market; what is kept has to be of the market's frame, and edits
-    /// keep it so (`laws::start_is_of_the_frame`).
+    /// keep it so (`laws::start_is_of_the_frame`). No market with reserve is cleared yet.
     pub fn clear(&mut self, alloc: Global, market: &Market) -> Result<Answer<N>, ClearFault<N>>
         requires frame { FitsFrame market.now self.old }
+        requires energy_alone { market.now.reserve.listed ≡ false }
         ensures fits { IfOk result (FitsMarket market.now) }
         ensures clear { ClearComesTo N.value N.bound market.now self.old.taken.rows result self.new.taken.rows }
         ensures frame { FitsFrame market.now self.new }

@@ -1,6 +1,6 @@
 //! Where a clear without limits begins: near its end, by merit order. A guess, which the runs after it set right.
 
-ghost use Rattle.std.specs.Prelude.{[], IfOk};
+ghost use Rattle.std.specs.Prelude.{◌≡◌, false, [], IfOk};
 ghost use Rattle.market_dict.specs.Holding.{HoldsMarket};
 
 use exact_fraction::{Exact, Sign};
@@ -59,6 +59,7 @@ fn marginal(alloc: Global, market: &Market) -> Result<Option<usize>, Memory> {
 /// A dictionary of the market over none of its limits, in which the balance has given its place to the marginal block, where there
 /// is one.
 pub(crate) fn start_at_margin<N: Exact>(alloc: Global, market: &Market) -> Result<Dict<N>, Memory>
+    requires energy_alone { market.now.reserve.listed ≡ false }
     ensures { IfOk result (HoldsMarket market.now []) }
 {
     let mut dict: Dict<N> = start(alloc, market)?;

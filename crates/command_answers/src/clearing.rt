@@ -25,15 +25,9 @@ use net_case::PostRating;
 use report_text::report;
 use std::alloc::Global;
 
-/// A market is of energy alone: it does nothing, and says what the type keeps.
-pub(crate) fn of_energy_alone(market: &Market)
-    ensures { market.now.reserve ≡ no_reserve }
-{
-    let _lines = market.lines();
-}
-
 /// What a market is cleared to.
 pub(crate) fn cleared<N: Exact>(alloc: Global, market: &Market) -> Result<Outcome<N>, Memory>
+    requires energy_alone { market.now.reserve ≡ no_reserve }
     ensures fits { IfOk result (FitsOutcome market.now) }
     ensures right { IfOk result (λ outcome. IsRightOutcome N.bound market.now [] (outcome_at N.value outcome)) }
     ensures sides { IfOk result (λ outcome. AreSidesWithin N.bound (outcome_at N.value outcome)) }
@@ -56,10 +50,10 @@ pub(crate) fn clear_status<N: Exact>(outcome: &Outcome<N>) -> Status
 
 /// What clearing a market comes to.
 fn clear_outcome<N: Exact>(alloc: Global, market: &Market) -> Result<Told, Memory>
+    requires energy_alone { market.now.reserve ≡ no_reserve }
     ensures status { IfOk result (λ told. IsOfWork told.status) }
     ensures clears { IfOk result (λ told. ClearsTo N.bound market.now (telling_of told)) }
 {
-    of_energy_alone(market);
     let outcome = cleared::<N>(alloc, market)?;
     Ok(Told {
         status: clear_status(&outcome),
@@ -70,7 +64,7 @@ fn clear_outcome<N: Exact>(alloc: Global, market: &Market) -> Result<Told, Memor
 
 /// What a market comes to, or why none was made.
 fn market_told(alloc: Global, made: Result<Market, InputStop>) -> Result<Told, Memory>
-    requires { IfOk made IsMarket }
+    requires { IfOk made (λ m. IsMarket m × (m.reserve ≡ no_reserve)) }
     ensures status { IfOk result (λ told. IsOfWork told.status) }
     ensures tells { IfOk result (λ told. MadeTo TellsClear made (telling_of told)) }
 {

@@ -9,6 +9,7 @@ ghost use Rattle.edit_table.specs.EditTable.{AreSteps, IsStep};
 ghost use Rattle.market_tables.specs.Tables.{tables_lent};
 ghost use Rattle.market_inputs.specs.Stops.{IsToldAs};
 ghost use Rattle.market_model.specs.Market.{IsMarket};
+ghost use Rattle.market_model.specs.Reserves.{no_reserve};
 ghost use Rattle.market_model.specs.Valued.{outcome_at};
 ghost use Rattle.command_answers.specs.Inputs.{IsReplayed, steps_with};
 ghost use Rattle.command_answers.specs.Replaying.{ReplaysTo, TellsReplay, clear_or, is_done, last_clear, replay_status, step_status};
@@ -46,6 +47,7 @@ pub(crate) fn replay_inputs(
 ) -> Result<Replayed, InputStop>
     ensures told { IsToldAs (IsReplayed rating places (tables_lent bytes.now) edits.now) (steps_with result) }
     ensures kept { IfOk result (λ made. IsMarket made.market × AreSteps made.steps) }
+    ensures energy_alone { IfOk result (λ made. made.market.reserve ≡ no_reserve) }
 {
     let market = clear_market(alloc, bytes, rating, places)?;
     let steps = edit_steps(alloc, edits)?;
@@ -119,6 +121,7 @@ fn last_certificate<N: Exact>(
 /// What replaying the steps of a market comes to.
 fn replay_outcome<N: Exact>(alloc: Global, market: Market, steps: &Steps) -> Result<Told, Memory>
     requires market { IsMarket market }
+    requires energy_alone { market.reserve ≡ no_reserve }
     requires steps { All IsStep steps.now }
     ensures status { IfOk result (λ told. IsOfWork told.status) }
     ensures replays { IfOk result (λ told. ReplaysTo N.bound market steps.now (telling_of told)) }

@@ -5,6 +5,7 @@ ghost use Rattle.fraction_theory.specs.Fraction.{Fraction};
 ghost use Rattle.market_tables.specs.Tables.{tables_lent};
 ghost use Rattle.market_inputs.specs.Stops.{IsToldAs};
 ghost use Rattle.market_model.specs.Market.{IsMarket};
+ghost use Rattle.market_model.specs.Reserves.{no_reserve};
 ghost use Rattle.market_model.specs.Rights.{IsTransmissionRight};
 ghost use Rattle.market_model.specs.Stops.{StopsBy};
 ghost use Rattle.market_model.specs.Valued.{total_at};
@@ -15,7 +16,7 @@ ghost use Rattle.command_answers.specs.Rights.{EntitlesTo, IsRightsRefusal, Tell
 ghost use Rattle.command_answers.specs.Status.{IsOfWork};
 ghost use Rattle.command_answers.specs.Tellings.{Tells, telling_of};
 
-use crate::clearing::{clear_status, cleared, of_energy_alone};
+use crate::clearing::{clear_status, cleared};
 use crate::rights_lines::rights_lines;
 use crate::status::Status;
 use crate::told::{Told, refused, uncertified};
@@ -46,6 +47,7 @@ fn rights_inputs(
     rights: &[u8],
 ) -> Result<Entitled, InputStop>
     ensures told { IsToldAs (AreEntitled rating places (tables_lent bytes.now) rights.now) (rights_with result) }
+    ensures energy_alone { IfOk result (λ made. made.market.reserve ≡ no_reserve) }
     ensures kept { IfOk result (λ made. IsMarket made.market × All (IsTransmissionRight (length made.market.buses)) made.rights) }
 {
     let market = clear_market(alloc, bytes, rating, places)?;
@@ -124,11 +126,11 @@ fn rights_outcome<N: Exact>(
     market: &Market,
     rights: &[TransmissionRight],
 ) -> Result<Told, Memory>
-    requires { All (IsTransmissionRight (length market.now.buses)) rights.now }
+    requires energy_alone { market.now.reserve ≡ no_reserve }
+    requires rights { All (IsTransmissionRight (length market.now.buses)) rights.now }
     ensures status { IfOk result (λ told. IsOfWork told.status) }
     ensures entitles { IfOk result (λ told. EntitlesTo N.bound market.now rights.now (telling_of told)) }
 {
-    of_energy_alone(market);
     let outcome = cleared::<N>(alloc, market)?;
     let reported = report(alloc, market, &outcome)?;
     match &outcome {

@@ -10,13 +10,13 @@ ghost use Rattle.edit_table.specs.EditTable.{IsStep};
 ghost use Rattle.market_tables.specs.Tables.{tables_lent};
 ghost use Rattle.market_inputs.specs.Stops.{IsToldAs};
 ghost use Rattle.market_model.specs.Market.{IsMarket};
+ghost use Rattle.market_model.specs.Reserves.{no_reserve};
 ghost use Rattle.command_answers.specs.Inputs.{IsCertified, certificate_with};
 ghost use Rattle.command_answers.specs.Status.{IsOfWork};
 ghost use Rattle.command_answers.specs.Tellings.{Tells, telling_of};
 ghost use Rattle.command_answers.specs.Verdicts.{verdict_line};
 ghost use Rattle.command_answers.specs.Verifying.{TellsVerdict, VerifiesTo, verdict_status};
 
-use crate::clearing::of_energy_alone;
 use crate::replaying::replay_inputs;
 use crate::status::Status;
 use crate::told::{Told, refused, uncertified};
@@ -66,6 +66,7 @@ fn verify_inputs(
 ) -> Result<Certified<Frac>, InputStop>
     ensures told { IsToldAs (IsCertified rating places (tables_lent bytes.now) edits.now certificate.now) (certificate_with ⟦<Frac as Exact>⟧.value result) }
     ensures kept { IfOk result (λ made. IsMarket made.market) }
+    ensures energy_alone { IfOk result (λ made. made.market.reserve ≡ no_reserve) }
     ensures distinct { IfOk result (λ made. RowsAreDistinct (cert_at ⟦<Frac as Exact>⟧.value made.certificate)) }
 {
     let replayed = replay_inputs(alloc, bytes, rating, places, edits)?;
@@ -123,10 +124,7 @@ pub fn verify_told(
     ensures tells { IfOk result (λ told. Tells (IsCertified rating places (tables_lent bytes.now) edits.now certificate.now) TellsVerdict (telling_of told)) }
 {
     match verify_inputs(alloc, bytes, rating, places, edits, certificate) {
-        Ok(made) => {
-            of_energy_alone(&made.market);
-            verdict_told(alloc, &made.market, &made.certificate)
-        }
+        Ok(made) => verdict_told(alloc, &made.market, &made.certificate),
         Err(InputStop::Refused(refusal)) => refused(alloc, &refusal),
         Err(InputStop::Memory) => Err(Memory),
     }

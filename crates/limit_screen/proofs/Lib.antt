@@ -3,3 +3,4 @@ pub mod Casts
 pub mod PartLemmas
 pub mod ScreenLemmas
 pub mod TakenLemmas
+pub mod RoomLemmas

@@ -1,3 +1,4 @@
 pub mod Bounds
 pub mod Flows
+pub mod Rooms
 pub mod Screening

@@ -1,4 +1,4 @@
-//! The flows of a dispatch, and the limit that flows pass by the most.
+//! The flows of a dispatch, the limit that flows pass by the most, and the room that energy and reserve pass by the most.
 #![tactic(auto)]
 
 mod bounds;
@@ -6,8 +6,10 @@ mod flowing;
 pub mod laws;
 mod parts;
 mod screening;
+mod sharing;
 mod taking;
 
 pub use flowing::{bus_injections, carried_flows, flows, flows_made};
 pub use parts::{WholeParts, whole_parts};
 pub use screening::{worst, worst_row, worst_row_by_parts};
+pub use sharing::{rooms, worst_room};

@@ -33,6 +33,7 @@ use Rattle.market_model.specs.declared.limits.Row.{Row}
 use Rattle.market_model.specs.LimitRows.{rows, limit, flow, is_soft}
 use Rattle.market_model.specs.Market.{IsMarket}
 use Rattle.market_model.specs.Optimality.{rows_alone}
+use Rattle.market_model.proofs.EnergyAlone.{not_listed}
 use Rattle.market_model.specs.Reserves.{no_reserve}
 use Rattle.market_model.proofs.Excesses.{limit_least}
 use Rattle.limit_rows.proofs.ApartLemmas.{names_apart}
@@ -181,7 +182,7 @@ module _ (m : Parts) (g : List Row) (d : Dictionary) (market : IsMarket m) (alon
       }
 
   put_in_holds : HoldsMarket m g d
-  put_in_holds = record { live = put.live; sound = put.sound; same = put_in_rows; columns = put.columns_put; rows = put.rows_put; limits = limits }
+  put_in_holds = record { live = put.live; sound = put.sound; same = put_in_rows; columns = put.columns_put; rows = put.rows_put; limits = limits; unlisted = not_listed m alone }
 
 -- as it was put in
 has_put_in : (m : Parts) (g : List Row) (d : Dictionary) → IsMarket m → HoldsMarket m g d → HasPutIn m (columns m g) g d
@@ -365,6 +366,7 @@ holds_in_frame m n g d same holds =
       columns = holds.columns ∙ ap₂ map (same_names m n same) (columns_in_frame m n same g);
       rows = holds.rows ∙ ap (λ (f : Variable → ℕ). map f (row_variables g)) (same_names m n same);
       limits = record { rows = λ r c. subst (λ (rs : List Row). Contains rs r) frame.0.rows (holds.limits.rows r c); distinct = holds.limits.distinct };
+      unlisted = sym (ap (λ (p : Parts). p.reserve.listed) same) ∙ holds.unlisted;
     }
 
 -- a dictionary with the same lists holds it too
@@ -376,6 +378,7 @@ holds_same m g d e holds live sound columns rows coefficients names = record {
   columns = columns ∙ holds.columns;
   rows = rows ∙ holds.rows;
   limits = holds.limits;
+  unlisted = holds.unlisted;
 }
 
 -- ---- posed at the market's prices and bounds

@@ -21,7 +21,7 @@ pub record HasPutIn (m : Parts) (columns : List Variable) (g : List Row) (d : Di
 
 -- Its system has the rows of the market's system over these limit rows. Its columns were put in as the blocks in the market's order and then
 -- those of the soft ones of these rows, and its rows as the balance and then these, in the order in which they were taken. Nothing is said
--- of prices, bounds and values, so an edit of the market changes nothing in it.
+-- of prices, bounds and values, so an edit of the market changes nothing in it. The market is of energy alone.
 pub record HoldsMarket (m : Parts) (g : List Row) (d : Dictionary) : Type 0 where
   pub live : d.spent ≡ false
   pub sound : IsDictionary d
@@ -29,6 +29,7 @@ pub record HoldsMarket (m : Parts) (g : List Row) (d : Dictionary) : Type 0 wher
   pub columns : d.columns ≡ map (name m) (columns_of m g)
   pub rows : d.rows ≡ map (name m) (row_variables g)
   pub limits : AreRows m g
+  pub unlisted : m.reserve.listed ≡ false
 
 -- besides, its prices and bounds are those of the market, so that its system is the market's over these rows
 pub record HoldsSystem (m : Parts) (g : List Row) (d : Dictionary) : Type 0 where

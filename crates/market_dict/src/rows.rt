@@ -1,6 +1,6 @@
 //! The dictionary of a market: its start with the balance alone, and the limits that it takes.
 
-ghost use Rattle.std.specs.Prelude.{◌⊎◌, List, [], ◌∷◌, ◌++◌, Contains, IfOk, IfErr};
+ghost use Rattle.std.specs.Prelude.{◌≡◌, false, ◌⊎◌, List, [], ◌∷◌, ◌++◌, Contains, IfOk, IfErr};
 ghost use Rattle.market_model.specs.declared.limits.Row.{Row};
 ghost use Rattle.market_model.specs.LimitRows.{rows};
 ghost use Rattle.linear_dict.specs.Causes.{IsPairOf};
@@ -22,6 +22,7 @@ use std::alloc::Global;
 
 /// The dictionary of a market over none of its limits: the blocks are the other variables, and the balance is basic.
 pub fn start<N: Exact>(alloc: Global, market: &Market) -> Result<Dict<N>, Memory>
+    requires energy_alone { market.now.reserve.listed ≡ false }
     ensures { IfOk result (HoldsMarket market.now []) }
 {
     let _lines = market.lines();

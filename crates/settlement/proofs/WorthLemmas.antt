@@ -4,23 +4,23 @@ use Rattle.std.proofs.Common.{ap, ap₂, sym, ◌∙◌, inl, inr, get_or, appen
 use Rattle.std.proofs.lemmas.List.{append-nil, map-append}
 use Rattle.std.proofs.lemmas.List.Elements.{filter-append}
 use Rattle.fraction_theory.specs.Fraction.{Fraction, whole, neg_ℚ, ◌+ℚ◌, ◌*ℚ◌}
-use Rattle.fraction_theory.specs.Sums.{Term, Product, total}
-use Rattle.fraction_theory.proofs.FieldLaws.{+ℚ_nil}
+use Rattle.fraction_theory.specs.Sums.{Term, Product, term_value, total}
+use Rattle.fraction_theory.proofs.FieldLaws.{+ℚ_assoc, +ℚ_nil}
 use Rattle.fraction_theory.proofs.SumLaws.{total-append}
 use Rattle.exact_fraction.specs.declared.Passed.{Passed}
 use Rattle.market_model.specs.declared.limits.Row.{Row}
 use Rattle.market_model.specs.declared.participants.Block.{Block}
 use Rattle.market_model.specs.declared.participants.Parts.{Parts}
-use Rattle.market_model.specs.Dispatch.{Dispatch, places, signed_by_side, block_at, accepted}
+use Rattle.market_model.specs.declared.participants.ReserveOffer.{ReserveOffer}
+use Rattle.market_model.specs.Dispatch.{Dispatch, places, dispatch_with, signed_by_side, block_at, accepted, offer_at, reserved}
 use Rattle.market_model.specs.LimitRows.{carried, flow_by, is_soft, penalty, rows}
 use Rattle.market_model.specs.Market.{IsMarket}
 use Rattle.market_model.specs.NamedSums.{IsRefusedIn, IsShareRefusal}
-use Rattle.market_model.specs.Optimality.{block_value, penalty_terms, value_terms, welfare_for, welfare_terms, welfare_terms_for}
+use Rattle.market_model.specs.Optimality.{block_value, penalty_terms, value_terms, welfare, welfare_for, welfare_terms}
 use Rattle.market_model.specs.Overrun.{excess, excess_by}
 use Rattle.market_model.specs.PutIn.{dispatch_of}
-use Rattle.market_model.specs.Reserves.{no_reserve}
+use Rattle.market_model.specs.Reserves.{offer_price, reserve_cost_terms}
 use Rattle.market_model.specs.SumTables.{IsFlowRefusal}
-use Rattle.market_model.proofs.EnergyAlone.{welfare_alone}
 use Rattle.market_model.proofs.MorePlaces.{total-places_more}
 use Rattle.market_model.proofs.PutInSteps.{accepted_is}
 use Rattle.market_model.proofs.SumSteps.{behind, in_front, share_at, terms_at}
@@ -29,7 +29,7 @@ use Rattle.limit_screen.specs.Flows.{carried_at, flows_at}
 use Rattle.settlement.specs.Refusals.{IsWelfareRefusal}
 
 -- ---- blocks
-module _ {N : Type 0} (value : N → Fraction) (m : Parts) (alone : m.reserve ≡ no_reserve) (ds : List N) where
+module _ {N : Type 0} (value : N → Fraction) (m : Parts) (ds : List N) where
   abbrev pub values_to : ℕ → Fraction
   values_to k = total (map (λ j. Product (block_value m j) (accepted (dispatch_of value ds) j)) (places k))
 
@@ -47,60 +47,59 @@ module _ {N : Type 0} (value : N → Fraction) (m : Parts) (alone : m.reserve �
       ∙ sym (total-places_more (λ j. Product (block_value m j) (accepted (dispatch_of value ds) j)) k)
 
   -- what a block is worth is added
-  pub value_refused : (k : ℕ) (block : Block) (d : N) (worth sum : Fraction) (bound : ℕ) (p : Passed Fraction) → k < length m.blocks → k < length ds → d ≡ get_or ds k d → block ≡ block_at m k
-      → sum ≡ values_to k → worth ≡ neg_ℚ (signed_by_side block.side (whole block.price)) → IsShareRefusal sum worth (value d) bound p → IsRefusedIn (welfare_terms m (dispatch_of value ds)) bound p
-  value_refused k block d worth sum bound p below lt at same is w h =
-      let x = dispatch_of value ds in
+  pub value_refused : (reserve : List Fraction) (k : ℕ) (block : Block) (d : N) (worth sum : Fraction) (bound : ℕ) (p : Passed Fraction) → k < length m.blocks → k < length ds → d ≡ get_or ds k d → block ≡ block_at m k
+      → sum ≡ values_to k → worth ≡ neg_ℚ (signed_by_side block.side (whole block.price)) → IsShareRefusal sum worth (value d) bound p → IsRefusedIn (welfare_terms m (dispatch_with (map value ds) reserve)) bound p
+  value_refused reserve k block d worth sum bound p below lt at same is w h =
+      let x = dispatch_with (map value ds) reserve in
       let f : ℕ → Term = λ j. Product (block_value m j) (accepted x j) in
       let r = terms_at f (length m.blocks) k below in
-      share_at (welfare_terms m x) (map f (places k)) (r.0 ++ penalty_terms m (rows m) x) (f k)
-      (welfare_alone m alone (rows m) x ∙ in_front (value_terms m x) (map f (places k)) r.0 (penalty_terms m (rows m) x) (f k) r.1)
+      share_at (welfare_terms m x) (map f (places k)) ((r.0 ++ penalty_terms m (rows m) x) ++ reserve_cost_terms m x) (f k)
+      (in_front (value_terms m x ++ penalty_terms m (rows m) x) (map f (places k)) (r.0 ++ penalty_terms m (rows m) x) (reserve_cost_terms m x) (f k)
+      (in_front (value_terms m x) (map f (places k)) r.0 (penalty_terms m (rows m) x) (f k) r.1))
       bound p sum worth (value d) (ap₂ Product (sym (value_is k block worth same w)) (accepted_is value ds k d lt at)) is h
 
 -- ---- limits that give way
-module _ (m : Parts) (alone : m.reserve ≡ no_reserve) (x : Dispatch) where
+module _ (m : Parts) (x : Dispatch) where
+  -- the terms of the welfare in front of what reserve costs, where these rows count
+  abbrev pub energy_terms : List Row → List Term
+  energy_terms g = value_terms m x ++ penalty_terms m g x
+
   abbrev cost_term : Row → Term
   cost_term r = Product (neg_ℚ (penalty m r)) (excess m x r)
 
-  pub worth_of_values : total (value_terms m x) ≡ welfare_for m [] x
-  unfolding welfare_for
-  worth_of_values = ap total (sym (append-nil (value_terms m x)) ∙ sym (welfare_alone m alone [] x))
+  pub worth_of_values : total (value_terms m x) ≡ total (energy_terms [])
+  worth_of_values = ap total (sym (append-nil (value_terms m x)))
 
   module _ (g : List Row) (r : Row) where
     -- the terms with one row more
-    terms_more : (b : Bool) → is_soft m r ≡ b → welfare_terms_for m (g ++ r ∷ []) x ≡ welfare_terms_for m g x ++ map cost_term (cond b (r ∷ []) [])
+    terms_more : (b : Bool) → is_soft m r ≡ b → energy_terms (g ++ r ∷ []) ≡ energy_terms g ++ map cost_term (cond b (r ∷ []) [])
     terms_more b e =
-        welfare_alone m alone (g ++ r ∷ []) x
-        ∙ ap (λ rs. value_terms m x ++ map cost_term rs) (filter-append (is_soft m) g (r ∷ []) ∙ ap (λ (t : Bool). filter (is_soft m) g ++ cond t (r ∷ []) []) e)
+        ap (λ rs. value_terms m x ++ map cost_term rs) (filter-append (is_soft m) g (r ∷ []) ∙ ap (λ (t : Bool). filter (is_soft m) g ++ cond t (r ∷ []) []) e)
         ∙ ap (λ ts. value_terms m x ++ ts) (map-append cost_term (filter (is_soft m) g) (cond b (r ∷ []) []))
         ∙ sym (append_assoc (value_terms m x) (penalty_terms m g x) (map cost_term (cond b (r ∷ []) [])))
-        ∙ ap (λ ts. ts ++ map cost_term (cond b (r ∷ []) [])) (sym (welfare_alone m alone g x))
 
     -- a row whose limit does not costs nothing
-    pub worth_same : is_soft m r ≡ false → (sum : Fraction) → sum ≡ welfare_for m g x → sum ≡ welfare_for m (g ++ r ∷ []) x
-    unfolding welfare_for
-    worth_same e sum is = is ∙ sym (ap total (terms_more false e ∙ append-nil (welfare_terms_for m g x)))
+    pub worth_same : is_soft m r ≡ false → (sum : Fraction) → sum ≡ total (energy_terms g) → sum ≡ total (energy_terms (g ++ r ∷ []))
+    worth_same e sum is = is ∙ sym (ap total (terms_more false e ∙ append-nil (energy_terms g)))
 
     module _ (soft : is_soft m r ≡ true) (fs : List Fraction) (are : fs ≡ flows_at m x) (market : IsMarket m) (c : Contains (rows m) r) where
       excess_is : excess_by m r (flow_by m (carried_at m fs) r) ≡ excess m x r
       excess_is = ap (excess_by m r) (law_of_row_flows m x fs r market are c)
 
-      pub worth_less : (old new : Fraction) → old ≡ welfare_for m g x → new ≡ old +ℚ neg_ℚ (penalty m r) *ℚ excess_by m r (flow_by m (carried_at m fs) r) → new ≡ welfare_for m (g ++ r ∷ []) x
-      unfolding welfare_for
+      pub worth_less : (old new : Fraction) → old ≡ total (energy_terms g) → new ≡ old +ℚ neg_ℚ (penalty m r) *ℚ excess_by m r (flow_by m (carried_at m fs) r) → new ≡ total (energy_terms (g ++ r ∷ []))
       worth_less old new is e =
           e ∙ ap₂ (λ s t. s +ℚ neg_ℚ (penalty m r) *ℚ t) is excess_is
-          ∙ ap (λ t. welfare_for m g x +ℚ t) (sym (+ℚ_nil (neg_ℚ (penalty m r) *ℚ excess m x r)))
-          ∙ sym (ap total (terms_more true soft) ∙ total-append (welfare_terms_for m g x) (cost_term r ∷ []))
+          ∙ ap (λ t. total (energy_terms g) +ℚ t) (sym (+ℚ_nil (neg_ℚ (penalty m r) *ℚ excess m x r)))
+          ∙ sym (ap total (terms_more true soft) ∙ total-append (energy_terms g) (cost_term r ∷ []))
 
       -- its flow is refused, or what it costs
-      pub cost_refused : (left : List Row) (sum : Fraction) (bound : ℕ) (p : Passed Fraction) → rows m ≡ g ++ r ∷ left → sum ≡ welfare_for m g x
+      pub cost_refused : (left : List Row) (sum : Fraction) (bound : ℕ) (p : Passed Fraction) → rows m ≡ g ++ r ∷ left → sum ≡ total (energy_terms g)
           → IsFlowRefusal m (carried_at m fs) r bound p ⊎ IsShareRefusal sum (neg_ℚ (penalty m r)) (excess_by m r (flow_by m (carried_at m fs) r)) bound p
           → IsWelfareRefusal m x bound p
-      unfolding welfare_for
       cost_refused left sum bound p all is (inl a) =
           inr (r, c, soft, flow_refusal_same m (carried_at m fs) (carried m x) r bound p (row_terms m x fs are r market c) a)
       cost_refused left sum bound p all is (inr a) =
-          inl (share_at (welfare_terms m x) (welfare_terms_for m g x) (penalty_terms m left x) (cost_term r) split bound p sum (neg_ℚ (penalty m r)) (excess_by m r (flow_by m (carried_at m fs) r))
+          inl (share_at (welfare_terms m x) (energy_terms g) (penalty_terms m left x ++ reserve_cost_terms m x) (cost_term r) split bound p sum (neg_ℚ (penalty m r)) (excess_by m r (flow_by m (carried_at m fs) r))
           (ap (Product (neg_ℚ (penalty m r))) (sym excess_is)) is a)
         where
           kept : filter (is_soft m) (rows m) ≡ filter (is_soft m) g ++ r ∷ filter (is_soft m) left
@@ -111,8 +110,49 @@ module _ (m : Parts) (alone : m.reserve ≡ no_reserve) (x : Dispatch) where
           costs : penalty_terms m (rows m) x ≡ penalty_terms m g x ++ cost_term r ∷ penalty_terms m left x
           costs = ap (map cost_term) kept ∙ map-append cost_term (filter (is_soft m) g) (r ∷ filter (is_soft m) left)
 
-          split : welfare_terms m x ≡ welfare_terms_for m g x ++ cost_term r ∷ penalty_terms m left x
+          split : welfare_terms m x ≡ energy_terms g ++ cost_term r ∷ (penalty_terms m left x ++ reserve_cost_terms m x)
           split =
-              welfare_alone m alone (rows m) x
-              ∙ behind (value_terms m x) (penalty_terms m (rows m) x) (penalty_terms m g x) (penalty_terms m left x) (cost_term r) costs
-              ∙ ap (λ ts. ts ++ cost_term r ∷ penalty_terms m left x) (sym (welfare_alone m alone g x))
+              in_front (energy_terms (rows m)) (energy_terms g) (penalty_terms m left x) (reserve_cost_terms m x) (cost_term r)
+              (behind (value_terms m x) (penalty_terms m (rows m) x) (penalty_terms m g x) (penalty_terms m left x) (cost_term r) costs)
+
+-- ---- reserve
+module _ {N : Type 0} (value : N → Fraction) (m : Parts) (rs : List N) where
+  -- what so many offers cost
+  abbrev pub costs_to : ℕ → List Term
+  costs_to k = map (λ n. Product (neg_ℚ (offer_price m n)) (reserved (dispatch_with [] (map value rs)) n)) (places k)
+
+  -- the opposite of the price of an offer, and what is accepted of it
+  offer_term_is : (k : ℕ) (offer : ReserveOffer) (r : N) (worth : Fraction) → k < length rs → r ≡ get_or rs k r → offer ≡ offer_at m k → worth ≡ neg_ℚ (whole offer.price)
+      → Product (neg_ℚ (offer_price m k)) (reserved (dispatch_with [] (map value rs)) k) ≡ Product worth (value r)
+  offer_term_is k offer r worth h is at w = ap₂ Product (sym (w ∙ ap (λ (o : ReserveOffer). neg_ℚ (whole o.price)) at)) (accepted_is value rs k r h is)
+
+  -- one offer more
+  pub cost_step : (front : Fraction) (k : ℕ) (offer : ReserveOffer) (r : N) (worth old new : Fraction) → k < length rs → r ≡ get_or rs k r → offer ≡ offer_at m k → worth ≡ neg_ℚ (whole offer.price)
+      → old ≡ front +ℚ total (costs_to k) → new ≡ old +ℚ worth *ℚ value r → new ≡ front +ℚ total (costs_to (k + 1))
+  cost_step front k offer r worth old new h is at w before e =
+      e ∙ ap₂ (λ s t. s +ℚ t) before (ap term_value (sym (offer_term_is k offer r worth h is at w)))
+      ∙ +ℚ_assoc front (total (costs_to k)) (neg_ℚ (offer_price m k) *ℚ reserved (dispatch_with [] (map value rs)) k)
+      ∙ ap (λ t. front +ℚ t) (sym (total-places_more (λ n. Product (neg_ℚ (offer_price m n)) (reserved (dispatch_with [] (map value rs)) n)) k))
+
+  module _ (blocks : List Fraction) where
+    abbrev whole_dispatch : Dispatch
+    whole_dispatch = dispatch_with blocks (map value rs)
+
+    -- all offers
+    pub costs_all : (front sum : Fraction) → front ≡ total (energy_terms m whole_dispatch (rows m)) → sum ≡ front +ℚ total (costs_to (length m.reserve.offers)) → sum ≡ welfare m whole_dispatch
+    unfolding welfare_for
+    costs_all front sum of_energy e =
+        e ∙ ap (λ t. t +ℚ total (costs_to (length m.reserve.offers))) of_energy
+        ∙ sym (total-append (energy_terms m whole_dispatch (rows m)) (reserve_cost_terms m whole_dispatch))
+
+    -- what an offer costs is added
+    pub offer_refused : (front : Fraction) (k : ℕ) (offer : ReserveOffer) (r : N) (worth sum : Fraction) (bound : ℕ) (p : Passed Fraction) → front ≡ total (energy_terms m whole_dispatch (rows m))
+        → k < length m.reserve.offers → k < length rs → r ≡ get_or rs k r → offer ≡ offer_at m k → worth ≡ neg_ℚ (whole offer.price) → sum ≡ front +ℚ total (costs_to k)
+        → IsShareRefusal sum worth (value r) bound p → IsRefusedIn (welfare_terms m whole_dispatch) bound p
+    offer_refused front k offer r worth sum bound p of_energy below h is at w before why =
+        let f : ℕ → Term = λ n. Product (neg_ℚ (offer_price m n)) (reserved whole_dispatch n) in
+        let t = terms_at f (length m.reserve.offers) k below in
+        share_at (welfare_terms m whole_dispatch) (energy_terms m whole_dispatch (rows m) ++ costs_to k) t.0 (f k)
+        (behind (energy_terms m whole_dispatch (rows m)) (reserve_cost_terms m whole_dispatch) (costs_to k) t.0 (f k) t.1)
+        bound p sum worth (value r) (offer_term_is k offer r worth h is at w)
+        (before ∙ ap (λ s. s +ℚ total (costs_to k)) of_energy ∙ sym (total-append (energy_terms m whole_dispatch (rows m)) (costs_to k))) why

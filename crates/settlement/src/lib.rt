@@ -3,6 +3,7 @@
 
 pub mod laws;
 mod loads;
+mod offers;
 mod rents;
 mod rows;
 mod settling;

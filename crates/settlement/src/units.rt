@@ -1,10 +1,10 @@
 //! What units put out, and what they are paid for that.
 
-ghost use Rattle.std.specs.Prelude.{◌≡◌, ◌⊎◌, ◌<◌, ℕ, length, map, IfOk, IfErr};
+ghost use Rattle.std.specs.Prelude.{◌≡◌, ◌⊎◌, ◌<◌, ℕ, List, length, map, IfOk, IfErr};
 ghost use Rattle.fraction_theory.specs.Fraction.{Fraction, ◌*ℚ◌};
 ghost use Rattle.market_model.specs.declared.answered.Duals.{Duals as DualsOf};
 ghost use Rattle.exact_fraction.specs.declared.Op.TheVariants.{Times};
-ghost use Rattle.market_model.specs.Dispatch.{Dispatch, places, output as output_of, output_terms};
+ghost use Rattle.market_model.specs.Dispatch.{Dispatch, places, dispatch_with, output as output_of, output_terms};
 ghost use Rattle.market_model.specs.LimitRows.{lost_unit};
 ghost use Rattle.market_model.specs.NamedSums.{IsRefusal, IsRefusedIn};
 ghost use Rattle.market_model.specs.Optimality.{own_price, ProperDuals};
@@ -68,7 +68,7 @@ fn unit_pay<N: Exact>(
     Ok(UnitPay { mw, paid })
 }
 
-/// What each unit is paid at its own price.
+/// What each unit is paid for energy at its own price, whatever reserve is accepted beside.
 pub fn unit_pays<N: Exact>(
     alloc: Global,
     market: &Market,
@@ -77,10 +77,10 @@ pub fn unit_pays<N: Exact>(
 ) -> Result<List<UnitPay<N>>, Stop<N>>
     requires dispatch { length dispatch.now ≡ length market.now.blocks }
     requires own { length own.now ≡ length market.now.units }
-    ensures cause { (price : ℕ → Fraction) (d : DualsOf Fraction) → map N.value own.now ≡ map (own_price market.now d price) (places (length market.now.units))
-        → IfErr result (IsMoneyStop N.value N.bound market.now (dispatch_of N.value dispatch.now) price d) }
-    ensures pays { (price : ℕ → Fraction) (d : DualsOf Fraction) → map N.value own.now ≡ map (own_price market.now d price) (places (length market.now.units))
-        → IfOk result (λ pays. map (unit_pay_at N.value) pays ≡ map (pay_of_unit market.now (dispatch_of N.value dispatch.now) price d) (places (length market.now.units))) }
+    ensures cause { (reserve : List Fraction) (price : ℕ → Fraction) (d : DualsOf Fraction) → map N.value own.now ≡ map (own_price market.now d price) (places (length market.now.units))
+        → IfErr result (IsMoneyStop N.value N.bound market.now (dispatch_with (map N.value dispatch.now) reserve) price d) }
+    ensures pays { (reserve : List Fraction) (price : ℕ → Fraction) (d : DualsOf Fraction) → map N.value own.now ≡ map (own_price market.now d price) (places (length market.now.units))
+        → IfOk result (λ pays. map (unit_pay_at N.value) pays ≡ map (pay_of_unit market.now (dispatch_with (map N.value dispatch.now) reserve) price d) (places (length market.now.units))) }
 {
     let mut pays = List::new(alloc);
     for (place, price) in own.iter().enumerate() {

@@ -1,11 +1,13 @@
 //! What a dispatch is worth.
 
-ghost use Rattle.std.specs.Prelude.{◌≡◌, ◌⊎◌, ◌+◌, ◌<◌, length, map, IfOk, IfErr};
-ghost use Rattle.fraction_theory.specs.Fraction.{neg_ℚ, ◌+ℚ◌, ◌*ℚ◌};
+ghost use Rattle.std.specs.Prelude.{◌≡◌, ◌⊎◌, ◌+◌, ◌<◌, ◌++◌, List, length, map, IfOk, IfErr};
+ghost use Rattle.fraction_theory.specs.Fraction.{Fraction, neg_ℚ, ◌+ℚ◌, ◌*ℚ◌, whole};
+ghost use Rattle.market_data.specs.Participants.{IsDatum};
 ghost use Rattle.fraction_theory.specs.Sums.{total};
-ghost use Rattle.market_model.specs.LimitRows.{IsCauseOf, flow_by, penalty};
+ghost use Rattle.market_model.specs.Dispatch.{dispatch_with};
+ghost use Rattle.market_model.specs.LimitRows.{IsCauseOf, flow_by, penalty, rows as rows_of};
 ghost use Rattle.market_model.specs.NamedSums.{IsRefusedIn, IsShareRefusal};
-ghost use Rattle.market_model.specs.Optimality.{value_terms, welfare as welfare_of, welfare_terms};
+ghost use Rattle.market_model.specs.Optimality.{penalty_terms, value_terms, welfare as welfare_of, welfare_terms};
 ghost use Rattle.market_model.specs.Overrun.{excess_by};
 ghost use Rattle.market_model.specs.PutIn.{dispatch_of};
 ghost use Rattle.market_model.specs.SumTables.{IsFlowRefusal};
@@ -17,13 +19,13 @@ use crate::rows::excess;
 use exact_fraction::{Exact, Passed};
 use limit_rows::{is_soft, penalty_at, row_flow, rows};
 use limit_screen::carried_flows;
-use market_model::{Market, Row, block_value, datum};
+use market_model::{Market, ReserveOffer, Row, block_value, datum};
 
 /// The value of what is bought less the cost of what is sold, in block order.
 fn values<N: Exact>(market: &Market, dispatch: &[N]) -> Result<N, Passed<N>>
     requires { length dispatch.now ≡ length market.now.blocks }
     ensures values { IfOk result (λ values. N.value values ≡ total (value_terms market.now (dispatch_of N.value dispatch.now))) }
-    ensures cause { IfErr result (λ passed. IsRefusedIn (welfare_terms market.now (dispatch_of N.value dispatch.now)) N.bound (passed_at N.value passed)) }
+    ensures cause { (reserve : List Fraction) → IfErr result (λ passed. IsRefusedIn (welfare_terms market.now (dispatch_with (map N.value dispatch.now) reserve)) N.bound (passed_at N.value passed)) }
 {
     let mut sum: N = datum(0);
     for (place, block) in market.blocks().slice().iter().enumerate() {
@@ -47,13 +49,49 @@ fn less_penalty<N: Exact>(market: &Market, row: Row, flows: &[N], sum: N) -> Res
     sum.plus_product(penalty.neg(), excess)
 }
 
+/// What accepting a MW of an offer of reserve is worth, in 10^-6 per MWh: the opposite of its price.
+#[tactic(auto, using(market_data::proofs::Data::datum_read))]
+fn offer_value<N: Exact>(offer: &ReserveOffer) -> N
+    requires { IsDatum offer.now.price }
+    ensures { N.value result ≡ neg_ℚ (whole offer.now.price) }
+{
+    let price: N = datum(offer.price);
+    price.neg()
+}
+
+/// The worth of blocks and limits less what the accepted reserve costs, in the order of the offers.
+fn less_reserve_costs<N: Exact>(
+    market: &Market,
+    reserve: &[N],
+    of_energy: N,
+) -> Result<N, Passed<N>>
+    requires { length reserve.now ≡ length market.now.reserve.offers }
+    ensures worth { (blocks : List Fraction) → let x = dispatch_with blocks (map N.value reserve.now) in N.value of_energy ≡ total (value_terms market.now x ++ penalty_terms market.now (rows_of market.now) x)
+        → IfOk result (λ worth. N.value worth ≡ welfare_of market.now x) }
+    ensures cause { (blocks : List Fraction) → let x = dispatch_with blocks (map N.value reserve.now) in N.value of_energy ≡ total (value_terms market.now x ++ penalty_terms market.now (rows_of market.now) x)
+        → IfErr result (λ passed. IsRefusedIn (welfare_terms market.now x) N.bound (passed_at N.value passed)) }
+{
+    let mut sum = of_energy;
+    for (place, offer) in market.reserve().offers.slice().iter().enumerate() {
+        sum = sum.plus_product(offer_value(offer), reserve[place])?;
+    }
+    Ok(sum)
+}
+
 /// What a dispatch is worth whose flows are known, by bus, by line and by outage of a unit: the value of what is bought less the cost of what is sold, in
-/// block order, and less the penalties of the limits that give way, in row order; in 10^-15. A limit that does not costs no arithmetic.
-pub fn welfare<N: Exact>(market: &Market, dispatch: &[N], flows: &[N]) -> Result<N, Passed<N>>
+/// block order, less the penalties of the limits that give way, in row order, and less what the accepted reserve costs, in the order of the
+/// offers; in 10^-15. A limit that does not give way costs no arithmetic.
+pub fn welfare<N: Exact>(
+    market: &Market,
+    dispatch: &[N],
+    reserve: &[N],
+    flows: &[N],
+) -> Result<N, Passed<N>>
     requires dispatch { length dispatch.now ≡ length market.now.blocks }
+    requires reserve { length reserve.now ≡ length market.now.reserve.offers }
     requires flows { map N.value flows.now ≡ flows_at market.now (dispatch_of N.value dispatch.now) }
-    ensures worth { IfOk result (λ worth. N.value worth ≡ welfare_of market.now (dispatch_of N.value dispatch.now)) }
-    ensures cause { IfErr result (λ passed. IsWelfareRefusal market.now (dispatch_of N.value dispatch.now) N.bound (passed_at N.value passed)) }
+    ensures worth { IfOk result (λ worth. N.value worth ≡ welfare_of market.now (dispatch_with (map N.value dispatch.now) (map N.value reserve.now))) }
+    ensures cause { IfErr result (λ passed. IsWelfareRefusal market.now (dispatch_with (map N.value dispatch.now) (map N.value reserve.now)) N.bound (passed_at N.value passed)) }
 {
     let _buses = market.buses();
     let mut sum = values(market, dispatch)?;
@@ -62,5 +100,5 @@ pub fn welfare<N: Exact>(market: &Market, dispatch: &[N], flows: &[N]) -> Result
             sum = less_penalty(market, row, flows, sum)?;
         }
     }
-    Ok(sum)
+    less_reserve_costs(market, reserve, sum)
 }

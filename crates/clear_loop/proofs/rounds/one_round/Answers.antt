@@ -37,7 +37,7 @@ repose-requires-clause-bounds g c =
 pub repose-requires-clause-ordered : goal.repose-requires-clause-ordered
 repose-requires-clause-ordered g c =
     in_order g.N.Exact.value c.args.market.now c.args.hand.taken.rows c.args.hand.posing c.requires.posing c.slice.result.now c.slice-2.result.now c.slice.ensures (c.slice-2.ensures ∙ c.in_ok-bounds.ensures) c.args.hand.warm c.requires.start
-    c.lines-lines.ensures.market c.lines-lines.ensures.energy_alone
+    c.lines-lines.ensures.market (c.lines-lines.ensures.market.reserve.unlisted c.requires.start.2.unlisted)
 
 pub returns-in_err-posed-clause-cause : goal.returns-in_err-posed-clause-cause
 returns-in_err-posed-clause-cause g c =
@@ -45,14 +45,14 @@ returns-in_err-posed-clause-cause g c =
     let given : c.from_residual-in_err-posed.result ≡ Err (stop.Passed c.in_err-posed.field-0.0) = p.1 ∙ ap Err p.2 in
     rw given
     (posed_range g.N.Exact.value c.args.market.now c.args.hand.taken.rows c.args.hand.posing c.requires.posing c.slice.result.now c.slice-2.result.now c.slice.ensures (c.slice-2.ensures ∙ c.in_ok-bounds.ensures) c.args.hand.warm c.requires.start
-    c.lines-lines.ensures.market c.lines-lines.ensures.energy_alone g.N.Exact.bound c.in_err-posed.field-0.0 c.in_err-posed.ensures.pair)
+    c.lines-lines.ensures.market (c.lines-lines.ensures.market.reserve.unlisted c.requires.start.2.unlisted) g.N.Exact.bound c.in_err-posed.field-0.0 c.in_err-posed.ensures.pair)
 
 pub solve-requires : goal.solve-requires
 solve-requires g c = record {
   holds = (
     c.args.hand.taken.rows,
     posed_system g.N.Exact.value c.args.market.now c.args.hand.taken.rows c.args.hand.posing c.requires.posing c.slice.result.now c.slice-2.result.now c.slice.ensures (c.slice-2.ensures ∙ c.in_ok-bounds.ensures) c.args.hand.warm c.requires.start
-        c.lines-lines.ensures.market c.lines-lines.ensures.energy_alone c.in_ok-posed.posed c.in_ok-posed.ensures.posed,
+        c.lines-lines.ensures.market (c.lines-lines.ensures.market.reserve.unlisted c.requires.start.2.unlisted) c.in_ok-posed.posed c.in_ok-posed.ensures.posed,
   );
 }
 
@@ -60,7 +60,7 @@ pub returns-in_err-dict-clause-cause : goal.returns-in_err-dict-clause-cause
 returns-in_err-dict-clause-cause g c =
     let holds =
     posed_system g.N.Exact.value c.args.market.now c.args.hand.taken.rows c.args.hand.posing c.requires.posing c.slice.result.now c.slice-2.result.now c.slice.ensures (c.slice-2.ensures ∙ c.in_ok-bounds.ensures) c.args.hand.warm c.requires.start
-    c.lines-lines.ensures.market c.lines-lines.ensures.energy_alone c.in_ok-posed.posed c.in_ok-posed.ensures.posed in
+    c.lines-lines.ensures.market (c.lines-lines.ensures.market.reserve.unlisted c.requires.start.2.unlisted) c.in_ok-posed.posed c.in_ok-posed.ensures.posed in
     let p = err_from_is_err_and c.from_residual-in_err-dict.result c.from_residual-in_err-dict.ensures.1 in
     let given : c.from_residual-in_err-dict.result ≡ Err c.in_err-dict.field-0.0 = p.1 ∙ ap Err p.2 in
     rw given
@@ -73,7 +73,7 @@ returns-in-Nothing-clause-round g c =
     let rs = c.args.hand.taken.rows in
     let holds =
     posed_system g.N.Exact.value m rs c.args.hand.posing c.requires.posing c.slice.result.now c.slice-2.result.now c.slice.ensures (c.slice-2.ensures ∙ c.in_ok-bounds.ensures) c.args.hand.warm c.requires.start
-    c.lines-lines.ensures.market c.lines-lines.ensures.energy_alone c.in_ok-posed.posed c.in_ok-posed.ensures.posed in
+    c.lines-lines.ensures.market (c.lines-lines.ensures.market.reserve.unlisted c.requires.start.2.unlisted) c.in_ok-posed.posed c.in_ok-posed.ensures.posed in
     let none : IsFound g.N.Exact.value m rs (found.Nothing c.in-Nothing.dict c.in-Nothing.farkas) =
     subst (λ (f : Found g.row.N.Denot). IsFound g.N.Exact.value m rs f) c.in-Nothing.is (c.in_ok-dict.ensures.found rs holds) in
     (record { holds = none.0; names = c.requires.names; end = (none.1, none.2) }, refl)
@@ -85,7 +85,7 @@ found_best g c =
     let rs = c.args.hand.taken.rows in
     let holds =
     posed_system g.N.Exact.value m rs c.args.hand.posing c.requires.posing c.slice.result.now c.slice-2.result.now c.slice.ensures (c.slice-2.ensures ∙ c.in_ok-bounds.ensures) c.args.hand.warm c.requires.start
-    c.lines-lines.ensures.market c.lines-lines.ensures.energy_alone c.in_ok-posed.posed c.in_ok-posed.ensures.posed in
+    c.lines-lines.ensures.market (c.lines-lines.ensures.market.reserve.unlisted c.requires.start.2.unlisted) c.in_ok-posed.posed c.in_ok-posed.ensures.posed in
     subst (λ xs. IsFound g.N.Exact.value m rs (found.Best c.in-Best.dict xs)) (sym c.slice-3.ensures)
     (subst (λ (f : Found g.row.N.Denot). IsFound g.N.Exact.value m rs f) c.in-Best.is (c.in_ok-dict.ensures.found rs holds))
 
@@ -123,7 +123,7 @@ broken_row g c best =
     let rs = c.args.hand.taken.rows in
     let x = dispatch_of g.N.Exact.value c.slice-3.result.now in
     let market = c.lines-lines.ensures.market in
-    let alone = c.lines-lines.ensures.energy_alone in
+    let alone = market.reserve.unlisted c.requires.start.2.unlisted in
     let best_x = best_for m rs x (choice_duals m rs (choice_of c.in-Best.dict)) market best.2 in
     let worst = screened_broken g c in
     (worst_inside m market alone rs x worst.0 c.in-Broken.row worst.1, worst_new m market alone rs x worst.0 c.in-Broken.row worst.1 best_x, (x, best_x, worst_broken m market alone rs x worst.0 c.in-Broken.row worst.1))
@@ -175,6 +175,9 @@ solution_by_duals : (g : Over) (c : After-deref g) → let m = c.args.market.now
     IsFound g.N.Exact.value m rs (found.Best c.in-Best.dict c.slice-3.result.now) → AllKept m rs (dispatch_of g.N.Exact.value c.slice-3.result.now)
     → IsSolution m rs (dispatch_of g.N.Exact.value c.in-Best.dispatch) (duals_at g.N.Exact.value c.in_ok-duals-in-Within.duals)
 solution_by_duals g c best kept = record { solved = solved_by_duals g c best; kept = subst (λ xs. AllKept c.args.market.now c.args.hand.taken.rows (dispatch_of g.N.Exact.value xs)) c.slice-3.ensures kept }
+
+pub answer_of-requires-clause-energy_alone : goal.answer_of-requires-clause-energy_alone
+answer_of-requires-clause-energy_alone g c = c.requires.start.2.unlisted
 
 pub answer_of-requires-clause-solved : goal.answer_of-requires-clause-solved
 answer_of-requires-clause-solved g c =

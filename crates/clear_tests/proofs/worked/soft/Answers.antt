@@ -1,4 +1,4 @@
-use Rattle.std.proofs.Common.{◌≡◌, [], ◌∷◌, refl, sym, subst, w64}
+use Rattle.std.proofs.Common.{◌≡◌, [], ◌∷◌, sym, subst, w64}
 use Rattle.std.proofs.lemmas.Int.{to_z-of_z}
 use Rattle.std.proofs.lemmas.Result.{IfOk-weaker}
 use Rattle.market_model.specs.declared.participants.Parts.{Parts}
@@ -17,7 +17,7 @@ assemble-requires c =
       to_z-of_z w64 c.args.price c.ranges.price,
       to_z-of_z w64 c.args.excess c.ranges.excess,
     )
-    (worked_is_market c.args.price c.args.excess c.requires, refl)
+    (worked_is_market c.args.price c.args.excess c.requires)
 
 pub returns : goal.returns
 returns c =

@@ -17,5 +17,5 @@ returns-clause-clears g c =
       text_is = c.in_ok-report.ensures;
       certificate_is = certified-as (λ v. v.items) _ _ _ c.certified.ensures (c.in_ok-outcome_json.ensures.text ∙ ap (λ p. certificate_of p outcome) c.places.ensures);
       certificate_fits = subst (λ p. IfSome (cert_of_outcome p outcome) (NumbersFit g.N.Exact.bound)) c.places.ensures c.in_ok-outcome_json.ensures.fits;
-      energy_alone = c.of_energy_alone.ensures;
+      energy_alone = c.requires.energy_alone;
     }

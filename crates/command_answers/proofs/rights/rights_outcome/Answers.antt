@@ -22,7 +22,7 @@ returns-in-Cleared-clause-entitles g c =
       sides = c.in_ok-outcome.ensures.sides;
       told = subst (λ o. TellsOutcome g.N.Exact.bound m c.args.rights.now o (telling_of told)) (sym same)
           (of-cleared value g.N.Exact.bound m c.args.rights.now a c.slice-prices.result.now c.as_slice.result.now (telling_of told) c.slice-prices.ensures text tells);
-      energy_alone = c.of_energy_alone.ensures;
+      energy_alone = c.requires.energy_alone;
     })
     c.fit_told.ensures.tells
 
@@ -38,6 +38,6 @@ returns g c =
         sides = c.in_ok-outcome.ensures.sides;
         told = of-other g.N.Exact.value g.N.Exact.bound m c.args.rights.now c.in_ok-outcome.outcome (telling_of c.uncertified.result) c.in_default.not-Cleared
             (told-as c.uncertified.result _ _ _ _ c.uncertified.ensures.telling c.clear_status.ensures.status c.in_ok-reported.ensures);
-        energy_alone = c.of_energy_alone.ensures;
+        energy_alone = c.requires.energy_alone;
       };
     }

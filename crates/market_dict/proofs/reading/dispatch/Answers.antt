@@ -37,4 +37,4 @@ returns g c = λ rs holds.
     (c.loop-block.invariant ∙ ap (λ (n : ℕ). map (λ w. (note_of d w).value) (places n)) all
     ∙ map-members (λ w. (note_of d w).value) of_choice (places (length m.blocks))
     (λ w k. shown_value m rs d holds c.requires.shows w (block_named m rs d holds.holds w (from_places (length m.blocks) w k))))
-    ∙ sym (ap no_offers (no_places m c.blocks-2.ensures.energy_alone))
+    ∙ sym (ap no_offers (no_places m (c.blocks-2.ensures.market.reserve.unlisted holds.holds.unlisted)))

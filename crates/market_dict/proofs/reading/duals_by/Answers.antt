@@ -32,14 +32,14 @@ variable_of-requires g c =
     let k = c.loop-rank.rank in
     let lt : k < length c.args.dict.now.names = omega (arith, c.loop-rank-test.true, c.requires.costs) in
     let below : c.ranked-name.result < length m.blocks + 1 + length (rows m) = omega (arith, c.if-name-behind.false, blocks, c.count.ensures) in
-    rank_known m h.0 c.args.dict.now c.lines-lines.ensures.market c.lines-lines.ensures.energy_alone h.1 k c.ranked-name.result lt c.ranked-name.ensures below
+    rank_known m h.0 c.args.dict.now c.lines-lines.ensures.market (c.lines-lines.ensures.market.reserve.unlisted h.1.unlisted) h.1 k c.ranked-name.result lt c.ranked-name.ensures below
 
 pub loop-rank-preserved-then-name-behind : goal.loop-rank-preserved-then-name-behind
 loop-rank-preserved-then-name-behind g c =
     let m = c.args.market.now in
     let d = c.args.dict.now in
     let market = c.lines-lines.ensures.market in
-    let alone = c.lines-lines.ensures.energy_alone in
+    let alone = c.lines-lines.ensures.market.reserve.unlisted c.requires.holds.1.unlisted in
     let k = c.loop-rank.rank in
     let lt : k < length d.names = omega (arith, c.loop-rank-test.true, c.requires.costs) in
     let blocks : c.len.result ≡ length m.blocks = c.len.ensures ∙ ap length c.blocks-2.ensures.list in
@@ -62,7 +62,7 @@ name_at-requires-clause-line g c =
     let h = c.requires.holds in
     let market = c.lines-lines.ensures.market in
     (at_places m market c.in-Limit.row
-    (rank_row m h.0 c.args.dict.now market c.lines-lines.ensures.energy_alone h.1 c.loop-rank.rank c.ranked-name.result c.variable_of.result c.in-Limit.row (omega (arith, c.loop-rank-test.true, c.requires.costs)) c.ranked-name.ensures c.variable_of.ensures c.in-Limit.is)).0
+    (rank_row m h.0 c.args.dict.now market (market.reserve.unlisted h.1.unlisted) h.1 c.loop-rank.rank c.ranked-name.result c.variable_of.result c.in-Limit.row (omega (arith, c.loop-rank-test.true, c.requires.costs)) c.ranked-name.ensures c.variable_of.ensures c.in-Limit.is)).0
 
 pub name_at-requires-clause-lost : goal.name_at-requires-clause-lost
 name_at-requires-clause-lost g c =
@@ -70,14 +70,14 @@ name_at-requires-clause-lost g c =
     let h = c.requires.holds in
     let market = c.lines-lines.ensures.market in
     (at_places m market c.in-Limit.row
-    (rank_row m h.0 c.args.dict.now market c.lines-lines.ensures.energy_alone h.1 c.loop-rank.rank c.ranked-name.result c.variable_of.result c.in-Limit.row (omega (arith, c.loop-rank-test.true, c.requires.costs)) c.ranked-name.ensures c.variable_of.ensures c.in-Limit.is)).1
+    (rank_row m h.0 c.args.dict.now market (market.reserve.unlisted h.1.unlisted) h.1 c.loop-rank.rank c.ranked-name.result c.variable_of.result c.in-Limit.row (omega (arith, c.loop-rank-test.true, c.requires.costs)) c.ranked-name.ensures c.variable_of.ensures c.in-Limit.is)).1
 
 pub loop-rank-preserved : goal.loop-rank-preserved
 loop-rank-preserved g c =
     let m = c.args.market.now in
     let d = c.args.dict.now in
     let market = c.lines-lines.ensures.market in
-    let alone = c.lines-lines.ensures.energy_alone in
+    let alone = c.lines-lines.ensures.market.reserve.unlisted c.requires.holds.1.unlisted in
     let k = c.loop-rank.rank in
     let worth = g.N.Exact.value in
     let test = c.loop-rank-test.true in
@@ -179,7 +179,7 @@ returns g c = λ rs cost holds same.
     let m = c.args.market.now in
     let d = c.args.dict.now in
     let k = c.loop-rank.rank in
-    let alone = c.lines-lines.ensures.energy_alone in
+    let alone = c.lines-lines.ensures.market.reserve.unlisted c.requires.holds.1.unlisted in
     let count = name_count m rs d c.lines-lines.ensures.market alone holds in
     let all : length (variables m (in_order m rs)) ≤ k = omega (arith, count, c.requires.costs, c.loop-rank-test.false) in
     let priced = c.loop-rank.invariant.energy rs cost holds same (balance_all m cost (in_order m rs) k all) in

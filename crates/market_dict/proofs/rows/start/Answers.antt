@@ -20,7 +20,7 @@ pub returns : goal.returns
 returns g c =
     let m = c.args.market.now in
     IfOk-weaker c.start.result _ _
-    (λ d is. holds_start g.N.Exact.value m c.slice.result.now c.slice-2.result.now d c.lines-lines.ensures.market c.lines-lines.ensures.energy_alone (c.slice.ensures ∙ c.in_ok-names.ensures)
+    (λ d is. holds_start g.N.Exact.value m c.slice.result.now c.slice-2.result.now d c.lines-lines.ensures.market (c.lines-lines.ensures.market.reserve.unlisted c.requires.energy_alone) (c.slice.ensures ∙ c.in_ok-names.ensures)
     (ap (map g.N.Exact.value) c.slice-2.ensures ∙ c.in_ok-entries.ensures)
     (subst (λ (n : ℕ). IsStart g.N.Exact.value c.slice.result.now n c.slice-2.result.now d) c.name_of-balance.ensures is))
     c.start.ensures

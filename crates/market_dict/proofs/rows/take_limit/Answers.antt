@@ -45,7 +45,7 @@ returns-in-Ok-clause-taken g c = λ rs holds.
     let absent = absent_from m market h.0 d r h.1 c.requires.row h.2 rs holds in
     let count = put_count m market rs d r holds c.requires.row absent c.column_count.result c.column_count.ensures in
     holds_taken m market rs d r holds c.requires.row absent c.put_columns.new.dict (c.in_ok-put_columns.ensures rs holds absent) g.N.Exact.value c.slice.result.now
-    (ap (map g.N.Exact.value) c.slice.ensures ∙ c.in_ok-entries.ensures.entries rs absent count) c.lines-lines.ensures.energy_alone c.add_row.new.self
+    (ap (map g.N.Exact.value) c.slice.ensures ∙ c.in_ok-entries.ensures.entries rs absent count) (market.reserve.unlisted holds.unlisted) c.add_row.new.self
     (subst (λ (n : ℕ). AddsRow g.N.Exact.value c.put_columns.new.dict n c.slice.result.now c.add_row.new.self) c.name_of-name.ensures c.in-Ok.ensures.added)
 
 pub returns-in-Err-Passed-clause-cause : goal.returns-in-Err-Passed-clause-cause
@@ -59,7 +59,7 @@ returns-in-Err-Passed-clause-cause g c = λ rs holds.
     let count = put_count m market rs d r holds c.requires.row absent c.column_count.result c.column_count.ensures in
     let pair = rw c.in-Err-Passed.field-0-is at c.in-Err-Passed.ensures.pair in
     inl (pair_taken m market rs d r holds c.requires.row absent c.put_columns.new.dict (c.in_ok-put_columns.ensures rs holds absent) g.N.Exact.value c.slice.result.now
-    (ap (map g.N.Exact.value) c.slice.ensures ∙ c.in_ok-entries.ensures.entries rs absent count) c.lines-lines.ensures.energy_alone g.N.Exact.bound c.in-Err-Passed.passed
+    (ap (map g.N.Exact.value) c.slice.ensures ∙ c.in_ok-entries.ensures.entries rs absent count) (market.reserve.unlisted holds.unlisted) g.N.Exact.bound c.in-Err-Passed.passed
     (subst (λ (n : ℕ). IsPairWith g.N.Exact.value g.N.Exact.bound c.put_columns.new.dict n c.slice.result.now c.in-Err-Passed.passed) c.name_of-name.ensures pair))
 
 pub returns-in_err-entries-clause-cause : goal.returns-in_err-entries-clause-cause

@@ -1,4 +1,4 @@
-use Rattle.std.proofs.Common.{arith, [], ◌∷◌, pos, negsuc, refl}
+use Rattle.std.proofs.Common.{arith, [], ◌∷◌, pos, negsuc}
 use Rattle.std.proofs.lemmas.Int.{ints}
 use Rattle.market_data.specs.declared.participants.Bus.{Bus}
 use Rattle.market_data.specs.declared.participants.Unit as unit
@@ -25,11 +25,9 @@ room Buy = Prim.omega (arith, ints)
 
 pub assemble-requires : goal.assemble-requires
 assemble-requires g c =
-    rw (c.bare.ensures, c.in_ok-push.ensures, c.in_ok-push-2.ensures, c.in_ok-push-3.ensures, c.new-buses.ensures, c.new-units.ensures, c.new-blocks.ensures) (
-      one_each bus generator block
-          (record { load = Prim.omega arith; shunt = Prim.omega arith })
-          (record { row = Prim.omega arith; bus = Prim.omega arith; fixed = Prim.omega arith; up = Prim.omega (arith, ints); down = Prim.omega (arith, ints) })
-          (record { unit = Prim.omega arith; quantity = Prim.omega (arith, ints); price = Prim.omega arith })
-          room,
-      refl,
-    )
+    rw (c.bare.ensures, c.in_ok-push.ensures, c.in_ok-push-2.ensures, c.in_ok-push-3.ensures, c.new-buses.ensures, c.new-units.ensures, c.new-blocks.ensures)
+    (one_each bus generator block
+    (record { load = Prim.omega arith; shunt = Prim.omega arith })
+    (record { row = Prim.omega arith; bus = Prim.omega arith; fixed = Prim.omega arith; up = Prim.omega (arith, ints); down = Prim.omega (arith, ints) })
+    (record { unit = Prim.omega arith; quantity = Prim.omega (arith, ints); price = Prim.omega arith })
+    room)

@@ -1,4 +1,3 @@
-use Rattle.std.proofs.Common.{refl}
 use Rattle.rights_test.proofs.TestMarkets.{triangle_is_market}
 use Rattle.rights_test.proofs.tests.triangle.Goals as goal
 
@@ -15,4 +14,4 @@ assemble-requires c = rw (
   c.new-4.ensures,
   c.none.ensures,
 )
-    (triangle_is_market c.args.is_lost, refl)
+    (triangle_is_market c.args.is_lost)

@@ -1,4 +1,4 @@
-use Rattle.std.proofs.Common.{rules, Err, inl, subst₂, ◌≡◌, ◌∙◌, List, ap, length, map, sym}
+use Rattle.std.proofs.Common.{rules, Err, refl, inl, subst₂, ◌≡◌, ◌∙◌, List, ap, length, map, sym}
 use Rattle.std.proofs.lemmas.List.{length-map}
 use Rattle.fraction_theory.specs.Fraction.{Fraction}
 use Rattle.fraction_theory.specs.Sums.{total}
@@ -10,13 +10,14 @@ use Rattle.market_model.specs.LimitRows.{lost_unit}
 use Rattle.market_model.specs.NamedSums.{IsRefusedIn}
 use Rattle.market_model.specs.Optimality.{own_price}
 use Rattle.market_model.specs.Valued.{duals_at, load_at, money_at, passed_at, rent_at, reserve_pay_at, total_at, unit_pay_at}
+use Rattle.market_model.specs.Dispatch.{dispatch_with, places}
 use Rattle.market_model.specs.PutIn.{dispatch_of}
-use Rattle.market_model.proofs.EnergyAlone.{no_offers, no_pays}
 use Rattle.limit_screen.proofs.ScreenLemmas.{flow_count}
 use Rattle.market_model.specs.declared.stops.Stop.TheVariants as why
-use Rattle.market_model.specs.Settlement.{left_terms, pay_of_load, pay_of_unit}
+use Rattle.market_model.specs.Settlement.{left_terms, pay_of_load, pay_of_reserve, pay_of_unit}
 use Rattle.market_model.specs.SumTables.{left_of_all, payment}
 use Rattle.settlement.specs.Paying.{paid_terms}
+use Rattle.settlement.proofs.BlockFlows.{flows_of_blocks}
 use Rattle.settlement.proofs.ListLemmas.{sum_by-map}
 use Rattle.settlement.proofs.MoneyLemmas.{surplus_is, surplus_refused, rents_are_left, left_not_negative, count_fits, rows_fit}
 use Rattle.settlement.proofs.settling.settle_flows.Goals as goal
@@ -24,7 +25,7 @@ use Rattle.settlement.proofs.settling.settle_flows.Goals as goal
 pub returns-in_err-by_unit-clause-cause : goal.returns-in_err-by_unit-clause-cause
 returns-in_err-by_unit-clause-cause g c =
     let given : c.from_residual.result ≡ Err c.in_err-by_unit.field-0.0 = search rules in
-    rw given (c.in_err-by_unit.ensures.cause (dispatch_of g.N.Exact.value c.args.dispatch.now))
+    rw given (c.in_err-by_unit.ensures.cause (dispatch_with (map g.N.Exact.value c.args.dispatch.now) (map g.N.Exact.value c.args.reserve.now)))
 
 pub unit_pays-requires-clause-own : goal.unit_pays-requires-clause-own
 unit_pays-requires-clause-own g c = count_fits g.N.Exact.value _ _ _ (ap (map g.N.Exact.value) c.deref.ensures.value ∙ c.in_ok-by_unit.ensures.own)
@@ -33,7 +34,7 @@ pub returns-in_err-units-clause-cause : goal.returns-in_err-units-clause-cause
 returns-in_err-units-clause-cause g c =
     let given : c.from_residual-in_err-units.result ≡ Err c.in_err-units.field-0.0 = search rules in
     rw given
-    (c.in_err-units.ensures.cause (total_at g.N.Exact.value c.args.prices.now) (duals_at g.N.Exact.value c.args.duals.now)
+    (c.in_err-units.ensures.cause (map g.N.Exact.value c.args.reserve.now) (total_at g.N.Exact.value c.args.prices.now) (duals_at g.N.Exact.value c.args.duals.now)
     (ap (map g.N.Exact.value) c.deref.ensures.value ∙ c.in_ok-by_unit.ensures.own))
 
 pub lost_prices-requires : goal.lost_prices-requires
@@ -42,7 +43,7 @@ lost_prices-requires g c = count_fits g.N.Exact.value _ _ _ (ap (map g.N.Exact.v
 pub returns-in_err-loads-clause-cause : goal.returns-in_err-loads-clause-cause
 returns-in_err-loads-clause-cause g c =
     let given : c.from_residual-in_err-loads.result ≡ Err c.in_err-loads.field-0.0 = search rules in
-    rw given (c.in_err-loads.ensures.cause (dispatch_of g.N.Exact.value c.args.dispatch.now) (duals_at g.N.Exact.value c.args.duals.now))
+    rw given (c.in_err-loads.ensures.cause (dispatch_with (map g.N.Exact.value c.args.dispatch.now) (map g.N.Exact.value c.args.reserve.now)) (duals_at g.N.Exact.value c.args.duals.now))
 
 pub rents-requires-clause-flows : goal.rents-requires-clause-flows
 rents-requires-clause-flows g c =
@@ -51,18 +52,20 @@ rents-requires-clause-flows g c =
 pub returns-in_err-rents-clause-cause : goal.returns-in_err-rents-clause-cause
 returns-in_err-rents-clause-cause g c =
     let given : c.from_residual-in_err-rents.result ≡ Err c.in_err-rents.field-0.0 = search rules in
-    rw given (c.in_err-rents.ensures.cause (dispatch_of g.N.Exact.value c.args.dispatch.now) (total_at g.N.Exact.value c.args.prices.now) c.requires.flows)
+    rw given
+    (c.in_err-rents.ensures.cause (dispatch_with (map g.N.Exact.value c.args.dispatch.now) (map g.N.Exact.value c.args.reserve.now)) (total_at g.N.Exact.value c.args.prices.now)
+    (c.requires.flows ∙ flows_of_blocks c.args.market.now (map g.N.Exact.value c.args.dispatch.now) (map g.N.Exact.value c.args.reserve.now)))
 
 pub returns-in_err-surplus-clause-cause : goal.returns-in_err-surplus-clause-cause
 returns-in_err-surplus-clause-cause g c =
     let m = c.args.market.now in
     let value = g.N.Exact.value in
-    let x = dispatch_of value c.args.dispatch.now in
+    let x = dispatch_with (map value c.args.dispatch.now) (map value c.args.reserve.now) in
     let price = total_at value c.args.prices.now in
     let p = passed_at value c.in_err-surplus.field-0.0 in
     let given : c.from_residual-in_err-surplus.result ≡ Err (why.Passed c.in_err-surplus.field-0.0) = search rules in
     let d = duals_at value c.args.duals.now in
-    let pays = c.in_ok-units.ensures.pays price d (ap (map value) c.deref.ensures.value ∙ c.in_ok-by_unit.ensures.own) in
+    let pays = c.in_ok-units.ensures.pays (map value c.args.reserve.now) price d (ap (map value) c.deref.ensures.value ∙ c.in_ok-by_unit.ensures.own) in
     rw given
     (inl (
       left_terms m x price d,
@@ -75,45 +78,47 @@ pub returns-clause-money : goal.returns-clause-money
 returns-clause-money g c =
     let m = c.args.market.now in
     let value = g.N.Exact.value in
-    let x = dispatch_of value c.args.dispatch.now in
+    let x = dispatch_with (map value c.args.dispatch.now) (map value c.args.reserve.now) in
     let price = total_at value c.args.prices.now in
     let d = duals_at value c.args.duals.now in
-    let pays = c.in_ok-units.ensures.pays price d (ap (map value) c.deref.ensures.value ∙ c.in_ok-by_unit.ensures.own) in
+    let pays = c.in_ok-units.ensures.pays (map value c.args.reserve.now) price d (ap (map value) c.deref.ensures.value ∙ c.in_ok-by_unit.ensures.own) in
     let lost = c.in_ok-own.ensures (own_price m d price) (ap (map value) c.deref-2.ensures.value ∙ c.in_ok-by_unit.ensures.own) in
+    let reserved = c.in_ok-reserve.ensures.pays (map value c.args.dispatch.now) d refl ∙ ap (λ n. map (pay_of_reserve x d) (places n)) c.requires.reserve in
     λ i. record {
       units = pays i;
       own = lost i;
       loads = c.in_ok-loads.ensures.loads i;
-      rents = c.in_ok-rents.ensures.rents x c.requires.flows i;
+      rents = c.in_ok-rents.ensures.rents x (c.requires.flows ∙ flows_of_blocks m (map value c.args.dispatch.now) (map value c.args.reserve.now)) i;
       surplus = surplus_is value m x price d c.in_ok-loads.loads c.in_ok-units.units c.in_ok-loads.ensures.loads pays
           (value c.in_ok-surplus.surplus)
           (subst₂ (λ (ls : List (Load g.row.N.Denot)) (us : List (UnitPay g.row.N.Denot)). value c.in_ok-surplus.surplus ≡ total (paid_terms value ls us)) c.slice.ensures c.slice-2.ensures c.in_ok-surplus.ensures.left) i;
-      reserve = (ap (map (reserve_pay_at value)) c.new.ensures ∙ sym (no_pays m c.lines-lines.ensures.energy_alone x d)) i;
+      reserve = reserved i;
     }
 
 pub returns-clause-fits : goal.returns-clause-fits
 returns-clause-fits g c =
     let m = c.args.market.now in
     let value = g.N.Exact.value in
-    let x = dispatch_of value c.args.dispatch.now in
+    let x = dispatch_with (map value c.args.dispatch.now) (map value c.args.reserve.now) in
     let price = total_at value c.args.prices.now in
     let d = duals_at value c.args.duals.now in
-    let pays = c.in_ok-units.ensures.pays price d (ap (map value) c.deref.ensures.value ∙ c.in_ok-by_unit.ensures.own) in
+    let pays = c.in_ok-units.ensures.pays (map value c.args.reserve.now) price d (ap (map value) c.deref.ensures.value ∙ c.in_ok-by_unit.ensures.own) in
     let lost = c.in_ok-own.ensures (own_price m d price) (ap (map value) c.deref-2.ensures.value ∙ c.in_ok-by_unit.ensures.own) in
+    let reserved = c.in_ok-reserve.ensures.pays (map value c.args.dispatch.now) d refl ∙ ap (λ n. map (pay_of_reserve x d) (places n)) c.requires.reserve in
     record {
       units = count_fits (unit_pay_at value) (pay_of_unit m x price d) c.in_ok-units.units _ pays;
       own = count_fits value (λ k. own_price m d price (lost_unit m k)) c.in_ok-own.own _ lost;
       loads = count_fits (load_at value) (pay_of_load m price) c.in_ok-loads.loads _ c.in_ok-loads.ensures.loads;
-      rents = rows_fit value m x c.args.duals.now c.in_ok-rents.rents c.requires.duals.named (c.in_ok-rents.ensures.rents x c.requires.flows);
-      reserve = ap length c.new.ensures ∙ sym (ap length (no_offers m c.lines-lines.ensures.energy_alone));
+      rents = rows_fit value m x c.args.duals.now c.in_ok-rents.rents c.requires.duals.named (c.in_ok-rents.ensures.rents x (c.requires.flows ∙ flows_of_blocks m (map value c.args.dispatch.now) (map value c.args.reserve.now)));
+      reserve = count_fits (reserve_pay_at value) (pay_of_reserve x d) c.in_ok-reserve.reserve _ reserved;
     }
 
 pub returns-clause-surplus_is_rents : goal.returns-clause-surplus_is_rents
 returns-clause-surplus_is_rents g c =
     let m = c.args.market.now in
     let value = g.N.Exact.value in
-    let x = dispatch_of value c.args.dispatch.now in
-    let money : Money g.row.N.Denot = record { units = c.in_ok-units.units; own = c.in_ok-own.own; loads = c.in_ok-loads.loads; rents = c.in_ok-rents.rents; surplus = c.in_ok-surplus.surplus; reserve = c.new.result } in
+    let x = dispatch_with (map value c.args.dispatch.now) (map value c.args.reserve.now) in
+    let money : Money g.row.N.Denot = record { units = c.in_ok-units.units; own = c.in_ok-own.own; loads = c.in_ok-loads.loads; rents = c.in_ok-rents.rents; surplus = c.in_ok-surplus.surplus; reserve = c.in_ok-reserve.reserve } in
     λ best.
     rents_are_left m x (duals_at value c.args.duals.now) (total_at value c.args.prices.now) c.lines-lines.ensures.market (money_at value money) (returns-clause-money g c) best
     ∙ sum_by-map (rent_at value) (λ (r : Rent Fraction). r.rent) c.in_ok-rents.rents
@@ -122,7 +127,14 @@ pub returns-clause-not_negative : goal.returns-clause-not_negative
 returns-clause-not_negative g c =
     let m = c.args.market.now in
     let value = g.N.Exact.value in
-    let x = dispatch_of value c.args.dispatch.now in
-    let money : Money g.row.N.Denot = record { units = c.in_ok-units.units; own = c.in_ok-own.own; loads = c.in_ok-loads.loads; rents = c.in_ok-rents.rents; surplus = c.in_ok-surplus.surplus; reserve = c.new.result } in
+    let x = dispatch_with (map value c.args.dispatch.now) (map value c.args.reserve.now) in
+    let money : Money g.row.N.Denot = record { units = c.in_ok-units.units; own = c.in_ok-own.own; loads = c.in_ok-loads.loads; rents = c.in_ok-rents.rents; surplus = c.in_ok-surplus.surplus; reserve = c.in_ok-reserve.reserve } in
     λ best.
     left_not_negative m x (duals_at value c.args.duals.now) (total_at value c.args.prices.now) c.lines-lines.ensures.market (money_at value money) (returns-clause-money g c) best
+
+pub returns-in_err-reserve-clause-cause : goal.returns-in_err-reserve-clause-cause
+returns-in_err-reserve-clause-cause g c =
+    let value = g.N.Exact.value in
+    let given : c.from_residual-in_err-reserve.result ≡ Err c.in_err-reserve.field-0.0 = search rules in
+    rw given
+    (c.in_err-reserve.ensures.cause c.args.market.now (map value c.args.dispatch.now) (total_at value c.args.prices.now) (duals_at value c.args.duals.now) c.requires.reserve refl)

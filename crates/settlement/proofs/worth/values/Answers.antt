@@ -9,7 +9,7 @@ use Rattle.settlement.proofs.worth.values.Goals as goal
 pub loop-place-preserved : goal.loop-place-preserved
 loop-place-preserved g c =
     let blocks = c.slice-block-items.ensures ∙ c.blocks-2.ensures.list in
-    values_step g.N.Exact.value c.args.market.now c.blocks-2.ensures.energy_alone c.args.dispatch.now c.loop-place.place _ c.index-dispatch-place.result _ _ _
+    values_step g.N.Exact.value c.args.market.now c.args.dispatch.now c.loop-place.place _ c.index-dispatch-place.result _ _ _
     (omega (arith, c.requires, ap length blocks)) c.index-dispatch-place.is
     (ap (λ bs. slice_index_or bs c.loop-place.place (record { unit = 0; side = Sell; quantity = pos 0; price = pos 0 })) blocks)
     c.loop-place.invariant c.block_value.ensures c.in_ok-sum.ensures.exact
@@ -30,7 +30,7 @@ returns-in_err-sum-clause-cause g c =
     let below : k < length m.blocks = omega (arith, c.loop-place-test.true, ap length blocks) in
     let same = ap (λ bs. slice_index_or bs k (record { unit = 0; side = Sell; quantity = pos 0; price = pos 0 })) blocks in
     let inside : k < length c.args.dispatch.now = omega (arith, below, c.requires) in
-    rw given
-    (value_refused value m c.blocks-2.ensures.energy_alone c.args.dispatch.now k _ c.index-dispatch-place.result (value c.block_value.result) (value c.loop-place.sum) g.N.Exact.bound (passed_at value c.in_err-sum.field-0.0) below inside
+    λ reserve. rw given
+    (value_refused value m c.args.dispatch.now reserve k _ c.index-dispatch-place.result (value c.block_value.result) (value c.loop-place.sum) g.N.Exact.bound (passed_at value c.in_err-sum.field-0.0) below inside
     c.index-dispatch-place.is same c.loop-place.invariant c.block_value.ensures
     (share_refused value g.N.Exact.bound c.loop-place.sum c.block_value.result c.index-dispatch-place.result c.in_err-sum.field-0.0 _ _ _ c.in_err-sum.ensures refl refl refl))

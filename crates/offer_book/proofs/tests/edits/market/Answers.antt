@@ -71,4 +71,4 @@ assemble-requires c =
     let units : c.push-2.new.self ≡ the_unit ∷ [] = rw c.new-units.ensures at c.in_ok-push-2.ensures in
     let blocks : c.push-4.new.self ≡ cheap ∷ dear ∷ [] = rw (c.in_ok-push-3.ensures, c.new-blocks.ensures) at c.in_ok-push-4.ensures in
     let lines : c.push-5.new.self ≡ the_line ∷ [] = rw (c.new-lines.ensures, c.hard.ensures) at c.in_ok-push-5.ensures in
-    rw (c.bare.ensures, buses, units, blocks, lines) (is_market, refl)
+    rw (c.bare.ensures, buses, units, blocks, lines) is_market

@@ -1,0 +1,134 @@
+-- What units use of their rooms, part by part, and the worst of some units, with one more.
+use Rattle.std.specs.Prelude.{◌≡◌, ◌⊎◌, ℕ, ◌+◌, ◌<◌, ◌≤◌, Bool, true, false, List, ◌++◌, map, filter, length, Option, Some, None, Contains, if◌then◌else◌}
+use Rattle.std.proofs.Common.{arith, inl, inr, ap, ap₂, sym, subst, ◌∙◌}
+use Rattle.std.proofs.lemmas.Bool.{cases_lt}
+use Rattle.fraction_theory.specs.Fraction.{Fraction, ◌+ℚ◌}
+use Rattle.fraction_theory.specs.Order.{◌<ℚ◌, ◌≤ℚ◌}
+use Rattle.fraction_theory.specs.Sums.{Term, Plain, total}
+use Rattle.fraction_theory.proofs.FieldLaws.{+ℚ_assoc}
+use Rattle.fraction_theory.proofs.ListSums.{Contains-filter, Contains-from_filter}
+use Rattle.fraction_theory.proofs.OrderLaws.{<ℚ-≤ℚ, ≤ℚ_refl, ≤ℚ-<ℚ_trans}
+use Rattle.fraction_theory.proofs.SumLaws.{total-append}
+use Rattle.exact_fraction.specs.declared.Op.TheVariants.{Plus}
+use Rattle.exact_fraction.specs.declared.Passed.{Passed}
+use Rattle.market_model.specs.declared.participants.Parts.{Parts}
+use Rattle.market_model.specs.Dispatch.{Dispatch, zero, places}
+use Rattle.market_model.specs.NamedSums.{IsRefusal, IsRefusedIn}
+use Rattle.market_model.specs.Reserves.{offers_reserve, reserve_units, room, room_used}
+use Rattle.market_model.proofs.MorePlaces.{total-filter_more}
+use Rattle.market_model.proofs.RowMembers.{Contains-places, Contains-from_places}
+use Rattle.market_model.proofs.SumSteps.{behind, in_front, plus_at, tested_at}
+use Rattle.limit_screen.specs.Rooms.{AllKeepRooms, IsWorstRoom, IsWorstRoomBefore, IsWorstRoomTo, room_overrun}
+use Rattle.limit_screen.specs.declared.sharing.RoomOverrun.{RoomOverrun}
+use Rattle.limit_screen.proofs.ScreenLemmas.{above_nil, below_nil}
+
+-- ---- numbers that count where a test holds, behind other terms
+module _ (front : List Term) (test : ℕ → Bool) (f : ℕ → Fraction) where
+  abbrev pub counted_to : ℕ → List Term
+  counted_to k = front ++ map (λ i. Plain (f i)) (filter test (places k))
+
+  -- one more
+  pub counted_step : (k : ℕ) (counts : Bool) (part old new : Fraction) → counts ≡ test k → part ≡ f k → old ≡ total (counted_to k) → new ≡ old +ℚ (if counts then part else zero)
+      → new ≡ total (counted_to (k + 1))
+  counted_step k counts part old new is at before e =
+      let so_far : List Term = map (λ i. Plain (f i)) (filter test (places k)) in
+      let more : Fraction = if test k then f k else zero in
+      e ∙ ap₂ (λ (b : Bool) t. old +ℚ (if b then t else zero)) is at
+      ∙ ap (λ t. t +ℚ more) (before ∙ total-append front so_far)
+      ∙ +ℚ_assoc (total front) (total so_far) more
+      ∙ ap (λ t. total front +ℚ t) (sym (total-filter_more test (λ i. Plain (f i)) k))
+      ∙ sym (total-append front (map (λ i. Plain (f i)) (filter test (places (k + 1)))))
+
+  -- it is added, in front of the rest
+  pub counted_refused : (rest terms : List Term) (n k : ℕ) (counts : Bool) (part sum : Fraction) (bound : ℕ) (p : Passed Fraction) → terms ≡ counted_to n ++ rest → k < n → counts ≡ test k → counts ≡ true
+      → part ≡ f k → sum ≡ total (counted_to k) → IsRefusal Plus sum part bound p → IsRefusedIn terms bound p
+  counted_refused rest terms n k counts part sum bound p all below is true_ at before h =
+      let t = tested_at test (λ i. Plain (f i)) n k below (sym is ∙ true_) in
+      plus_at terms (counted_to k) (t.0 ++ rest) (Plain (f k))
+      (all ∙ in_front (counted_to n) (counted_to k) t.0 rest (Plain (f k))
+      (behind front (map (λ i. Plain (f i)) (filter test (places n))) (map (λ i. Plain (f i)) (filter test (places k))) t.0 (Plain (f k)) t.1))
+      bound p sum part before at h
+
+-- ---- units that offer reserve
+clash : (b : Bool) → b ≡ false → b ≡ true → ⊥
+clash true e f = absurd Prim.cc
+clash false e f = absurd Prim.cc
+
+module _ (m : Parts) (u : ℕ) where
+  pub offers-listed : u < length m.units → offers_reserve m u ≡ true → Contains (reserve_units m) u
+  offers-listed lt offers = Contains-filter (offers_reserve m) (places (length m.units)) u (Contains-places (length m.units) u lt) offers
+
+  pub not-listed : offers_reserve m u ≡ false → ¬ (Contains (reserve_units m) u)
+  not-listed none c = clash (offers_reserve m u) none (Contains-from_filter (offers_reserve m) (places (length m.units)) u c).1
+
+  pub listed-inside : Contains (reserve_units m) u → u < length m.units
+  listed-inside c = Contains-from_places (length m.units) u (Contains-from_filter (offers_reserve m) (places (length m.units)) u c).0
+
+-- ---- the worst, with one unit more
+module _ {N : Type 0} (value : N → Fraction) (m : Parts) (x : Dispatch) (u : ℕ) where
+  before_or_here : (P : ℕ → Type 0) → ((v : ℕ) → v < u → P v) → P u → (v : ℕ) → v < u + 1 → P v
+  before_or_here P before here v lt = by (cases_lt v u)
+    where
+      by : (v < u) ⊎ (u ≤ v) → P v
+      by (inl less) = before v less
+      by (inr more) = let same : u ≡ v = Prim.omega (arith, lt, more) in subst P same here
+
+  -- a unit that keeps its room, or offers none
+  pub still_worst : (worst : Option (RoomOverrun N)) → (Contains (reserve_units m) u → room_used m x u ≤ℚ room m u) → IsWorstRoomTo value m x u worst → IsWorstRoomTo value m x (u + 1) worst
+  still_worst None keeps none = before_or_here (λ v. Contains (reserve_units m) v → room_used m x v ≤ℚ room m v) none keeps
+  still_worst (Some b) keeps (h, is) = (
+    record {
+      before = Prim.omega (arith, h.before);
+      offers = h.offers;
+      passed = h.passed;
+      most =
+          before_or_here (λ v. Contains (reserve_units m) v → room_overrun m x v ≤ℚ room_overrun m x b.unit) h.most
+          (λ c. <ℚ-≤ℚ (room_overrun m x u) (room_overrun m x b.unit) (≤ℚ-<ℚ_trans (room_overrun m x u) zero (room_overrun m x b.unit) (below_nil (room_used m x u) (room m u) (keeps c)) (above_nil (room_used m x b.unit) (room m b.unit) h.passed)));
+      first = h.first;
+    },
+    is,
+  )
+
+  -- a unit that passes its room by no more
+  pub old_worst_room : (b : RoomOverrun N) → room_overrun m x u ≤ℚ room_overrun m x b.unit → IsWorstRoomBefore m x u b.unit → IsWorstRoomBefore m x (u + 1) b.unit
+  old_worst_room b less h = record {
+    before = Prim.omega (arith, h.before);
+    offers = h.offers;
+    passed = h.passed;
+    most = before_or_here (λ v. Contains (reserve_units m) v → room_overrun m x v ≤ℚ room_overrun m x b.unit) h.most (λ c. less);
+    first = h.first;
+  }
+
+  -- and one that is the worst now
+  module _ (offers : Contains (reserve_units m) u) (passed : room m u <ℚ room_used m x u) where
+    new_worst_room : ((v : ℕ) → v < u → Contains (reserve_units m) v → room_overrun m x v <ℚ room_overrun m x u) → IsWorstRoomBefore m x (u + 1) u
+    new_worst_room more = record {
+      before = Prim.omega arith;
+      offers = offers;
+      passed = passed;
+      most =
+          before_or_here (λ v. Contains (reserve_units m) v → room_overrun m x v ≤ℚ room_overrun m x u) (λ v lt c. <ℚ-≤ℚ (room_overrun m x v) (room_overrun m x u) (more v lt c))
+          (λ c. ≤ℚ_refl (room_overrun m x u));
+      first = more;
+    }
+
+    pub worse_than_old_room : (b : RoomOverrun N) → IsWorstRoomBefore m x u b.unit → room_overrun m x b.unit <ℚ room_overrun m x u → IsWorstRoomBefore m x (u + 1) u
+    worse_than_old_room b h more = new_worst_room (λ v lt c. ≤ℚ-<ℚ_trans (room_overrun m x v) (room_overrun m x b.unit) (room_overrun m x u) (h.most v lt c) more)
+
+    pub first_worst_room : ((v : ℕ) → v < u → Contains (reserve_units m) v → room_used m x v ≤ℚ room m v) → IsWorstRoomBefore m x (u + 1) u
+    first_worst_room none =
+        new_worst_room
+        (λ v lt c. ≤ℚ-<ℚ_trans (room_overrun m x v) zero (room_overrun m x u) (below_nil (room_used m x v) (room m v) (none v lt c)) (above_nil (room_used m x u) (room m u) passed))
+
+-- ---- all units
+module _ (m : Parts) (x : Dispatch) (place : ℕ) (all : length m.units ≤ place) where
+  pub keep_rooms : ((v : ℕ) → v < place → Contains (reserve_units m) v → room_used m x v ≤ℚ room m v) → AllKeepRooms m x
+  keep_rooms none u c = let lt = listed-inside m u c in none u (Prim.omega (arith, lt, all)) c
+
+  pub worst_of_all : (u : ℕ) → IsWorstRoomBefore m x place u → IsWorstRoom m x u
+  worst_of_all u h = record {
+    offers = h.offers;
+    passed = h.passed;
+    most = λ v c. let lt = listed-inside m v c in h.most v (Prim.omega (arith, lt, all)) c;
+    first = h.first;
+  }
