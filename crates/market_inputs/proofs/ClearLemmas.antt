@@ -1,6 +1,7 @@
--- The steps of a clear, one behind the other.
-use Rattle.std.proofs.Common.{◌≡◌, ap, sym, List, Result, Ok, Err}
+-- The steps of a clear: parts of the work that are told of as one come in the order of the files.
+use Rattle.std.proofs.Common.{List, Result, Ok, map}
 use Rattle.case_text.specs.Matrices.{CaseMatrices}
+use Rattle.market_model.specs.declared.participants.Line.{Line}
 use Rattle.market_model.specs.declared.participants.Parts.{Parts}
 use Rattle.market_data.specs.declared.scales.FactorPlaces.{FactorPlaces}
 use Rattle.net_case.specs.Networks.{LiveNetwork}
@@ -9,22 +10,72 @@ use Rattle.factor_tables.specs.Offsets.{OffsetEntry}
 use Rattle.factor_tables.specs.Penalties.{PenaltyEntry}
 use Rattle.outage_list.specs.declared.unit_listing.UnitOutages.{UnitOutages}
 use Rattle.refusal_text.specs.declared.refusals.Refusal.{Refusal}
+use Rattle.market_inputs.specs.declared.covering.Covered.{Covered}
 use Rattle.market_inputs.specs.declared.offers.Offered.{Offered}
-use Rattle.market_inputs.specs.declared.stops.InputStop.{InputStop}
 use Rattle.market_inputs.specs.declared.tables.Tables.{Tables}
-use Rattle.market_inputs.specs.Cases.{IsJoinedNetwork, matrices_in}
-use Rattle.market_inputs.specs.Clearing.{IsClearMarket, market_of}
+use Rattle.market_inputs.specs.Cases.{IsJoinedNetwork, IsReadNetwork, matrices_in}
+use Rattle.market_inputs.specs.Clearing.{AreCovered, AreCoveredUnits, AreLimitedParts, AreListedLines, AreMarketParts, ArePricedLines, IsClearMarket, limited_of, line_of, market_of, whole_of}
 use Rattle.market_inputs.specs.Files.{SizedTables}
 use Rattle.market_inputs.specs.Steps.{Is, Then}
-use Rattle.market_inputs.specs.Stops.{IsToldAs}
 use Rattle.market_inputs.specs.Tables.{AreTables, cover_in, offers_in, offsets_in, penalties_in, unit_outages_in}
-use Rattle.market_inputs.proofs.StepLemmas.{goes-on, stops}
+use Rattle.market_inputs.proofs.StepLemmas.{then-made, then-map, then-then}
 
--- ---- before the tables are read
-module _ (rating : PostRating) (places : FactorPlaces) (files : SizedTables) where
-  abbrev in_all : Result Parts Refusal → Type 0
-  in_all = IsClearMarket rating places files
+module _ (network : LiveNetwork) (files : SizedTables) (told : Result Parts Refusal) where
+  -- ---- the outages of units
+  module _ (tables : Tables) (R : UnitOutages → Result Parts Refusal → Type 0) where
+    abbrev units_first : Type 0
+    units_first = Then (Is (unit_outages_in network files.unit_outages)) (λ lost. Then (Is (cover_in network tables lost)) (λ _. R lost)) told
 
+    units-read : Then (AreCoveredUnits network tables files.unit_outages) R told → units_first
+    units-read h =
+        then-map _ (λ (lost : UnitOutages). Then (Then (Is (cover_in network tables lost)) (λ _. Is (Ok lost))) R) _ told
+        (λ lost. then-made (Is (cover_in network tables lost)) (λ _. lost) R told)
+        (then-then (Is (unit_outages_in network files.unit_outages)) (λ lost. Then (Is (cover_in network tables lost)) (λ _. Is (Ok lost))) R told h)
+
+  -- ---- the tables, and the outages of units behind them
+  module _ (places : FactorPlaces) (R : Covered → Result Parts Refusal → Type 0) where
+    abbrev covered : Tables → UnitOutages → Covered
+    covered tables lost = record { tables = tables; lost = lost }
+
+    abbrev tables_first : Type 0
+    tables_first = Then (AreTables places network files.grid) (λ tables.
+        Then (Is (unit_outages_in network files.unit_outages)) (λ lost.
+        Then (Is (cover_in network tables lost)) (λ _. R (covered tables lost)))) told
+
+    tables-read : Then (AreCovered places network files) R told → tables_first
+    tables-read h =
+        then-map _ (λ (tables : Tables). Then (Then (AreCoveredUnits network tables files.unit_outages) (λ lost. Is (Ok (covered tables lost)))) R) _ told
+        (λ tables behind. units-read tables (λ lost. R (covered tables lost)) (then-made (AreCoveredUnits network tables files.unit_outages) (covered tables) R told behind))
+        (then-then (AreTables places network files.grid) (λ tables. Then (AreCoveredUnits network tables files.unit_outages) (λ lost. Is (Ok (covered tables lost)))) R told h)
+
+  -- ---- the offsets, and the penalties behind them
+  module _ (R : List Line → Result Parts Refusal → Type 0) where
+    abbrev lines_first : Type 0
+    lines_first = Then (Is (offsets_in network files.offsets)) (λ moved.
+        Then (Is (penalties_in network files.penalties)) (λ priced. R (map (line_of moved priced) network.branches))) told
+
+    lines-read : Then (AreListedLines network files.offsets files.penalties) R told → lines_first
+    lines-read h =
+        then-map _ (λ (moved : List OffsetEntry). Then (ArePricedLines network moved files.penalties) R) _ told
+        (λ moved. then-made (Is (penalties_in network files.penalties)) (λ priced. map (line_of moved priced) network.branches) R told)
+        (then-then (Is (offsets_in network files.offsets)) (λ moved. ArePricedLines network moved files.penalties) R told h)
+
+  -- ---- the offers, and the lines behind them
+  module _ (tables : Tables) (R : Parts → Result Parts Refusal → Type 0) where
+    abbrev offers_first : Type 0
+    offers_first = Then (Is (offers_in network files.offers)) (λ offered.
+        Then (Is (offsets_in network files.offsets)) (λ moved.
+        Then (Is (penalties_in network files.penalties)) (λ priced. R (limited_of network tables offered (map (line_of moved priced) network.branches))))) told
+
+    offers-read : Then (AreLimitedParts network tables files) R told → offers_first
+    offers-read h =
+        then-map _ (λ (offered : Offered). Then (Then (AreListedLines network files.offsets files.penalties) (λ lines. Is (Ok (limited_of network tables offered lines)))) R) _ told
+        (λ offered behind. lines-read (λ lines. R (limited_of network tables offered lines))
+        (then-made (AreListedLines network files.offsets files.penalties) (limited_of network tables offered) R told behind))
+        (then-then (Is (offers_in network files.offers)) (λ offered. Then (AreListedLines network files.offsets files.penalties) (λ lines. Is (Ok (limited_of network tables offered lines)))) R told h)
+
+-- ---- all files
+module _ (rating : PostRating) (places : FactorPlaces) (files : SizedTables) (told : Result Parts Refusal) where
   abbrev behind_cover : LiveNetwork → Tables → UnitOutages → Result Parts Refusal → Type 0
   behind_cover network tables lost = Then (Is (offers_in network files.offers)) (λ offered.
       Then (Is (offsets_in network files.offsets)) (λ moved.
@@ -39,92 +90,21 @@ module _ (rating : PostRating) (places : FactorPlaces) (files : SizedTables) whe
   abbrev behind_network : LiveNetwork → Result Parts Refusal → Type 0
   behind_network network = Then (AreTables places network files.grid) (behind_tables network)
 
-  abbrev behind_case : CaseMatrices → Result Parts Refusal → Type 0
-  behind_case raw = Then (IsJoinedNetwork rating raw) behind_network
+  -- the parts that are made of tables that lack nothing
+  abbrev made_whole : LiveNetwork → Covered → Result Parts Refusal → Type 0
+  made_whole network covered = Then (AreLimitedParts network covered.tables files) (λ limited. Is (Ok (whole_of places network covered limited)))
 
-  -- the case stops the work
-  pub case-stop : (r : Result CaseMatrices InputStop) (out : Result Parts InputStop) (e : InputStop) → IsToldAs (Is (matrices_in files.grid.case)) r → r ≡ Err e → out ≡ Err e → IsToldAs in_all out
-  case-stop r out e told is gives = stops (Is (matrices_in files.grid.case)) behind_case r out e told is gives
+  parts-read : (network : LiveNetwork) → AreMarketParts places files network told → behind_network network told
+  parts-read network h =
+      then-map (AreTables places network files.grid) _ (behind_tables network) told
+      (λ tables. then-map (Is (unit_outages_in network files.unit_outages)) _ (behind_units network tables) told
+      (λ lost. then-map (Is (cover_in network tables lost)) _ (λ _. behind_cover network tables lost) told
+      (λ _. offers-read network files told tables (λ limited. Is (Ok (whole_of places network (record { tables = tables; lost = lost }) limited))))))
+      (tables-read network files told places (made_whole network) h)
 
-  module _ (raw : CaseMatrices) (raw-is : matrices_in files.grid.case ≡ Ok raw) where
-    -- its rows do
-    pub network-stop : (r : Result LiveNetwork InputStop) (out : Result Parts InputStop) (e : InputStop) → IsToldAs (IsJoinedNetwork rating raw) r → r ≡ Err e → out ≡ Err e → IsToldAs in_all out
-    network-stop r out e told is gives = goes-on (Is (matrices_in files.grid.case)) behind_case raw out raw-is (stops (IsJoinedNetwork rating raw) behind_network r out e told is gives)
-
-    module _ (network : LiveNetwork) (network-is : IsJoinedNetwork rating raw (Ok network)) where
-      -- its tables do
-      pub tables-stop : (r : Result Tables InputStop) (out : Result Parts InputStop) (e : InputStop) → IsToldAs (AreTables places network files.grid) r → r ≡ Err e → out ≡ Err e → IsToldAs in_all out
-      tables-stop r out e told is gives =
-          goes-on (Is (matrices_in files.grid.case)) behind_case raw out raw-is
-          (goes-on (IsJoinedNetwork rating raw) behind_network network out network-is (stops (AreTables places network files.grid) (behind_tables network) r out e told is gives))
-
-      module _ (tables : Tables) (tables-are : AreTables places network files.grid (Ok tables)) where
-        behind-tables : (out : Result Parts InputStop) → IsToldAs (behind_tables network tables) out → IsToldAs in_all out
-        behind-tables out rest =
-            goes-on (Is (matrices_in files.grid.case)) behind_case raw out raw-is
-            (goes-on (IsJoinedNetwork rating raw) behind_network network out network-is (goes-on (AreTables places network files.grid) (behind_tables network) tables out tables-are rest))
-
-        -- the outages of units do
-        pub units-stop : (r : Result UnitOutages InputStop) (out : Result Parts InputStop) (e : InputStop) → IsToldAs (Is (unit_outages_in network files.unit_outages)) r → r ≡ Err e → out ≡ Err e → IsToldAs in_all out
-        units-stop r out e told is gives = behind-tables out (stops (Is (unit_outages_in network files.unit_outages)) (behind_units network tables) r out e told is gives)
-
-        -- what the tables lack does
-        pub cover-stop : (lost : UnitOutages) → unit_outages_in network files.unit_outages ≡ Ok lost → (r : Result (Unit {0}) InputStop) (out : Result Parts InputStop) (e : InputStop)
-            → IsToldAs (Is (cover_in network tables lost)) r → r ≡ Err e → out ≡ Err e → IsToldAs in_all out
-        cover-stop lost lost-is r out e told is gives =
-            behind-tables out (goes-on (Is (unit_outages_in network files.unit_outages)) (behind_units network tables) lost out lost-is
-            (stops (Is (cover_in network tables lost)) (λ _. behind_cover network tables lost) r out e told is gives))
-
--- ---- behind what the tables lack
--- the tables lack nothing
-pub record IsCovered (rating : PostRating) (places : FactorPlaces) (files : SizedTables) (raw : CaseMatrices) (network : LiveNetwork) (tables : Tables) (lost : UnitOutages) : Type 0 where
-  pub raw_is : matrices_in files.grid.case ≡ Ok raw
-  pub network_is : IsJoinedNetwork rating raw (Ok network)
-  pub tables_are : AreTables places network files.grid (Ok tables)
-  pub lost_is : unit_outages_in network files.unit_outages ≡ Ok lost
-  pub covers : cover_in network tables lost ≡ Ok tt
-
-module _ (rating : PostRating) (places : FactorPlaces) (files : SizedTables) (raw : CaseMatrices) (network : LiveNetwork) (tables : Tables) (lost : UnitOutages)
-    (covered : IsCovered rating places files raw network tables lost) where
-  -- the market, once the offers, the offsets and the penalties are read
-  abbrev made : Offered → List OffsetEntry → List PenaltyEntry → Result Parts Refusal → Type 0
-  made offered moved priced = Is (Ok (market_of places network tables lost offered moved priced))
-
-  abbrev behind_offsets : Offered → List OffsetEntry → Result Parts Refusal → Type 0
-  behind_offsets offered moved = Then (Is (penalties_in network files.penalties)) (made offered moved)
-
-  abbrev behind_offers : Offered → Result Parts Refusal → Type 0
-  behind_offers offered = Then (Is (offsets_in network files.offsets)) (behind_offsets offered)
-
-  behind-cover : (out : Result Parts InputStop) → IsToldAs (Then (Is (offers_in network files.offers)) behind_offers) out → IsToldAs (IsClearMarket rating places files) out
-  behind-cover out rest = goes-on _ _ raw out covered.raw_is (goes-on _ _ network out covered.network_is (goes-on _ _ tables out covered.tables_are
-      (goes-on _ _ lost out covered.lost_is (goes-on _ _ tt out covered.covers rest))))
-
-  -- the offers stop the work
-  pub offers-stop : (r : Result Offered InputStop) (out : Result Parts InputStop) (e : InputStop) → IsToldAs (Is (offers_in network files.offers)) r → r ≡ Err e → out ≡ Err e
-      → IsToldAs (IsClearMarket rating places files) out
-  offers-stop r out e told is gives = behind-cover out (stops (Is (offers_in network files.offers)) behind_offers r out e told is gives)
-
-  module _ (offered : Offered) (offered-is : offers_in network files.offers ≡ Ok offered) where
-    -- the offsets stop the work
-    pub offsets-stop : (r : Result (List OffsetEntry) InputStop) (out : Result Parts InputStop) (e : InputStop) → IsToldAs (Is (offsets_in network files.offsets)) r → r ≡ Err e → out ≡ Err e
-        → IsToldAs (IsClearMarket rating places files) out
-    offsets-stop r out e told is gives =
-        behind-cover out (goes-on (Is (offers_in network files.offers)) behind_offers offered out offered-is (stops (Is (offsets_in network files.offsets)) (behind_offsets offered) r out e told is gives))
-
-    module _ (moved : List OffsetEntry) (moved-is : offsets_in network files.offsets ≡ Ok moved) where
-      behind-offsets : (out : Result Parts InputStop) → IsToldAs (behind_offsets offered moved) out → IsToldAs (IsClearMarket rating places files) out
-      behind-offsets out rest =
-          behind-cover out (goes-on (Is (offers_in network files.offers)) behind_offers offered out offered-is
-          (goes-on (Is (offsets_in network files.offsets)) (behind_offsets offered) moved out moved-is rest))
-
-      -- the penalties do
-      pub penalties-stop : (r : Result (List PenaltyEntry) InputStop) (out : Result Parts InputStop) (e : InputStop) → IsToldAs (Is (penalties_in network files.penalties)) r → r ≡ Err e → out ≡ Err e
-          → IsToldAs (IsClearMarket rating places files) out
-      penalties-stop r out e told is gives = behind-offsets out (stops (Is (penalties_in network files.penalties)) (made offered moved) r out e told is gives)
-
-      -- nothing does
-      pub all-read : (priced : List PenaltyEntry) (market : Parts) → penalties_in network files.penalties ≡ Ok priced → market ≡ market_of places network tables lost offered moved priced
-          → IsClearMarket rating places files (Ok market)
-      all-read priced market is same =
-          behind-offsets (Ok market) (goes-on (Is (penalties_in network files.penalties)) (made offered moved) priced (Ok market) is (ap Ok (sym same)))
+  -- a network that is read, and then its parts, is a market
+  pub market-read : Then (IsReadNetwork rating files.grid.case) (AreMarketParts places files) told → IsClearMarket rating places files told
+  market-read h =
+      then-map (Is (matrices_in files.grid.case)) _ _ told
+      (λ (matrices : CaseMatrices). then-map (IsJoinedNetwork rating matrices) (AreMarketParts places files) behind_network told parts-read)
+      (then-then (Is (matrices_in files.grid.case)) (IsJoinedNetwork rating) (AreMarketParts places files) told h)

@@ -10,9 +10,8 @@ use Rattle.market_data.specs.declared.participants.Unit as unit
 use Rattle.market_model.specs.declared.participants.Factor.{Factor}
 use Rattle.market_model.specs.declared.participants.Line.{Line}
 use Rattle.market_model.specs.Lines.{IsPenalty}
-use Rattle.market_model.specs.Market.{AreUnitOutages, IsLine, IsMarket, bare_parts}
-use Rattle.market_model.specs.Reserves.{no_reserve}
-use Rattle.market_model.specs.declared.participants.Reserve.{Reserve}
+use Rattle.market_model.specs.declared.participants.Parts.{Parts}
+use Rattle.market_model.specs.Market.{AreTableFactors, AreUnitOutages, IsLine, IsMarket, IsReserve, bare_parts}
 use Rattle.market_model.proofs.LinePenalties.{no_cost}
 use Rattle.market_model.proofs.PlainMarkets.{is_no_reserve, plain_market, distinct_by_rise}
 use Rattle.market_data.specs.declared.scales.FactorPlaces.{FactorPlaces}
@@ -21,14 +20,15 @@ use Rattle.net_case.specs.NetworkReading.{unit_within}
 use Rattle.net_case.specs.declared.live_parts.NetBranch.{NetBranch}
 use Rattle.net_case.specs.declared.live_parts.NetUnit.{NetUnit}
 use Rattle.net_paths.specs.Detours.{IsLiveRow}
-use Rattle.factor_tables.specs.Factors.{factor_at}
+use Rattle.factor_tables.specs.Factors.{Entry, factor_at}
 use Rattle.factor_tables.specs.Offsets.{OffsetEntry}
 use Rattle.factor_tables.specs.Penalties.{GivesWay, PenaltyEntry}
 use Rattle.factor_tables.specs.declared.penalty_list.Penalty.{Penalty}
 use Rattle.outage_list.specs.declared.unit_listing.UnitOutages.{UnitOutages}
+use Rattle.market_inputs.specs.declared.covering.Covered.{Covered}
 use Rattle.market_inputs.specs.declared.offers.Offered.{Offered}
 use Rattle.market_inputs.specs.declared.tables.Tables.{Tables}
-use Rattle.market_inputs.specs.Clearing.{AreSmall, IsTabled, line_of, loss_by, market_of, shift_by}
+use Rattle.market_inputs.specs.Clearing.{AreLimited, AreLinesOf, AreSmall, IsTabled, limited_of, line_of, loss_by, shift_by, whole_of}
 use Rattle.market_inputs.specs.Pooling.{pool_of}
 use Rattle.market_inputs.specs.Tables.{AreOffered, MayBeLost, MayLoseUnits}
 use Rattle.market_inputs.proofs.FactorLemmas.{factors_by-are}
@@ -112,39 +112,57 @@ module _ (network : LiveNetwork) (offsets : List OffsetEntry) (penalties : List 
             offset = given.offset;
           }
 
--- ---- the market with limits
--- parts whose lists are those of a network are its market
-pub market-is : (places : FactorPlaces) (network : LiveNetwork) (tables : Tables) (lost : UnitOutages) (offered : Offered) (offsets : List OffsetEntry) (penalties : List PenaltyEntry) (branches : List NetBranch) (buses whole : List Bus) (lines : List Line) (shift loss : List Factor) (reserve : Reserve)
-    → branches ≡ network.branches → buses ≡ network.buses → whole ≡ network.buses → lines ≡ map (line_of offsets penalties) branches → shift ≡ shift_by tables.shift.entries branches buses → loss ≡ loss_by tables.loss.entries branches → reserve ≡ no_reserve
-    → record (bare_parts whole offered.units offered.blocks) { lines = lines; outages = tables.outages; places = places; shift = shift; loss = loss; unit_outages = lost.lost; pickups = lost.pickups; reserve = reserve } ≡ market_of places network tables lost offered offsets penalties
-market-is places network tables lost offered offsets penalties branches buses whole lines shift loss reserve branches_are buses_are whole_is lines_are shift_is loss_is none = rw (whole_is, lines_are, shift_is, loss_is, none, branches_are, buses_are) refl
+  pub lines-of : All IsTabled lines → AreLinesOf network lines
+  lines-of tabled = record { each = are-lines tabled; rows = line-rows }
 
-pub clear-market : (places : FactorPlaces) (network : LiveNetwork) (tables : Tables) (lost : UnitOutages) (offered : Offered) (offsets : List OffsetEntry) (penalties : List PenaltyEntry) → IsNetwork network → MayBeLost network tables.outages → MayLoseUnits network lost → AreOffered network offered
-    → All IsTabled (map (line_of offsets penalties) network.branches) → AreSmall (shift_by tables.shift.entries network.branches network.buses) → AreSmall (loss_by tables.loss.entries network.branches)
-    → IsMarket (market_of places network tables lost offered offsets penalties)
-clear-market places network tables lost offered offsets penalties net may units given tabled small_shift small_loss =
-    let count : length (map (line_of offsets penalties) network.branches) ≡ length network.branches = length-map network.branches (line_of offsets penalties) in
-    let rows : map (λ (l : Line). l.row) (map (line_of offsets penalties) network.branches) ≡ map (λ (b : NetBranch). b.row) network.branches = line-rows network offsets penalties net in
+line-count : (network : LiveNetwork) (lines : List Line) → AreLinesOf network lines → length lines ≡ length network.branches
+line-count network lines are = sym (length-map lines (λ (l : Line). l.row)) ∙ ap length are.rows ∙ length-map network.branches (λ (b : NetBranch). b.row)
+
+-- ---- the factors of lines
+shift-are : (shift : List Entry) (network : LiveNetwork) → AreSmall (shift_by shift network.branches network.buses) → AreTableFactors (length network.branches) (length network.buses) (shift_by shift network.branches network.buses)
+shift-are shift network small = factors_by-are (λ branch bus. factor_at shift (branch.row, bus.number)) network.buses network.branches small
+
+loss-are : (loss : List Entry) (network : LiveNetwork) → AreSmall (loss_by loss network.branches) → AreTableFactors (length network.branches) (length network.branches) (loss_by loss network.branches)
+loss-are loss network small = factors_by-are (λ branch other. factor_at loss (branch.row, other.row)) network.branches network.branches small
+
+-- ---- the market with limits
+-- the lists that are made one after the other are the parts
+pub limited-is : (network : LiveNetwork) (tables : Tables) (offered : Offered) (listed : List Line) (none : List Bus) (bare : Parts) (branches : List NetBranch) (buses : List Bus) (shift loss : List Factor)
+    → none ≡ [] → bare ≡ bare_parts none offered.units offered.blocks → branches ≡ network.branches → buses ≡ network.buses → shift ≡ shift_by tables.shift.entries branches buses → loss ≡ loss_by tables.loss.entries branches
+    → record bare { lines = listed; shift = shift; loss = loss } ≡ limited_of network tables offered listed
+limited-is network tables offered listed none bare branches buses shift loss none_is bare_is branches_are buses_are shift_is loss_is = rw (bare_is, none_is, shift_is, loss_is, branches_are, buses_are) refl
+
+-- parts whose lists are those of a network are as every market has them
+pub limited-are : (network : LiveNetwork) (tables : Tables) (offered : Offered) (listed : List Line) → AreOffered network offered → AreLinesOf network listed
+    → AreSmall (shift_by tables.shift.entries network.branches network.buses) → AreSmall (loss_by tables.loss.entries network.branches) → AreLimited network (limited_of network tables offered listed)
+limited-are network tables offered listed given are small_shift small_loss =
+    record { offered = given; lines = are; shift = shift-are tables.shift.entries network small_shift; loss = loss-are tables.loss.entries network small_loss; reserve = refl }
+
+pub whole-market : (places : FactorPlaces) (network : LiveNetwork) (covered : Covered) (limited : Parts) → IsNetwork network → MayBeLost network covered.tables.outages → MayLoseUnits network covered.lost → AreLimited network limited
+    → IsMarket (whole_of places network covered limited)
+whole-market places network covered limited net may units given =
+    let offered : Offered = record { units = limited.units; blocks = limited.blocks } in
+    let count : length limited.lines ≡ length network.branches = line-count network limited.lines given.lines in
     record {
       bus_count = net.bus_count;
-      unit_count = given.count;
-      block_count = given.blocks.count;
+      unit_count = given.offered.count;
+      block_count = given.offered.blocks.count;
       line_count = omega (arith, count, net.branch_count);
       outage_count = may.count;
       buses = net.buses;
       bus_numbers = net.distinct;
-      units = given.units;
-      unit_rows = rows-distinct network offered net given;
-      blocks = given.blocks.blocks;
-      room = given.room;
-      lines = are-lines network offsets penalties net tabled;
-      line_rows = subst (AllPairs (λ a b. a ≢ b)) (sym rows) (distinct_by_rise (map (λ (b : NetBranch). b.row) network.branches) net.rows_of_branches.rise);
-      outages = subst (λ rs. All (Contains rs) tables.outages) (sym rows) (λ i d lt.
+      units = given.offered.units;
+      unit_rows = rows-distinct network offered net given.offered;
+      blocks = given.offered.blocks.blocks;
+      room = given.offered.room;
+      lines = given.lines.each;
+      line_rows = subst (AllPairs (λ a b. a ≢ b)) (sym given.lines.rows) (distinct_by_rise (map (λ (b : NetBranch). b.row) network.branches) net.rows_of_branches.rise);
+      outages = subst (λ rs. All (Contains rs) covered.tables.outages) (sym given.lines.rows) (λ i d lt.
           let o = may.are.each i d lt in
           subst (Contains (map (λ (b : NetBranch). b.row) network.branches)) o.live.row_is (Contains-map (λ (b : NetBranch). b.row) network.branches o.branch o.live.live));
       outages_distinct = may.are.distinct;
-      shift = rw count (factors_by-are (λ branch bus. factor_at tables.shift.entries (branch.row, bus.number)) network.buses network.branches small_shift);
-      loss = rw count (factors_by-are (λ branch other. factor_at tables.loss.entries (branch.row, other.row)) network.branches network.branches small_loss);
-      unit_outages = lost-units network offered lost given units;
-      reserve = is_no_reserve (length offered.units);
+      shift = rw count given.shift;
+      loss = rw count given.loss;
+      unit_outages = lost-units network offered covered.lost given.offered units;
+      reserve = subst (IsReserve (length limited.units)) (sym given.reserve) (is_no_reserve (length limited.units));
     }

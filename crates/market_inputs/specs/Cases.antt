@@ -31,6 +31,14 @@ pub data IsJoined (network : LiveNetwork) : Result LiveNetwork Refusal → Type 
 abbrev pub IsJoinedNetwork : PostRating → CaseMatrices → Result LiveNetwork Refusal → Type 0
 IsJoinedNetwork rating matrices told = Then (Is (network_in (branches.Read rating) matrices)) IsJoined told
 
+-- the network of a case's text, with this rating after an outage, where it is joined
+abbrev pub IsReadNetwork : PostRating → Result (List ℕ) Refusal → Result LiveNetwork Refusal → Type 0
+IsReadNetwork rating bytes told = Then (Is (matrices_in bytes)) (IsJoinedNetwork rating) told
+
+-- the network of a case's text without branches
+abbrev pub AreReadBuses : Result (List ℕ) Refusal → Result LiveNetwork Refusal → Type 0
+AreReadBuses bytes told = Then (Is (matrices_in bytes)) (λ matrices. Is (network_in branches.Skip matrices)) told
+
 -- the reactances of a network's live branches
 abbrev pub reactances_in : CaseMatrices → LiveNetwork → Result (List ℤ) Refusal
 reactances_in matrices network = or_as refusal.Network (reactances_of matrices network)

@@ -1,5 +1,5 @@
 -- What the bytes of the files of a clear stand for.
-use Rattle.std.specs.Prelude.{true, false, Bool, ℕ, ◌≤◌, ◌==◌, ℤ, pos, List, [], ◌∷◌, All, map, unwrap_or, unsigned_abs, if◌then◌else◌, Result, Ok}
+use Rattle.std.specs.Prelude.{◌≡◌, true, false, Bool, ℕ, ◌≤◌, ◌==◌, ℤ, pos, List, [], ◌∷◌, All, length, map, unwrap_or, unsigned_abs, if◌then◌else◌, Result, Ok}
 use Rattle.std.specs.List.{enumerate_from, flat_map}
 use Rattle.market_data.specs.declared.participants.Bus.{Bus}
 use Rattle.market_data.specs.Participants.{IsDatum}
@@ -8,7 +8,8 @@ use Rattle.market_data.specs.declared.scales.FactorPlaces.{FactorPlaces}
 use Rattle.market_model.specs.declared.participants.Factor.{Factor}
 use Rattle.market_model.specs.declared.participants.Line.{Line}
 use Rattle.market_model.specs.declared.participants.Parts.{Parts}
-use Rattle.market_model.specs.Market.{bare_parts}
+use Rattle.market_model.specs.Market.{AreTableFactors, IsLine, bare_parts}
+use Rattle.market_model.specs.Reserves.{no_reserve}
 use Rattle.net_case.specs.Networks.{LiveNetwork}
 use Rattle.net_case.specs.declared.live_parts.NetBranch.{NetBranch}
 use Rattle.net_case.specs.declared.live_parts.PostRating.{PostRating}
@@ -18,12 +19,13 @@ use Rattle.factor_tables.specs.Penalties.{PenaltyEntry, penalty_at}
 use Rattle.factor_tables.specs.declared.penalty_list.Penalty.{Penalty}
 use Rattle.outage_list.specs.declared.unit_listing.UnitOutages.{UnitOutages}
 use Rattle.refusal_text.specs.declared.refusals.Refusal.{Refusal}
+use Rattle.market_inputs.specs.declared.covering.Covered.{Covered}
 use Rattle.market_inputs.specs.declared.offers.Offered.{Offered}
 use Rattle.market_inputs.specs.declared.tables.Tables.{Tables}
 use Rattle.market_inputs.specs.Cases.{IsJoinedNetwork, matrices_in}
 use Rattle.market_inputs.specs.Files.{SizedTables}
 use Rattle.market_inputs.specs.Steps.{Is, Then}
-use Rattle.market_inputs.specs.Tables.{AreTables, cover_in, offers_in, offsets_in, penalties_in, unit_outages_in}
+use Rattle.market_inputs.specs.Tables.{AreOffered, AreTables, cover_in, offers_in, offsets_in, penalties_in, unit_outages_in}
 use Rattle.market_model.specs.Lines.{IsPenalty}
 
 -- ---- lines
@@ -92,6 +94,70 @@ market_of places network tables lost offered offsets penalties = record (bare_pa
   pickups = lost.pickups;
 }
 
+-- ---- what the market is made of
+-- the outages of units of a table's bytes, where the tables lack nothing for any outage
+abbrev pub AreCoveredUnits : LiveNetwork → Tables → Result (List ℕ) Refusal → Result UnitOutages Refusal → Type 0
+AreCoveredUnits network tables bytes told =
+    Then (Is (unit_outages_in network bytes)) (λ lost.
+    Then (Is (cover_in network tables lost)) (λ _. Is (Ok lost))) told
+
+-- the three tables of a network and its outages of units, where the tables lack nothing
+abbrev pub AreCovered : FactorPlaces → LiveNetwork → SizedTables → Result Covered Refusal → Type 0
+AreCovered places network files told =
+    Then (AreTables places network files.grid) (λ tables.
+    Then (AreCoveredUnits network tables files.unit_outages) (λ lost. Is (Ok (record { tables = tables; lost = lost })))) told
+
+-- the lines of a network with these offsets, and with the penalties of a table's bytes
+abbrev pub ArePricedLines : LiveNetwork → List OffsetEntry → Result (List ℕ) Refusal → Result (List Line) Refusal → Type 0
+ArePricedLines network moved penalties told = Then (Is (penalties_in network penalties)) (λ priced. Is (Ok (map (line_of moved priced) network.branches))) told
+
+-- the lines of a network with the offsets and the penalties of the bytes of two tables
+abbrev pub AreListedLines : LiveNetwork → Result (List ℕ) Refusal → Result (List ℕ) Refusal → Result (List Line) Refusal → Type 0
+AreListedLines network offsets penalties told = Then (Is (offsets_in network offsets)) (λ moved. ArePricedLines network moved penalties) told
+
+-- lines of the branches of a network, in their order, as every market has them
+pub record AreLinesOf (network : LiveNetwork) (lines : List Line) : Type 0 where
+  pub each : All IsLine lines
+  pub rows : map (λ line. line.row) lines ≡ map (λ branch. branch.row) network.branches
+
+-- the parts that have units, blocks and lines with their factors, and no buses and no outages
+abbrev pub limited_of : LiveNetwork → Tables → Offered → List Line → Parts
+limited_of network tables offered lines = record (bare_parts [] offered.units offered.blocks) {
+  lines = lines;
+  shift = shift_by tables.shift.entries network.branches network.buses;
+  loss = loss_by tables.loss.entries network.branches;
+}
+
+abbrev pub AreLimitedParts : LiveNetwork → Tables → SizedTables → Result Parts Refusal → Type 0
+AreLimitedParts network tables files told =
+    Then (Is (offers_in network files.offers)) (λ offered.
+    Then (AreListedLines network files.offsets files.penalties) (λ lines. Is (Ok (limited_of network tables offered lines)))) told
+
+-- units, blocks and lines of a network as every market has them, and no reserve
+pub record AreLimited (network : LiveNetwork) (parts : Parts) : Type 0 where
+  pub offered : AreOffered network (record { units = parts.units; blocks = parts.blocks })
+  pub lines : AreLinesOf network parts.lines
+  pub shift : AreTableFactors (length network.branches) (length network.buses) parts.shift
+  pub loss : AreTableFactors (length network.branches) (length network.branches) parts.loss
+  pub reserve : parts.reserve ≡ no_reserve
+
+-- the same parts with the buses of a network and its outages, whose factors have so many places
+abbrev pub whole_of : FactorPlaces → LiveNetwork → Covered → Parts → Parts
+whole_of places network covered limited = record limited {
+  buses = network.buses;
+  outages = covered.tables.outages;
+  unit_outages = covered.lost.lost;
+  pickups = covered.lost.pickups;
+  places = places;
+}
+
+-- the parts of the market of a network with its tables
+abbrev pub AreMarketParts : FactorPlaces → SizedTables → LiveNetwork → Result Parts Refusal → Type 0
+AreMarketParts places files network told =
+    Then (AreCovered places network files) (λ covered.
+    Then (AreLimitedParts network covered.tables files) (λ limited. Is (Ok (whole_of places network covered limited)))) told
+
+-- ---- the files of a clear
 -- What the bytes of the files of a clear stand for, or the first fault. The factors may have so many places. The case comes first, then the three tables, the outages of
 -- units and what the tables lack for all outages, the offers, the offsets and the penalties.
 abbrev pub IsClearMarket : PostRating → FactorPlaces → SizedTables → Result Parts Refusal → Type 0

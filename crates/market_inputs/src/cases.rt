@@ -5,7 +5,7 @@ ghost use Rattle.factor_residuals.specs.Residuals.{AreReactances};
 ghost use Rattle.net_case.specs.Networks.{IsNetwork};
 ghost use Rattle.refusal_text.specs.declared.refusals.Input.TheVariants as input;
 ghost use Rattle.refusal_text.specs.declared.refusals.Refusal.TheVariants as refusal;
-ghost use Rattle.market_inputs.specs.Cases.{IsJoinedNetwork, matrices_in, network_in, reactances_in};
+ghost use Rattle.market_inputs.specs.Cases.{AreReadBuses, IsJoinedNetwork, IsReadNetwork, matrices_in, network_in, reactances_in};
 ghost use Rattle.market_inputs.specs.Files.{sized};
 ghost use Rattle.market_inputs.specs.Steps.{Is};
 ghost use Rattle.market_inputs.specs.Stops.{IsToldAs};
@@ -50,6 +50,28 @@ pub(crate) fn joined_network(
     let network = case_network(alloc, raw, Branches::Read(rating))?;
     connected(alloc, &network)?;
     Ok(network)
+}
+
+/// The network of the whole bytes of a case, whose branches join all its buses.
+pub(crate) fn read_network(
+    alloc: Global,
+    bytes: &[u8],
+    rating: PostRating,
+) -> Result<Network, InputStop>
+    ensures told { IsToldAs (IsReadNetwork rating (sized (refusal.TooLong input.Case) bytes.now)) result }
+    ensures kept { IfOk result IsNetwork }
+{
+    let raw = case_matrices(alloc, bytes)?;
+    joined_network(alloc, &raw, rating)
+}
+
+/// The buses and the units of the whole bytes of a case: a network without branches.
+pub(crate) fn read_buses(alloc: Global, bytes: &[u8]) -> Result<Network, InputStop>
+    ensures told { IsToldAs (AreReadBuses (sized (refusal.TooLong input.Case) bytes.now)) result }
+    ensures kept { IfOk result IsNetwork }
+{
+    let raw = case_matrices(alloc, bytes)?;
+    case_network(alloc, &raw, Branches::Skip)
 }
 
 /// The reactances of a network's branches.

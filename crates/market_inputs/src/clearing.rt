@@ -5,61 +5,77 @@ ghost use Rattle.market_model.specs.Market.{IsMarket};
 ghost use Rattle.market_model.specs.Reserves.{no_reserve};
 ghost use Rattle.net_case.specs.Networks.{IsNetwork};
 ghost use Rattle.market_tables.specs.Tables.{tables_lent};
-ghost use Rattle.market_inputs.specs.Clearing.{IsClearMarket, market_of};
+ghost use Rattle.market_inputs.specs.Clearing.{AreLimited, AreLimitedParts, AreMarketParts, IsClearMarket, whole_of};
 ghost use Rattle.market_inputs.specs.Files.{sized_tables};
 ghost use Rattle.market_inputs.specs.Stops.{IsToldAs};
-ghost use Rattle.market_inputs.specs.Tables.{AreOffered, MayBeLost, MayLoseUnits};
+ghost use Rattle.market_inputs.specs.Tables.{MayBeLost, MayLoseUnits};
 
-use crate::cases::{case_matrices, joined_network};
-use crate::limits::{factors_of, lines_of};
-use crate::offers::{Offered, offer_table};
+use crate::cases::read_network;
+use crate::covering::{Covered, covered_tables};
+use crate::limits::{factors_of, line_list};
+use crate::offers::offer_table;
 use crate::stops::InputStop;
-use crate::tables::{
-    Tables, check_cover, offset_table, penalty_table, read_tables, unit_outage_table,
-};
-use factor_tables::{Offsets, Penalties};
+use crate::tables::Tables;
 use market_data::FactorPlaces;
-use market_model::{Market, Memory, Parts, Reserve, assemble};
+use market_model::{List, Market, Parts, assemble};
 use market_tables::MarketTables;
 use net_case::{Network, PostRating};
-use outage_list::UnitOutages;
 use std::alloc::Global;
 
-/// The parts of a market with limits.
+/// The units with their offers, and the lines with their factors; no buses yet and no outages.
 fn limited_parts(
     alloc: Global,
-    network: Network,
-    tables: Tables,
-    lost: UnitOutages,
-    offered: Offered,
-    offsets: &Offsets,
-    penalties: &Penalties,
-    places: FactorPlaces,
-) -> Result<Parts, Memory>
-    requires network { IsNetwork network }
-    requires outages { MayBeLost network tables.outages }
-    requires lost { MayLoseUnits network lost }
-    requires offered { AreOffered network offered }
-    ensures kept { IfOk result (λ parts. IsMarket parts × (parts.reserve ≡ no_reserve)) }
-    ensures is { IfOk result (λ parts. parts ≡ market_of places network tables lost offered offsets.now penalties.now) }
+    network: &Network,
+    tables: &Tables,
+    bytes: &MarketTables<&[u8]>,
+) -> Result<Parts, InputStop>
+    ensures told { IsToldAs (AreLimitedParts network.now tables.now (sized_tables (tables_lent bytes.now))) result }
+    ensures kept { IfOk result (AreLimited network.now) }
 {
+    let offered = offer_table(alloc, network, bytes.offers)?;
+    let mut parts = Parts::bare(alloc, List::new(alloc), offered.units, offered.blocks);
+    parts.lines = line_list(alloc, network, bytes.offsets, bytes.penalties)?;
     let branches = network.branches().slice();
-    let lines = lines_of(alloc, branches, offsets, penalties)?;
-    let shift = factors_of(alloc, branches, network.buses().slice(), &tables.shift)?;
-    let loss = factors_of(alloc, branches, branches, &tables.loss)?;
-    Ok(Parts {
-        buses: network.into_buses(),
-        units: offered.units,
-        blocks: offered.blocks,
-        lines,
-        outages: tables.outages,
-        places,
-        shift,
-        loss,
-        unit_outages: lost.lost,
-        pickups: lost.pickups,
-        reserve: Reserve::none(alloc),
-    })
+    parts.shift = factors_of(alloc, branches, network.buses().slice(), &tables.shift)?;
+    parts.loss = factors_of(alloc, branches, branches, &tables.loss)?;
+    Ok(parts)
+}
+
+/// The same parts with the buses, and the outages that the tables are enough for.
+fn whole_parts(network: Network, covered: Covered, limited: Parts, places: FactorPlaces) -> Parts
+    requires network { IsNetwork network }
+    requires outages { MayBeLost network covered.tables.outages }
+    requires lost { MayLoseUnits network covered.lost }
+    requires limited { AreLimited network limited }
+    ensures is { result ≡ whole_of places network covered limited }
+    ensures market { IsMarket result }
+    ensures energy_alone { result.reserve ≡ no_reserve }
+{
+    let Covered { tables, lost } = covered;
+    let mut parts = limited;
+    parts.buses = network.into_buses();
+    parts.outages = tables.outages;
+    parts.unit_outages = lost.lost;
+    parts.pickups = lost.pickups;
+    parts.places = places;
+    parts
+}
+
+/// The parts of the market of a network with its tables.
+fn market_parts(
+    alloc: Global,
+    network: Network,
+    bytes: &MarketTables<&[u8]>,
+    places: FactorPlaces,
+) -> Result<Parts, InputStop>
+    requires network { IsNetwork network }
+    ensures told { IsToldAs (AreMarketParts places (sized_tables (tables_lent bytes.now)) network) result }
+    ensures kept { IfOk result IsMarket }
+    ensures energy_alone { IfOk result (λ parts. parts.reserve ≡ no_reserve) }
+{
+    let covered = covered_tables(alloc, &network, bytes, places)?;
+    let limited = limited_parts(alloc, &network, &covered.tables, bytes)?;
+    Ok(whole_parts(network, covered, limited, places))
 }
 
 /// The market of a case with its tables, its outages of units, its offers, its offsets and its penalties, of the whole bytes of these.
@@ -75,17 +91,9 @@ pub fn clear_market(
 ) -> Result<Market, InputStop>
     ensures told { IsToldAs (IsClearMarket rating places (sized_tables (tables_lent bytes.now))) result }
     ensures kept { IfOk result IsMarket }
+    ensures energy_alone { IfOk result (λ m. m.reserve ≡ no_reserve) }
 {
-    let raw = case_matrices(alloc, bytes.grid.case)?;
-    let network = joined_network(alloc, &raw, rating)?;
-    let tables = read_tables(alloc, &network, &bytes.grid, places)?;
-    let lost = unit_outage_table(alloc, &network, bytes.unit_outages)?;
-    check_cover(&network, &tables, &lost)?;
-    let offered = offer_table(alloc, &network, bytes.offers)?;
-    let offsets = offset_table(alloc, &network, bytes.offsets)?;
-    let penalties = penalty_table(alloc, &network, bytes.penalties)?;
-    let parts = limited_parts(
-        alloc, network, tables, lost, offered, &offsets, &penalties, places,
-    )?;
+    let network = read_network(alloc, bytes.grid.case, rating)?;
+    let parts = market_parts(alloc, network, bytes, places)?;
     Ok(assemble(alloc, parts)?)
 }

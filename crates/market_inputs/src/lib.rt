@@ -5,6 +5,7 @@
 mod cases;
 mod checking;
 mod clearing;
+mod covering;
 mod lengths;
 mod limits;
 mod offers;

@@ -3,11 +3,17 @@
 ghost use Rattle.std.specs.Prelude.{◌≡◌, ℕ, ◌++◌, All, IfOk, map};
 ghost use Rattle.factor_tables.specs.Factors.{factor_at};
 ghost use Rattle.market_model.specs.Lines.{IsPenalty};
-ghost use Rattle.market_inputs.specs.Clearing.{AreSmall, IsTabled, factors_of_line, line_of, penalty_for, named_factors, unless_0};
+ghost use Rattle.refusal_text.specs.declared.refusals.Input.TheVariants as input;
+ghost use Rattle.refusal_text.specs.declared.refusals.Refusal.TheVariants as refusal;
+ghost use Rattle.market_inputs.specs.Clearing.{AreLinesOf, AreListedLines, ArePricedLines, AreSmall, IsTabled, factors_of_line, line_of, penalty_for, named_factors, unless_0};
+ghost use Rattle.market_inputs.specs.Files.{sized};
+ghost use Rattle.market_inputs.specs.Stops.{IsToldAs};
 
+use crate::stops::InputStop;
+use crate::tables::{offset_table, penalty_table};
 use factor_tables::{ByBus, ByOutage, FactorTable, Offsets, Penalties, Penalty, TableKind};
 use market_model::{Bus, Factor, Line, List, Memory};
-use net_case::NetBranch;
+use net_case::{NetBranch, Network};
 use std::alloc::Global;
 
 /// The penalty of a branch's limit, after an outage or in the base; one of nothing where it has no record.
@@ -42,7 +48,7 @@ fn line_of(branch: &NetBranch, offsets: &Offsets, penalties: &Penalties) -> Line
 }
 
 /// The lines of live branches.
-pub(crate) fn lines_of(
+fn lines_of(
     alloc: Global,
     branches: &[NetBranch],
     offsets: &Offsets,
@@ -56,6 +62,34 @@ pub(crate) fn lines_of(
         lines.push(line_of(branch, offsets, penalties))?;
     }
     Ok(lines)
+}
+
+/// The lines of a network with these offsets, and with the penalties of a table.
+fn priced_lines(
+    alloc: Global,
+    network: &Network,
+    offsets: &Offsets,
+    bytes: &[u8],
+) -> Result<List<Line>, InputStop>
+    ensures told { IsToldAs (ArePricedLines network.now offsets.now (sized (refusal.TooLong input.Penalties) bytes.now)) result }
+    ensures kept { IfOk result (AreLinesOf network.now) }
+{
+    let penalties = penalty_table(alloc, network, bytes)?;
+    Ok(lines_of(alloc, network.branches().slice(), offsets, &penalties)?)
+}
+
+/// The lines of a network with the offsets and the penalties of two tables. The offsets are read first.
+pub(crate) fn line_list(
+    alloc: Global,
+    network: &Network,
+    offsets: &[u8],
+    penalties: &[u8],
+) -> Result<List<Line>, InputStop>
+    ensures told { IsToldAs (AreListedLines network.now (sized (refusal.TooLong input.Offsets) offsets.now) (sized (refusal.TooLong input.Penalties) penalties.now)) result }
+    ensures kept { IfOk result (AreLinesOf network.now) }
+{
+    let offsets = offset_table(alloc, network, offsets)?;
+    priced_lines(alloc, network, &offsets, penalties)
 }
 
 /// Adds a factor that is not 0.
