@@ -138,9 +138,7 @@ fn is_plain(table: &Table, place: usize) -> bool
     requires { place < length table.now }
     ensures { result ≡ is_plain (get_or table.now place []) }
 {
-    is_empty(table, place, TARGET)
-        && is_empty(table, place, SIDE)
-        && is_empty(table, place, BLOCK)
+    is_empty(table, place, TARGET) && is_empty(table, place, SIDE) && is_empty(table, place, BLOCK)
 }
 
 /// What a record is, as its words say: the first cell names it, and those that it has no use for are empty.
