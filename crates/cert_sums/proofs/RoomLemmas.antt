@@ -4,7 +4,7 @@ use Rattle.std.proofs.Common.{arith, inl, inr, ap, ap₂, sym, subst, ◌∙◌,
 use Rattle.std.proofs.lemmas.List.{append-nil, map-append, get_or-map, length-map, take_all}
 use Rattle.std.proofs.lemmas.Bool.Decides.{eqb_tells}
 use Rattle.fraction_theory.specs.Fraction.{Fraction, neg_ℚ, ◌+ℚ◌, ◌-ℚ◌, ◌*ℚ◌}
-use Rattle.fraction_theory.specs.Sums.{sum_by, Term, Plain, Product, term_value, total}
+use Rattle.fraction_theory.specs.Sums.{sum_by, Term, Plain, Product, total}
 use Rattle.fraction_theory.proofs.FieldLaws.{ring_ℚ, +ℚ_nil, +ℚ_assoc}
 use Rattle.fraction_theory.proofs.ListSums.{Contains-cases, Contains-cons, Contains-filter, Contains-from_filter, Contains-head, kept, sum_by-filter}
 use Rattle.fraction_theory.proofs.Ring.{by_ring, at, neg_neg, pneg, pnil, ◌⊕◌, ◌⊗◌}
@@ -18,7 +18,7 @@ use Rattle.market_model.specs.Dispatch.{zero, places, reserve_quantity, unit_at}
 use Rattle.fraction_theory.specs.Signs.{part_above}
 use Rattle.market_model.specs.Infeasibility.{farkas_bound, farkas_terms, nothing_terms, block_most, offer_most, offer_weight}
 use Rattle.market_model.specs.NamedSums.{IsRefusal, IsRefusedIn, IsShareRefusal}
-use Rattle.market_model.specs.Optimality.{named_rooms, names_room, reserve_worth, reserve_worth_terms, room_price, room_price_in, unit_price, worth_terms}
+use Rattle.market_model.specs.Optimality.{named_rooms, names_room, reserve_worth_terms, room_price, room_price_in, unit_price, worth_terms}
 use Rattle.market_model.specs.Reserves.{offer_places, offers_reserve, reserve_need, reserve_units, room}
 use Rattle.market_model.specs.SumTables.{IsRefusedAmong, WorthSum, energy_of_unit, reserve_of_unit}
 use Rattle.market_model.proofs.MorePlaces.{sum_by_more, total-filter_more, total-places_more}
@@ -27,7 +27,7 @@ use Rattle.market_model.proofs.SumSteps.{behind, in_front, minus_at, plus_at, sh
 use Rattle.cert_sums.specs.declared.worths.NamedRoom.{NamedRoom}
 use Rattle.cert_sums.specs.Bounds.{energy_left_terms, need_terms}
 use Rattle.cert_sums.specs.Named.{AreNamedRooms, PricedRoom, room_in, room_priced_at, room_priced_by}
-use Rattle.cert_sums.proofs.BoundLemmas.{farkas_terms_are, reserve_terms}
+use Rattle.cert_sums.proofs.BoundLemmas.{farkas_terms_are}
 use Rattle.cert_sums.proofs.NamedLemmas.{filter_at}
 
 -- ---- numbers that count where a test holds, behind other terms

@@ -169,7 +169,5 @@ pub fn farkas_bound<N: Exact>(
     let all = balance(market, &by_bus)?;
     let of_energy = energy.times(all)?;
     let of_limits = with_limits(market, of_energy, &carried, named)?;
-    Ok(with_reserve(
-        market, of_limits, energy, named, reserve, rooms,
-    )?)
+    Ok(with_reserve(market, of_limits, energy, named, reserve, rooms)?)
 }

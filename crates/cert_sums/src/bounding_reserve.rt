@@ -46,11 +46,7 @@ fn room_of<N: Exact>(market: &Market, unit: usize) -> N
 }
 
 /// A sum with what the price of reserve makes of the need, which counts down. There is none in a market of energy alone.
-pub(crate) fn with_need<N: Exact>(
-    market: &Market,
-    of_limits: N,
-    reserve: N,
-) -> Result<N, Passed<N>>
+pub(crate) fn with_need<N: Exact>(market: &Market, of_limits: N, reserve: N) -> Result<N, Passed<N>>
     ensures sum { (d : Duals Fraction) → N.value reserve ≡ d.reserve → N.value of_limits ≡ total (energy_left_terms market.now d) → IfOk result (λ sum. N.value sum ≡ total (energy_left_terms market.now d ++ need_terms market.now d)) }
     ensures cause { (d : Duals Fraction) → N.value reserve ≡ d.reserve → N.value of_limits ≡ total (energy_left_terms market.now d) → IfErr result (λ passed. IsRefusedIn (farkas_terms market.now d) N.bound (passed_at N.value passed)) }
 {

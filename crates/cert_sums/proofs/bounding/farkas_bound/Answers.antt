@@ -1,12 +1,11 @@
-use Rattle.std.proofs.Common.{rules, Err, refl, ◌≡◌, ◌∙◌, ap, ap₂, sym, subst, length, map}
+use Rattle.std.proofs.Common.{rules, Err, refl, ◌≡◌, ◌∙◌, ap, ap₂, length, map}
 use Rattle.fraction_theory.specs.Fraction.{◌*ℚ◌}
 use Rattle.exact_fraction.specs.declared.Op.TheVariants.{Times}
-use Rattle.market_model.specs.Dispatch.{Dispatch, empty}
+use Rattle.market_model.specs.Dispatch.{empty}
 use Rattle.market_model.specs.Valued.{passed_at}
 use Rattle.market_model.proofs.StopLemmas.{on_passed_weaker}
 use Rattle.market_model.proofs.SumSteps.{product_too_large, refusal}
 use Rattle.market_model.specs.declared.stops.Stop.TheVariants as why
-use Rattle.market_model.specs.PutIn.{dispatch_of, AreCarried, AreInjections}
 use Rattle.cert_sums.proofs.BoundLemmas.{nothing_is, nothing_put, nothing_put_by, nothing_carried, injection_pair, carried_pair_of, balance_pair, energy_refused}
 use Rattle.cert_sums.proofs.bounding.farkas_bound.Goals as goal
 

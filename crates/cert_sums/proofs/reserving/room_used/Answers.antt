@@ -50,11 +50,14 @@ returns-in_err-mw-2-clause-cause g c =
     let below : k < length m.reserve.offers = omega (arith, c.loop-at-test.true, ap length offers) in
     let inside : k < length rs = omega (arith, below, c.requires.reserve) in
     let given : c.from_residual-in_err-mw-2.result ≡ Err c.in_err-mw-2.field-0.0 = search rules in
-    rw given
-    (room_terms m x u, room_of_unit u c.requires.unit, counted_refused (map (block_term m x) (blocks_of m u)) (λ n. (offer_at m n).unit == u) (reserved x) [] (room_terms m x u) (length m.reserve.offers) k _
-    (value c.index-reserve-at.result) (value c.loop-at.mw) g.N.Exact.bound (passed_at value c.in_err-mw-2.field-0.0) (sym (append-nil (room_terms m x u))) below
-    (ap (λ (o : ReserveOffer). o.unit == u) offer) c.in_err-mw-2.ensures.counts (sym (accepted_is value rs k c.index-reserve-at.result inside c.index-reserve-at.is))
-    c.loop-at.invariant c.in_err-mw-2.ensures.cause)
+    rw given (
+      room_terms m x u,
+      room_of_unit u c.requires.unit,
+      counted_refused (map (block_term m x) (blocks_of m u)) (λ n. (offer_at m n).unit == u) (reserved x) [] (room_terms m x u) (length m.reserve.offers) k _
+          (value c.index-reserve-at.result) (value c.loop-at.mw) g.N.Exact.bound (passed_at value c.in_err-mw-2.field-0.0) (sym (append-nil (room_terms m x u))) below
+          (ap (λ (o : ReserveOffer). o.unit == u) offer) c.in_err-mw-2.ensures.counts (sym (accepted_is value rs k c.index-reserve-at.result inside c.index-reserve-at.is))
+          c.loop-at.invariant c.in_err-mw-2.ensures.cause,
+    )
 
 pub returns-in_err-mw-clause-cause : goal.returns-in_err-mw-clause-cause
 returns-in_err-mw-clause-cause g c =

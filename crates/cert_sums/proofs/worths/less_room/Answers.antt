@@ -1,4 +1,4 @@
-use Rattle.std.proofs.Common.{◌≡◌, ◌∙◌, ap, refl}
+use Rattle.std.proofs.Common.{◌∙◌, ap, refl}
 use Rattle.std.proofs.lemmas.Result.{MatchResult-weaker}
 use Rattle.fraction_theory.specs.Fraction.{◌-ℚ◌}
 use Rattle.exact_fraction.specs.declared.Op.TheVariants.{Minus}
