@@ -16,24 +16,24 @@ use Rattle.exact_fraction.specs.declared.Op.TheVariants.{Times}
 use Rattle.exact_fraction.specs.declared.Passed.{Passed}
 use Rattle.market_model.specs.declared.answered.Duals.{Duals}
 use Rattle.market_model.specs.declared.participants.Parts.{Parts}
-use Rattle.market_model.specs.declared.participants.ReserveOffer.{ReserveOffer}
-use Rattle.market_model.specs.Dispatch.{Dispatch, places, balance, balance_terms, empty, quantity, dispatch_with}
-use Rattle.market_model.specs.Infeasibility.{block_weight, limit_terms, nothing_terms, farkas_terms, farkas_bound}
+use Rattle.market_model.specs.Dispatch.{Dispatch, places, balance, balance_terms, dispatch_by, dispatch_with, empty, quantity}
+use Rattle.market_model.specs.Infeasibility.{block_most, block_weight, limit_terms, nothing_terms, farkas_terms, offer_most, reserve_left_terms}
 use Rattle.market_model.specs.declared.limits.Row.{Row}
 use Rattle.market_model.specs.LimitRows.{rows, row_id, most_flow, flow}
 use Rattle.market_model.specs.NamedSums.{IsRefusal, IsRefusedIn, IsShareRefusal}
 use Rattle.market_model.specs.Optimality.{up_of, down_of, names_row, named_rows}
-use Rattle.market_model.specs.Reserves.{no_reserve}
-use Rattle.market_model.proofs.EnergyAlone.{farkas_terms_alone, no_offers, nothing_terms_alone}
+use Rattle.market_model.specs.Reserves.{offer_places}
 use Rattle.market_model.proofs.FarkasLaw.{total-flat_map}
 use Rattle.market_model.proofs.MorePlaces.{sum_by_more, total-places_more}
-use Rattle.market_model.proofs.SumSteps.{product_at, share_at, terms_at, behind}
+use Rattle.market_model.proofs.SumSteps.{product_at, share_at, terms_at, behind, in_front}
 use Rattle.limit_rows.proofs.DualLemmas.{up_unnamed, down_unnamed, sum_named}
+use Rattle.cert_sums.specs.Bounds.{energy_left_terms}
 use Rattle.cert_sums.specs.Named.{PricedRow, priced_by}
-use Rattle.cert_sums.specs.Pairs.{IsFarkasPair, in_flow as flow_pair, in_bound as bound_pair, in_pickup, of_limit_less, of_limit_more, of_most}
+use Rattle.cert_sums.specs.Pairs.{IsFarkasPair, in_flow as flow_pair, in_bound as bound_pair, in_pickup, in_price, in_worth, of_limit_less, of_limit_more, of_most}
 use Rattle.market_model.specs.SumTables.{IsRefusedAmong, InjectionSum, balance_from_bus, balance_of_all, limited_line, limited_row, limited_unit, flow_in_balance, flow_in_limits, farkas_bound_of_all}
-use Rattle.market_model.specs.PutIn.{dispatch_of}
-use Rattle.cert_sums.specs.Refusals.{IsAboveRefusal, IsBelowRefusal, IsCarriedRefusal, IsLimitRefusal, in_most, in_flow, in_above, in_below}
+use Rattle.market_model.specs.PutIn.{AreCarried, AreInjections}
+use Rattle.cert_sums.specs.Refusals.{IsAboveRefusal, IsBelowRefusal, IsCarriedRefusal, IsLimitRefusal, IsWorthRefusal, in_most, in_flow, in_above, in_below}
+use Rattle.cert_sums.proofs.BlockFlows.{carried_of_blocks, carried_refusal, injection_refusal, injections_by_blocks, injections_of_blocks}
 use Rattle.cert_sums.proofs.NamedLemmas.{IsNamedAt, filter_at, is_named_row, is_row}
 
 -- ---- prices of 0 make nothing
@@ -75,15 +75,19 @@ module _ (m : Parts) (d : Duals Fraction) where
   abbrev left : Row → Fraction
   left r = total (limit_terms m d r)
 
-  abbrev block_term : ℕ → Term
-  block_term j = Product (part_above (block_weight m d j)) (quantity m j)
-
   abbrev block_terms : List Term
-  block_terms = map block_term (places (length m.blocks))
+  block_terms = map (block_most m d) (places (length m.blocks))
 
-  -- the terms of the bound in a market of energy alone
-  farkas_terms_are : m.reserve ≡ no_reserve → farkas_terms m d ≡ (energy_term ∷ flat_map (limit_terms m d) (rows m)) ++ block_terms
-  farkas_terms_are alone = farkas_terms_alone m alone d ∙ ap (λ (ts : List Term). ts ++ block_terms) (nothing_terms_alone m alone d)
+  abbrev offer_terms : List Term
+  offer_terms = map (offer_most m d) (offer_places m)
+
+  -- the terms behind those of limits
+  abbrev pub reserve_terms : List Term
+  reserve_terms = reserve_left_terms m d ++ (block_terms ++ offer_terms)
+
+  -- and the terms of the bound in front of these
+  pub farkas_terms_are : farkas_terms m d ≡ energy_left_terms m d ++ reserve_terms
+  farkas_terms_are = append_assoc (nothing_terms m d) block_terms offer_terms ∙ append_assoc (energy_left_terms m d) (reserve_left_terms m d) (block_terms ++ offer_terms)
 
   -- a row without prices makes nothing
   unnamed : (r : Row) → names_row d.limits (row_id m r) ≡ false → left r ≡ whole (pos 0)
@@ -98,11 +102,10 @@ module _ (m : Parts) (d : Duals Fraction) where
   pub limits_none : (s : Fraction) → s ≡ d.energy *ℚ balance m (empty m) → s ≡ limits_to 0
   limits_none s e = e ∙ sym (+ℚ_nil (d.energy *ℚ balance m (empty m)))
 
-  pub limits_all : m.reserve ≡ no_reserve → (k : ℕ) → length (named_rows m d) ≤ k → limits_to k ≡ total (nothing_terms m d)
-  limits_all alone k h =
+  pub limits_all : (k : ℕ) → length (named_rows m d) ≤ k → limits_to k ≡ total (energy_left_terms m d)
+  limits_all k h =
       ap (λ t. d.energy *ℚ balance m (empty m) +ℚ t)
       (ap (sum_by left) (take_all k (named_rows m d) h) ∙ sym (sum_named m d left (rows m) unnamed) ∙ sym (total-flat_map (limit_terms m d) (rows m)))
-      ∙ sym (ap total (nothing_terms_alone m alone d))
 
   -- the terms of the bound round those of a named row
   record IsSplit (k : ℕ) (r : Row) : Type 0 where
@@ -111,20 +114,20 @@ module _ (m : Parts) (d : Duals Fraction) where
     split : farkas_terms m d ≡ front ++ (limit_terms m d r ++ rest)
     sum : total front ≡ limits_to k
 
-  split_at : m.reserve ≡ no_reserve → (k : ℕ) (e : PricedRow) → IsNamedAt m d k e → IsSplit k e.row
-  split_at alone k e h =
+  split_at : (k : ℕ) (e : PricedRow) → IsNamedAt m d k e → IsSplit k e.row
+  split_at k e h =
       let r : Row = e.row in
       let s = filter_at (λ t. names_row d.limits (row_id m t)) (rows m) k e.row h.inside in
       let f : Row → List Term = limit_terms m d in
       let rows_are : rows m ≡ s.0 ++ e.row ∷ s.1 = s.2 ∙ ap (λ (t : Row). s.0 ++ t ∷ s.1) (sym h.at) in
       record {
         front = energy_term ∷ flat_map (limit_terms m d) s.0;
-        rest = flat_map (limit_terms m d) s.1 ++ block_terms;
+        rest = flat_map (limit_terms m d) s.1 ++ reserve_terms;
         split =
-            farkas_terms_are alone
-            ∙ ap (λ (rs : List Row). energy_term ∷ (flat_map (limit_terms m d) rs ++ block_terms)) rows_are
-            ∙ ap (λ ts. energy_term ∷ (ts ++ block_terms)) (flat_map-append (limit_terms m d) s.0 (e.row ∷ s.1))
-            ∙ ap (λ ts. energy_term ∷ ts) (append_assoc (flat_map (limit_terms m d) s.0) (limit_terms m d e.row ++ flat_map (limit_terms m d) s.1) block_terms);
+            farkas_terms_are
+            ∙ ap (λ (rs : List Row). energy_term ∷ (flat_map (limit_terms m d) rs ++ reserve_terms)) rows_are
+            ∙ ap (λ ts. energy_term ∷ (ts ++ reserve_terms)) (flat_map-append (limit_terms m d) s.0 (e.row ∷ s.1))
+            ∙ ap (λ ts. energy_term ∷ ts) (append_assoc (flat_map (limit_terms m d) s.0) (limit_terms m d e.row ++ flat_map (limit_terms m d) s.1) reserve_terms);
         sum =
             ap (λ t. d.energy *ℚ balance m (empty m) +ℚ t)
             (total-flat_map (limit_terms m d) s.0 ∙ sum_named m d left s.0 unnamed ∙ ap (sum_by left) s.3);
@@ -138,7 +141,7 @@ module _ (m : Parts) (d : Duals Fraction) where
         ∙ ap (λ t. d.energy *ℚ balance m (empty m) +ℚ t)
         (ap (λ (r : Row). sum_by left (take k (named_rows m d)) +ℚ left r) h.at ∙ sym (sum_by_more left (named_rows m d) k e.row h.inside))
 
-    module _ (alone : m.reserve ≡ no_reserve) (sum : Fraction) (bound : ℕ) (p : Passed Fraction) (before : sum ≡ limits_to k) where
+    module _ (sum : Fraction) (bound : ℕ) (p : Passed Fraction) (before : sum ≡ limits_to k) where
       abbrev room_above : Fraction
       room_above = most_flow m e.row -ℚ flow m (empty m) e.row
 
@@ -152,7 +155,7 @@ module _ (m : Parts) (d : Duals Fraction) where
       below = Product (down_of m d e.row) room_below
 
       s : IsSplit k e.row
-      s = split_at alone k e h
+      s = split_at k e h
 
       in_bound : IsRefusedIn (farkas_terms m d) bound p → IsFarkasPair m d bound p
       in_bound why = bound_pair (_, farkas_bound_of_all, why)
@@ -184,55 +187,79 @@ module _ (m : Parts) (d : Duals Fraction) where
 
   -- ---- the blocks of the bound
   abbrev pub blocks_to : ℕ → Fraction
-  blocks_to k = total (nothing_terms m d) +ℚ total (map block_term (places k))
+  blocks_to k = total (nothing_terms m d) +ℚ total (map (block_most m d) (places k))
 
   pub blocks_none : (s : Fraction) → s ≡ total (nothing_terms m d) → s ≡ blocks_to 0
   blocks_none s e = e ∙ sym (+ℚ_nil (total (nothing_terms m d)))
 
-  pub blocks_all : m.reserve ≡ no_reserve → blocks_to (length m.blocks) ≡ farkas_bound m d
-  unfolding farkas_bound
-  blocks_all alone = sym (total-append (nothing_terms m d) block_terms) ∙ sym (ap total (farkas_terms_alone m alone d))
+  pub blocks_all : blocks_to (length m.blocks) ≡ total (nothing_terms m d ++ block_terms)
+  blocks_all = sym (total-append (nothing_terms m d) block_terms)
 
   pub block_step : (k : ℕ) (weight mw old new : Fraction) → weight ≡ block_weight m d k → mw ≡ quantity m k → old ≡ blocks_to k → new ≡ old +ℚ part_above weight *ℚ mw → new ≡ blocks_to (k + 1)
   block_step k weight mw old new weighs is before eq =
       eq ∙ ap₂ (λ w q. old +ℚ part_above w *ℚ q) weighs is
       ∙ ap (λ t. t +ℚ part_above (block_weight m d k) *ℚ quantity m k) before
-      ∙ +ℚ_assoc (total (nothing_terms m d)) (total (map block_term (places k))) (part_above (block_weight m d k) *ℚ quantity m k)
-      ∙ ap (λ t. total (nothing_terms m d) +ℚ t) (sym (total-places_more block_term k))
+      ∙ +ℚ_assoc (total (nothing_terms m d)) (total (map (block_most m d) (places k))) (part_above (block_weight m d k) *ℚ quantity m k)
+      ∙ ap (λ t. total (nothing_terms m d) +ℚ t) (sym (total-places_more (block_most m d) k))
 
-  pub block_refused : m.reserve ≡ no_reserve → (k : ℕ) (weight mw sum : Fraction) (bound : ℕ) (p : Passed Fraction) → k < length m.blocks → weight ≡ block_weight m d k → mw ≡ quantity m k → sum ≡ blocks_to k
+  pub block_refused : (k : ℕ) (weight mw sum : Fraction) (bound : ℕ) (p : Passed Fraction) → k < length m.blocks → weight ≡ block_weight m d k → mw ≡ quantity m k → sum ≡ blocks_to k
       → IsShareRefusal sum (part_above weight) mw bound p → IsFarkasPair m d bound p
-  block_refused alone k weight mw sum bound p inside weighs is before why =
-      let r = terms_at block_term (length m.blocks) k inside in
-      let front : List Term = nothing_terms m d ++ map block_term (places k) in
-      let split : farkas_terms m d ≡ front ++ block_term k ∷ r.0 = farkas_terms_alone m alone d ∙ behind (nothing_terms m d) block_terms (map block_term (places k)) r.0 (block_term k) r.1 in
-      let made = total-append (nothing_terms m d) (map block_term (places k)) in
+  block_refused k weight mw sum bound p inside weighs is before why =
+      let r = terms_at (block_most m d) (length m.blocks) k inside in
+      let front : List Term = nothing_terms m d ++ map (block_most m d) (places k) in
+      let split : farkas_terms m d ≡ front ++ block_most m d k ∷ (r.0 ++ offer_terms) =
+      in_front (nothing_terms m d ++ block_terms) front r.0 offer_terms (block_most m d k)
+      (behind (nothing_terms m d) block_terms (map (block_most m d) (places k)) r.0 (block_most m d k) r.1) in
+      let made = total-append (nothing_terms m d) (map (block_most m d) (places k)) in
       bound_pair
-      (_, farkas_bound_of_all, share_at (farkas_terms m d) front r.0 (block_term k) split bound p sum (part_above weight) mw (ap₂ (λ w q. Product (part_above w) q) (sym weighs) (sym is)) (before ∙ sym made) why)
+      (_, farkas_bound_of_all, share_at (farkas_terms m d) front (r.0 ++ offer_terms) (block_most m d k) split bound p sum (part_above weight) mw (ap₂ (λ w q. Product (part_above w) q) (sym weighs) (sym is)) (before ∙ sym made) why)
 
   -- the price of energy by the balance
-  pub energy_refused : m.reserve ≡ no_reserve → (b : Fraction) (bound : ℕ) (p : Passed Fraction) → b ≡ balance m (empty m) → IsRefusal Times d.energy b bound p → IsFarkasPair m d bound p
-  energy_refused alone b bound p is h =
+  pub energy_refused : (b : Fraction) (bound : ℕ) (p : Passed Fraction) → b ≡ balance m (empty m) → IsRefusal Times d.energy b bound p → IsFarkasPair m d bound p
+  energy_refused b bound p is h =
       bound_pair
-      (_, farkas_bound_of_all, product_at (farkas_terms m d) [] (flat_map (limit_terms m d) (rows m) ++ block_terms) energy_term (farkas_terms_are alone) bound p d.energy b (ap (Product d.energy) (sym is)) refl h)
+      (_, farkas_bound_of_all, product_at (farkas_terms m d) [] (flat_map (limit_terms m d) (rows m) ++ reserve_terms) energy_term farkas_terms_are bound p d.energy b (ap (Product d.energy) (sym is)) refl h)
 
--- ---- where nothing is accepted
-pub nothing_is : {N : Type 0} (value : N → Fraction) (m : Parts) → m.reserve ≡ no_reserve → (xs ys : List N) (n : ℕ) → xs ≡ ys → map value ys ≡ replicate n (whole (pos 0)) → n ≡ length m.blocks → dispatch_of value xs ≡ empty m
-nothing_is value m alone xs ys n same zeros count =
-    ap₂ dispatch_with (ap (map value) same ∙ zeros ∙ ap (λ (k : ℕ). replicate k (whole (pos 0))) count)
-    (sym (ap (λ (os : List ReserveOffer). replicate (length os) (whole (pos 0))) (no_offers m alone)))
+-- ---- where nothing is accepted, of blocks and of reserve
+pub nothing_is : {N : Type 0} (value : N → Fraction) (m : Parts) (xs ys : List N) (n : ℕ) → xs ≡ ys → map value ys ≡ replicate n (whole (pos 0)) → n ≡ length m.blocks
+    → dispatch_with (map value xs) (replicate (length m.reserve.offers) (whole (pos 0))) ≡ empty m
+nothing_is value m xs ys n same zeros count =
+    ap (λ (mws : List Fraction). dispatch_with mws (replicate (length m.reserve.offers) (whole (pos 0)))) (ap (map value) same ∙ zeros ∙ ap (λ (k : ℕ). replicate k (whole (pos 0))) count)
+
+module _ (m : Parts) (blocks : List Fraction) (is : dispatch_with blocks (replicate (length m.reserve.offers) (whole (pos 0))) ≡ empty m) where
+  abbrev none : List Fraction
+  none = replicate (length m.reserve.offers) (whole (pos 0))
+
+  -- what buses put in there, and what is carried, as blocks alone decide it
+  pub nothing_put : (mws : List Fraction) → AreInjections m (dispatch_by blocks) mws → AreInjections m (empty m) mws
+  nothing_put mws puts = subst (λ x. AreInjections m x mws) is (injections_of_blocks m blocks none mws puts)
+
+  pub nothing_put_by : (mws : List Fraction) → AreInjections m (empty m) mws → AreInjections m (dispatch_by blocks) mws
+  nothing_put_by mws puts = injections_by_blocks m blocks none mws (subst (λ x. AreInjections m x mws) (sym is) puts)
+
+  pub nothing_carried : (mws : List Fraction) → AreCarried m (dispatch_by blocks) mws → AreCarried m (empty m) mws
+  nothing_carried mws carries = subst (λ x. AreCarried m x mws) is (carried_of_blocks m blocks none mws carries)
+
+  module _ (d : Duals Fraction) (bound : ℕ) (p : Passed Fraction) where
+    pub injection_pair : IsRefusedAmong (InjectionSum m (dispatch_by blocks)) bound p → IsFarkasPair m d bound p
+    injection_pair h =
+        let sum = subst (λ y. IsRefusedAmong (InjectionSum m y) bound p) is (injection_refusal m blocks none bound p h) in flow_pair (sum.0, flow_in_balance sum.0 (balance_from_bus sum.0 sum.1), sum.2)
+
+    carried_pair : IsCarriedRefusal m (empty m) bound p → IsFarkasPair m d bound p
+    carried_pair (inl (terms, sum, h)) = flow_pair (terms, flow_in_limits terms (limited_line terms sum), h)
+    carried_pair (inr (terms, sum, h)) = flow_pair (terms, flow_in_limits terms (limited_unit terms sum), h)
+
+    pub carried_pair_of : IsCarriedRefusal m (dispatch_by blocks) bound p → IsFarkasPair m d bound p
+    carried_pair_of h = carried_pair (subst (λ y. IsCarriedRefusal m y bound p) is (carried_refusal m blocks none bound p h))
 
 module _ (m : Parts) (d : Duals Fraction) (bound : ℕ) (p : Passed Fraction) where
-  pub injection_pair : (x : Dispatch) → x ≡ empty m → IsRefusedAmong (InjectionSum m x) bound p → IsFarkasPair m d bound p
-  injection_pair x is h =
-      let sum = subst (λ (y : Dispatch). IsRefusedAmong (InjectionSum m y) bound p) is h in flow_pair (sum.0, flow_in_balance sum.0 (balance_from_bus sum.0 sum.1), sum.2)
-
-  carried_pair : IsCarriedRefusal m (empty m) bound p → IsFarkasPair m d bound p
-  carried_pair (inl (terms, sum, h)) = flow_pair (terms, flow_in_limits terms (limited_line terms sum), h)
-  carried_pair (inr (terms, sum, h)) = flow_pair (terms, flow_in_limits terms (limited_unit terms sum), h)
-
-  pub carried_pair_of : (x : Dispatch) → x ≡ empty m → IsCarriedRefusal m x bound p → IsFarkasPair m d bound p
-  carried_pair_of x is h = carried_pair (subst (λ (y : Dispatch). IsCarriedRefusal m y bound p) is h)
-
   pub balance_pair : IsRefusedIn (balance_terms m (empty m)) bound p → IsFarkasPair m d bound p
   balance_pair h = flow_pair (_, flow_in_balance _ balance_of_all, h)
+
+  -- in what a MW of a unit's energy is worth
+  pub worth_pair : IsWorthRefusal m d bound p → IsFarkasPair m d bound p
+  worth_pair (inl h) = in_price h
+  worth_pair (inr h) = in_worth h
+
+  pub bound_pair_of : IsRefusedIn (farkas_terms m d) bound p → IsFarkasPair m d bound p
+  bound_pair_of h = bound_pair (_, farkas_bound_of_all, h)

@@ -1,3 +1,4 @@
+pub mod Bounds
 pub mod Named
 pub mod Pairs
 pub mod Refusals

@@ -11,7 +11,7 @@ use Rattle.market_model.specs.declared.limits.Row.{Row}
 use Rattle.market_model.specs.LimitRows.{carried, flow, limit, most_excess, most_flow}
 use Rattle.market_model.specs.NamedSums.{IsRefusal, IsShareRefusal}
 use Rattle.market_model.specs.Optimality.{up_of, down_of, named_rows}
-use Rattle.market_model.specs.SumTables.{IsFactorRefusal, IsFlowRefusal, IsRefusedAmong, LineFlowSum, LostOutputSum, PriceSum}
+use Rattle.market_model.specs.SumTables.{IsFactorRefusal, IsFlowRefusal, IsRefusedAmong, LineFlowSum, LostOutputSum, PriceSum, WorthSum}
 use Rattle.cert_sums.specs.Named.{PricedRow}
 
 -- the two prices of a row that duals name
@@ -25,6 +25,10 @@ IsPriceRefusal m d IsSum bound p = IsRefusedAmong IsSum bound p ⊎ IsPricesRefu
 -- in the price of some unit: in the price at a bus, or in what the rows after the unit's loss take from that
 abbrev pub IsUnitPriceRefusal : Parts → Duals Fraction → ℕ → Passed Fraction → Type 0
 IsUnitPriceRefusal m d bound p = IsPriceRefusal m d (PriceSum m d) bound p
+
+-- in what a MW of a unit's energy is worth: in the unit's price, or where the price of its room is taken from that
+abbrev pub IsWorthRefusal : Parts → Duals Fraction → ℕ → Passed Fraction → Type 0
+IsWorthRefusal m d bound p = IsUnitPriceRefusal m d bound p ⊎ IsRefusedAmong (WorthSum m d) bound p
 
 -- in what the network carries at a dispatch: the flow of a line, or the output of a lost unit
 abbrev pub IsCarriedRefusal : Parts → Dispatch → ℕ → Passed Fraction → Type 0

@@ -3,12 +3,17 @@
 #![tactic(auto)]
 
 mod bounding;
+mod bounding_reserve;
 mod flowing;
 mod own_pricing;
 mod pricing;
 mod putting;
+mod reserving;
+mod worths;
 
 pub use bounding::farkas_bound;
 pub use flowing::carried_flows;
 pub use pricing::{NamedRow, unit_price};
 pub use putting::injections;
+pub use reserving::{offers_reserve, reserve_in_all, room_used};
+pub use worths::{NamedRoom, energy_worth, reserve_worth};

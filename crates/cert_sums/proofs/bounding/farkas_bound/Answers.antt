@@ -1,56 +1,55 @@
-use Rattle.std.proofs.Common.{rules, Err, refl, ◌≡◌, ◌∙◌, ap, ap₂, sym, subst, length, map}
+use Rattle.std.proofs.Common.{rules, Err, refl, ◌≡◌, ◌∙◌, ap, ap₂, length, map}
 use Rattle.fraction_theory.specs.Fraction.{◌*ℚ◌}
 use Rattle.exact_fraction.specs.declared.Op.TheVariants.{Times}
-use Rattle.market_model.specs.Dispatch.{Dispatch, empty}
+use Rattle.market_model.specs.Dispatch.{empty}
 use Rattle.market_model.specs.Valued.{passed_at}
 use Rattle.market_model.proofs.StopLemmas.{on_passed_weaker}
 use Rattle.market_model.proofs.SumSteps.{product_too_large, refusal}
 use Rattle.market_model.specs.declared.stops.Stop.TheVariants as why
-use Rattle.market_model.specs.PutIn.{dispatch_of, AreCarried, AreInjections}
-use Rattle.cert_sums.proofs.BoundLemmas.{nothing_is, injection_pair, carried_pair_of, balance_pair, energy_refused}
+use Rattle.cert_sums.proofs.BoundLemmas.{nothing_is, nothing_put, nothing_put_by, nothing_carried, injection_pair, carried_pair_of, balance_pair, energy_refused}
 use Rattle.cert_sums.proofs.bounding.farkas_bound.Goals as goal
 
 pub returns-in_err-by_bus-clause-cause : goal.returns-in_err-by_bus-clause-cause
 returns-in_err-by_bus-clause-cause g c =
     let m = c.args.market.now in
     let value = g.N.Exact.value in
-    let is = nothing_is value m c.blocks-2.ensures.energy_alone c.deref.result.now c.in_ok-nothing.nothing.items _ c.deref.ensures.value c.in_ok-nothing.ensures.zeros (c.len.ensures ∙ ap length c.blocks-2.ensures.list) in
+    let is = nothing_is value m c.deref.result.now c.in_ok-nothing.nothing.items _ c.deref.ensures.value c.in_ok-nothing.ensures.zeros (c.len.ensures ∙ ap length c.blocks-2.ensures.list) in
     let given : c.from_residual-in_err-by_bus.result ≡ Err c.in_err-by_bus.field-0.0 = search rules in
-    λ d energy are. rw given
+    λ d energy are priced rooms. rw given
     (on_passed_weaker c.in_err-by_bus.field-0.0 _ _
-    (λ p. injection_pair m d g.N.Exact.bound (passed_at value p) (dispatch_of value c.deref.result.now) is) c.in_err-by_bus.ensures.cause)
+    (λ p. injection_pair m (map value c.deref.result.now) is d g.N.Exact.bound (passed_at value p)) c.in_err-by_bus.ensures.cause)
 
 pub returns-in_err-carried-clause-cause : goal.returns-in_err-carried-clause-cause
 returns-in_err-carried-clause-cause g c =
     let m = c.args.market.now in
     let value = g.N.Exact.value in
-    let is = nothing_is value m c.blocks-2.ensures.energy_alone c.deref.result.now c.in_ok-nothing.nothing.items _ c.deref.ensures.value c.in_ok-nothing.ensures.zeros (c.len.ensures ∙ ap length c.blocks-2.ensures.list) in
-    let is-2 = nothing_is value m c.blocks-2.ensures.energy_alone c.deref-2.result.now c.in_ok-nothing.nothing.items _ c.deref-2.ensures.value c.in_ok-nothing.ensures.zeros (c.len.ensures ∙ ap length c.blocks-2.ensures.list) in
-    let puts = subst (λ (x : Dispatch). AreInjections m x (map value c.deref-3.result.now)) is (ap (map value) c.deref-3.ensures.value ∙ c.in_ok-by_bus.ensures.injections) in
-    let own = subst (λ (x : Dispatch). AreInjections m x (map value c.deref-3.result.now)) (sym is-2) puts in
+    let is = nothing_is value m c.deref.result.now c.in_ok-nothing.nothing.items _ c.deref.ensures.value c.in_ok-nothing.ensures.zeros (c.len.ensures ∙ ap length c.blocks-2.ensures.list) in
+    let is-2 = nothing_is value m c.deref-2.result.now c.in_ok-nothing.nothing.items _ c.deref-2.ensures.value c.in_ok-nothing.ensures.zeros (c.len.ensures ∙ ap length c.blocks-2.ensures.list) in
+    let puts = nothing_put m (map value c.deref.result.now) is (map value c.deref-3.result.now) (ap (map value) c.deref-3.ensures.value ∙ c.in_ok-by_bus.ensures.injections) in
+    let own = nothing_put_by m (map value c.deref-2.result.now) is-2 (map value c.deref-3.result.now) puts in
     let given : c.from_residual-in_err-carried.result ≡ Err c.in_err-carried.field-0.0 = search rules in
-    λ d energy are. rw given
+    λ d energy are priced rooms. rw given
     (on_passed_weaker c.in_err-carried.field-0.0 _ _
-    (λ p. carried_pair_of m d g.N.Exact.bound (passed_at value p) (dispatch_of value c.deref-2.result.now) is-2) (c.in_err-carried.ensures.cause own))
+    (λ p. carried_pair_of m (map value c.deref-2.result.now) is-2 d g.N.Exact.bound (passed_at value p)) (c.in_err-carried.ensures.cause own))
 
 pub returns-in_err-all-clause-cause : goal.returns-in_err-all-clause-cause
 returns-in_err-all-clause-cause g c =
     let m = c.args.market.now in
     let value = g.N.Exact.value in
-    let is = nothing_is value m c.blocks-2.ensures.energy_alone c.deref.result.now c.in_ok-nothing.nothing.items _ c.deref.ensures.value c.in_ok-nothing.ensures.zeros (c.len.ensures ∙ ap length c.blocks-2.ensures.list) in
-    let all = subst (λ (x : Dispatch). AreInjections m x (map value c.deref-4.result.now)) is (ap (map value) c.deref-4.ensures.value ∙ c.in_ok-by_bus.ensures.injections) in
+    let is = nothing_is value m c.deref.result.now c.in_ok-nothing.nothing.items _ c.deref.ensures.value c.in_ok-nothing.ensures.zeros (c.len.ensures ∙ ap length c.blocks-2.ensures.list) in
+    let all = nothing_put m (map value c.deref.result.now) is (map value c.deref-4.result.now) (ap (map value) c.deref-4.ensures.value ∙ c.in_ok-by_bus.ensures.injections) in
     let given : c.from_residual-in_err-all.result ≡ Err (why.Passed c.in_err-all.field-0.0) = search rules in
-    λ d energy are. rw given (balance_pair m d g.N.Exact.bound (passed_at value c.in_err-all.field-0.0) (c.in_err-all.ensures.cause (empty m) all))
+    λ d energy are priced rooms. rw given (balance_pair m d g.N.Exact.bound (passed_at value c.in_err-all.field-0.0) (c.in_err-all.ensures.cause (empty m) all))
 
 pub returns-in_err-of_energy-clause-cause : goal.returns-in_err-of_energy-clause-cause
 returns-in_err-of_energy-clause-cause g c =
     let m = c.args.market.now in
     let value = g.N.Exact.value in
-    let is = nothing_is value m c.blocks-2.ensures.energy_alone c.deref.result.now c.in_ok-nothing.nothing.items _ c.deref.ensures.value c.in_ok-nothing.ensures.zeros (c.len.ensures ∙ ap length c.blocks-2.ensures.list) in
-    let all = subst (λ (x : Dispatch). AreInjections m x (map value c.deref-4.result.now)) is (ap (map value) c.deref-4.ensures.value ∙ c.in_ok-by_bus.ensures.injections) in
+    let is = nothing_is value m c.deref.result.now c.in_ok-nothing.nothing.items _ c.deref.ensures.value c.in_ok-nothing.ensures.zeros (c.len.ensures ∙ ap length c.blocks-2.ensures.list) in
+    let all = nothing_put m (map value c.deref.result.now) is (map value c.deref-4.result.now) (ap (map value) c.deref-4.ensures.value ∙ c.in_ok-by_bus.ensures.injections) in
     let given : c.from_residual-in_err-of_energy.result ≡ Err (why.Passed c.in_err-of_energy.field-0.0) = search rules in
-    λ d energy are. rw given
-    (energy_refused m d c.blocks-2.ensures.energy_alone (value c.in_ok-all.all) g.N.Exact.bound (passed_at value c.in_err-of_energy.field-0.0) (c.in_ok-all.ensures.sum (empty m) all)
+    λ d energy are priced rooms. rw given
+    (energy_refused m d (value c.in_ok-all.all) g.N.Exact.bound (passed_at value c.in_err-of_energy.field-0.0) (c.in_ok-all.ensures.sum (empty m) all)
     (refusal value g.N.Exact.bound Times c.args.energy c.in_ok-all.all d.energy _ c.in_err-of_energy.field-0.0 energy refl
     (product_too_large value g.N.Exact.bound c.args.energy c.in_ok-all.all c.in_err-of_energy.field-0.0 c.in_err-of_energy.ensures)))
 
@@ -58,40 +57,40 @@ pub returns-in_err-of_limits-clause-cause : goal.returns-in_err-of_limits-clause
 returns-in_err-of_limits-clause-cause g c =
     let m = c.args.market.now in
     let value = g.N.Exact.value in
-    let is = nothing_is value m c.blocks-2.ensures.energy_alone c.deref.result.now c.in_ok-nothing.nothing.items _ c.deref.ensures.value c.in_ok-nothing.ensures.zeros (c.len.ensures ∙ ap length c.blocks-2.ensures.list) in
-    let is-2 = nothing_is value m c.blocks-2.ensures.energy_alone c.deref-2.result.now c.in_ok-nothing.nothing.items _ c.deref-2.ensures.value c.in_ok-nothing.ensures.zeros (c.len.ensures ∙ ap length c.blocks-2.ensures.list) in
-    let puts = subst (λ (x : Dispatch). AreInjections m x (map value c.deref-3.result.now)) is (ap (map value) c.deref-3.ensures.value ∙ c.in_ok-by_bus.ensures.injections) in
-    let own = subst (λ (x : Dispatch). AreInjections m x (map value c.deref-3.result.now)) (sym is-2) puts in
-    let all = subst (λ (x : Dispatch). AreInjections m x (map value c.deref-4.result.now)) is (ap (map value) c.deref-4.ensures.value ∙ c.in_ok-by_bus.ensures.injections) in
-    let flows = subst (λ (x : Dispatch). AreCarried m x (map value c.deref-5.result.now)) is-2 (ap (map value) c.deref-5.ensures.value ∙ c.in_ok-carried.ensures.carried own) in
+    let is = nothing_is value m c.deref.result.now c.in_ok-nothing.nothing.items _ c.deref.ensures.value c.in_ok-nothing.ensures.zeros (c.len.ensures ∙ ap length c.blocks-2.ensures.list) in
+    let is-2 = nothing_is value m c.deref-2.result.now c.in_ok-nothing.nothing.items _ c.deref-2.ensures.value c.in_ok-nothing.ensures.zeros (c.len.ensures ∙ ap length c.blocks-2.ensures.list) in
+    let puts = nothing_put m (map value c.deref.result.now) is (map value c.deref-3.result.now) (ap (map value) c.deref-3.ensures.value ∙ c.in_ok-by_bus.ensures.injections) in
+    let own = nothing_put_by m (map value c.deref-2.result.now) is-2 (map value c.deref-3.result.now) puts in
+    let all = nothing_put m (map value c.deref.result.now) is (map value c.deref-4.result.now) (ap (map value) c.deref-4.ensures.value ∙ c.in_ok-by_bus.ensures.injections) in
+    let flows = nothing_carried m (map value c.deref-2.result.now) is-2 (map value c.deref-5.result.now) (ap (map value) c.deref-5.ensures.value ∙ c.in_ok-carried.ensures.carried own) in
     let given : c.from_residual-in_err-of_limits.result ≡ Err (why.Passed c.in_err-of_limits.field-0.0) = search rules in
-    λ d energy are. rw given (c.in_err-of_limits.ensures.cause d are flows (c.in_ok-of_energy.ensures.exact ∙ ap₂ ◌*ℚ◌ energy (c.in_ok-all.ensures.sum (empty m) all)))
+    λ d energy are priced rooms. rw given (c.in_err-of_limits.ensures.cause d are flows (c.in_ok-of_energy.ensures.exact ∙ ap₂ ◌*ℚ◌ energy (c.in_ok-all.ensures.sum (empty m) all)))
 
-pub returns-in_err-with_blocks-clause-cause : goal.returns-in_err-with_blocks-clause-cause
-returns-in_err-with_blocks-clause-cause g c =
+pub returns-in_err-with_reserve-clause-cause : goal.returns-in_err-with_reserve-clause-cause
+returns-in_err-with_reserve-clause-cause g c =
     let m = c.args.market.now in
     let value = g.N.Exact.value in
-    let is = nothing_is value m c.blocks-2.ensures.energy_alone c.deref.result.now c.in_ok-nothing.nothing.items _ c.deref.ensures.value c.in_ok-nothing.ensures.zeros (c.len.ensures ∙ ap length c.blocks-2.ensures.list) in
-    let is-2 = nothing_is value m c.blocks-2.ensures.energy_alone c.deref-2.result.now c.in_ok-nothing.nothing.items _ c.deref-2.ensures.value c.in_ok-nothing.ensures.zeros (c.len.ensures ∙ ap length c.blocks-2.ensures.list) in
-    let puts = subst (λ (x : Dispatch). AreInjections m x (map value c.deref-3.result.now)) is (ap (map value) c.deref-3.ensures.value ∙ c.in_ok-by_bus.ensures.injections) in
-    let own = subst (λ (x : Dispatch). AreInjections m x (map value c.deref-3.result.now)) (sym is-2) puts in
-    let all = subst (λ (x : Dispatch). AreInjections m x (map value c.deref-4.result.now)) is (ap (map value) c.deref-4.ensures.value ∙ c.in_ok-by_bus.ensures.injections) in
-    let flows = subst (λ (x : Dispatch). AreCarried m x (map value c.deref-5.result.now)) is-2 (ap (map value) c.deref-5.ensures.value ∙ c.in_ok-carried.ensures.carried own) in
-    let given : c.from_residual-in_err-with_blocks.result ≡ Err (why.Passed c.in_err-with_blocks.field-0.0) = search rules in
-    λ d energy are. rw given
-    (c.in_err-with_blocks.ensures.cause d energy are
+    let is = nothing_is value m c.deref.result.now c.in_ok-nothing.nothing.items _ c.deref.ensures.value c.in_ok-nothing.ensures.zeros (c.len.ensures ∙ ap length c.blocks-2.ensures.list) in
+    let is-2 = nothing_is value m c.deref-2.result.now c.in_ok-nothing.nothing.items _ c.deref-2.ensures.value c.in_ok-nothing.ensures.zeros (c.len.ensures ∙ ap length c.blocks-2.ensures.list) in
+    let puts = nothing_put m (map value c.deref.result.now) is (map value c.deref-3.result.now) (ap (map value) c.deref-3.ensures.value ∙ c.in_ok-by_bus.ensures.injections) in
+    let own = nothing_put_by m (map value c.deref-2.result.now) is-2 (map value c.deref-3.result.now) puts in
+    let all = nothing_put m (map value c.deref.result.now) is (map value c.deref-4.result.now) (ap (map value) c.deref-4.ensures.value ∙ c.in_ok-by_bus.ensures.injections) in
+    let flows = nothing_carried m (map value c.deref-2.result.now) is-2 (map value c.deref-5.result.now) (ap (map value) c.deref-5.ensures.value ∙ c.in_ok-carried.ensures.carried own) in
+    let given : c.from_residual-in_err-with_reserve.result ≡ Err (why.Passed c.in_err-with_reserve.field-0.0) = search rules in
+    λ d energy are priced rooms. rw given
+    (c.in_err-with_reserve.ensures.cause d energy are priced rooms
     (c.in_ok-of_limits.ensures.sum d are flows (c.in_ok-of_energy.ensures.exact ∙ ap₂ ◌*ℚ◌ energy (c.in_ok-all.ensures.sum (empty m) all))))
 
 pub returns-clause-bound : goal.returns-clause-bound
 returns-clause-bound g c =
     let m = c.args.market.now in
     let value = g.N.Exact.value in
-    let is = nothing_is value m c.blocks-2.ensures.energy_alone c.deref.result.now c.in_ok-nothing.nothing.items _ c.deref.ensures.value c.in_ok-nothing.ensures.zeros (c.len.ensures ∙ ap length c.blocks-2.ensures.list) in
-    let is-2 = nothing_is value m c.blocks-2.ensures.energy_alone c.deref-2.result.now c.in_ok-nothing.nothing.items _ c.deref-2.ensures.value c.in_ok-nothing.ensures.zeros (c.len.ensures ∙ ap length c.blocks-2.ensures.list) in
-    let puts = subst (λ (x : Dispatch). AreInjections m x (map value c.deref-3.result.now)) is (ap (map value) c.deref-3.ensures.value ∙ c.in_ok-by_bus.ensures.injections) in
-    let own = subst (λ (x : Dispatch). AreInjections m x (map value c.deref-3.result.now)) (sym is-2) puts in
-    let all = subst (λ (x : Dispatch). AreInjections m x (map value c.deref-4.result.now)) is (ap (map value) c.deref-4.ensures.value ∙ c.in_ok-by_bus.ensures.injections) in
-    let flows = subst (λ (x : Dispatch). AreCarried m x (map value c.deref-5.result.now)) is-2 (ap (map value) c.deref-5.ensures.value ∙ c.in_ok-carried.ensures.carried own) in
-    λ d energy are.
-    c.in_ok-with_blocks.ensures.bound d energy are
+    let is = nothing_is value m c.deref.result.now c.in_ok-nothing.nothing.items _ c.deref.ensures.value c.in_ok-nothing.ensures.zeros (c.len.ensures ∙ ap length c.blocks-2.ensures.list) in
+    let is-2 = nothing_is value m c.deref-2.result.now c.in_ok-nothing.nothing.items _ c.deref-2.ensures.value c.in_ok-nothing.ensures.zeros (c.len.ensures ∙ ap length c.blocks-2.ensures.list) in
+    let puts = nothing_put m (map value c.deref.result.now) is (map value c.deref-3.result.now) (ap (map value) c.deref-3.ensures.value ∙ c.in_ok-by_bus.ensures.injections) in
+    let own = nothing_put_by m (map value c.deref-2.result.now) is-2 (map value c.deref-3.result.now) puts in
+    let all = nothing_put m (map value c.deref.result.now) is (map value c.deref-4.result.now) (ap (map value) c.deref-4.ensures.value ∙ c.in_ok-by_bus.ensures.injections) in
+    let flows = nothing_carried m (map value c.deref-2.result.now) is-2 (map value c.deref-5.result.now) (ap (map value) c.deref-5.ensures.value ∙ c.in_ok-carried.ensures.carried own) in
+    λ d energy are priced rooms.
+    c.in_ok-with_reserve.ensures.bound d energy are priced rooms
     (c.in_ok-of_limits.ensures.sum d are flows (c.in_ok-of_energy.ensures.exact ∙ ap₂ ◌*ℚ◌ energy (c.in_ok-all.ensures.sum (empty m) all)))

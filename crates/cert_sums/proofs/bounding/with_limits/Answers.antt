@@ -35,7 +35,7 @@ loop-entry-preserved g c = λ d are flows start.
 pub returns-clause-sum : goal.returns-clause-sum
 returns-clause-sum g c = λ d are flows start.
     c.loop-entry.invariant d are flows start
-    ∙ limits_all c.args.market.now d c.lines-lines.ensures.energy_alone c.loop-entry.entry-index (omega (arith, c.loop-entry-test.false, named_count g.N.Exact.value c.args.market.now d c.args.named.now are))
+    ∙ limits_all c.args.market.now d c.loop-entry.entry-index (omega (arith, c.loop-entry-test.false, named_count g.N.Exact.value c.args.market.now d c.args.named.now are))
 
 pub returns-in_err-sum-clause-cause : goal.returns-in_err-sum-clause-cause
 returns-in_err-sum-clause-cause g c =
@@ -44,4 +44,4 @@ returns-in_err-sum-clause-cause g c =
     let given : c.from_residual.result ≡ Err c.in_err-sum.field-0.0 = search rules in
     λ d are flows start. rw given
     (limit_refused m d k (priced_at g.N.Exact.value c.entry-item.result) (named_at g.N.Exact.value m d c.args.named.now are k c.entry-item.result c.loop-entry-test.true c.entry-item.is)
-    c.lines-lines.ensures.energy_alone (g.N.Exact.value c.loop-entry.sum) g.N.Exact.bound (passed_at g.N.Exact.value c.in_err-sum.field-0.0) (c.loop-entry.invariant d are flows start) (c.in_err-sum.ensures.cause (empty m) flows))
+    (g.N.Exact.value c.loop-entry.sum) g.N.Exact.bound (passed_at g.N.Exact.value c.in_err-sum.field-0.0) (c.loop-entry.invariant d are flows start) (c.in_err-sum.ensures.cause (empty m) flows))
