@@ -158,7 +158,7 @@ fn wrong_bound<N: Exact>(
         Ok(named) => named,
         Err(Memory) => return Err(Stop::Memory),
     };
-    let bound = farkas_bound(alloc, market, energy, named.slice())?;
+    let bound = farkas_bound(alloc, market, energy, named.slice(), datum(0), &[])?;
     Ok(bound_told(bound))
 }
 
