@@ -4,3 +4,4 @@ pub mod OwnLemmas
 pub mod BlockFlows
 pub mod BoundLemmas
 pub mod RoomLemmas
+pub mod TestMarkets

@@ -17,3 +17,6 @@ pub use pricing::{NamedRow, unit_price};
 pub use putting::injections;
 pub use reserving::{offers_reserve, reserve_in_all, room_used};
 pub use worths::{NamedRoom, energy_worth, reserve_worth};
+
+#[cfg(test)]
+mod tests;

@@ -4,3 +4,4 @@ pub mod PartLemmas
 pub mod ScreenLemmas
 pub mod TakenLemmas
 pub mod RoomLemmas
+pub mod TestMarkets

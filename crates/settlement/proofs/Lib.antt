@@ -5,3 +5,4 @@ pub mod OfferLemmas
 pub mod RowLemmas
 pub mod MoneyLemmas
 pub mod WorthLemmas
+pub mod TestMarkets

@@ -1,4 +1,4 @@
-//! What units are paid, loads pay and limits earn at bus prices, and what a dispatch is worth.
+//! What units are paid, for energy and for reserve, what loads pay and limits earn at bus prices, and what a dispatch is worth.
 #![tactic(auto)]
 
 pub mod laws;
@@ -15,3 +15,6 @@ pub use settling::{settle, settle_flows};
 /// Why a settlement was not made.
 pub use market_model::Stop as MoneyStop;
 pub use worth::welfare;
+
+#[cfg(test)]
+mod tests;
