@@ -4,15 +4,16 @@ ghost use Rattle.std.specs.Prelude.{◌≡◌, [], All, IfErr, IfOk, ℕ, length
 ghost use Rattle.fraction_theory.specs.Fraction.{Fraction};
 ghost use Rattle.market_tables.specs.Tables.{tables_lent};
 ghost use Rattle.market_inputs.specs.Stops.{IsToldAs};
+ghost use Rattle.market_model.specs.Fitting.{FitsOutcome};
 ghost use Rattle.market_model.specs.Market.{IsMarket};
 ghost use Rattle.market_model.specs.Reserves.{no_reserve};
 ghost use Rattle.market_model.specs.Rights.{IsTransmissionRight};
 ghost use Rattle.market_model.specs.Stops.{StopsBy};
-ghost use Rattle.market_model.specs.Valued.{total_at};
+ghost use Rattle.market_model.specs.Valued.{outcome_at, total_at};
 ghost use Rattle.rights_test.specs.Fits.{IsFit, fit_at};
 ghost use Rattle.rights_test.specs.Paid.{payments_at, payments_of};
 ghost use Rattle.command_answers.specs.Inputs.{AreEntitled, rights_with};
-ghost use Rattle.command_answers.specs.Rights.{EntitlesTo, IsRightsRefusal, TellsFit, TellsRights, fit_status};
+ghost use Rattle.command_answers.specs.Rights.{EntitlesTo, IsRightsRefusal, TellsFit, TellsOutcome, TellsRights, fit_status};
 ghost use Rattle.command_answers.specs.Status.{IsOfWork};
 ghost use Rattle.command_answers.specs.Tellings.{Tells, telling_of};
 
@@ -120,6 +121,28 @@ fn fit_told<N: Exact>(
     }
 }
 
+/// The report of an outcome of a market, with what is told of rights behind that of an answer.
+fn outcome_told<N: Exact>(
+    alloc: Global,
+    market: &Market,
+    rights: &[TransmissionRight],
+    outcome: &Outcome<N>,
+) -> Result<Told, Memory>
+    requires fits { FitsOutcome market.now outcome.now }
+    requires rights { All (IsTransmissionRight (length market.now.buses)) rights.now }
+    ensures status { IfOk result (λ told. IsOfWork told.status) }
+    ensures tells { IfOk result (λ told. TellsOutcome N.bound market.now rights.now (outcome_at N.value outcome.now) (telling_of told)) }
+{
+    let reported = report(alloc, market, outcome)?;
+    match outcome {
+        Outcome::Cleared(answer) => {
+            let prices = answer.prices.slice();
+            fit_told(alloc, market, rights, prices, reported.as_slice())
+        }
+        _ => Ok(uncertified(clear_status(outcome), reported)),
+    }
+}
+
 /// What clearing a market with rights comes to.
 fn rights_outcome<N: Exact>(
     alloc: Global,
@@ -132,14 +155,7 @@ fn rights_outcome<N: Exact>(
     ensures entitles { IfOk result (λ told. EntitlesTo N.bound market.now rights.now (telling_of told)) }
 {
     let outcome = cleared::<N>(alloc, market)?;
-    let reported = report(alloc, market, &outcome)?;
-    match &outcome {
-        Outcome::Cleared(answer) => {
-            let prices = answer.prices.slice();
-            fit_told(alloc, market, rights, prices, reported.as_slice())
-        }
-        _ => Ok(uncertified(clear_status(&outcome), reported)),
-    }
+    outcome_told(alloc, market, rights, &outcome)
 }
 
 /// What the whole bytes of the files of a market and of a table of rights come to.
