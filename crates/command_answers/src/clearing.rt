@@ -5,8 +5,9 @@ ghost use Rattle.market_tables.specs.Tables.{tables_lent};
 ghost use Rattle.market_model.specs.Fitting.{FitsOutcome};
 ghost use Rattle.market_model.specs.Market.{IsMarket};
 ghost use Rattle.market_model.specs.Reserves.{no_reserve};
-ghost use Rattle.market_model.specs.Valued.{outcome_at};
+ghost use Rattle.market_model.specs.Valued.{outcome_at, passed_at};
 ghost use Rattle.market_system.specs.Outcomes.{IsRightOutcome};
+ghost use Rattle.report_text.specs.Reports.{range_text};
 ghost use Rattle.command_answers.specs.Clearing.{AreSidesWithin, ClearsTo, TellsCertified, TellsClear, status_of};
 ghost use Rattle.command_answers.specs.Inputs.{IsLimited, IsPool};
 ghost use Rattle.command_answers.specs.Status.{IsOfWork};
@@ -16,7 +17,7 @@ use crate::status::Status;
 use crate::told::{Outputs, Told, refused};
 use cert_format::outcome_json;
 use clear_loop::{Clearer, outcome};
-use exact_fraction::{Exact, Frac};
+use exact_fraction::{Exact, Frac, Passed};
 use market_data::FactorPlaces;
 use market_inputs::{InputStop, clear_market, pool_market};
 use market_model::{Market, Memory, Outcome};
@@ -46,6 +47,17 @@ pub(crate) fn clear_status<N: Exact>(outcome: &Outcome<N>) -> Status
         Outcome::Infeasible(_) => Status::Infeasible,
         Outcome::Range(_) => Status::Range,
     }
+}
+
+/// The report of two numbers that became too large together.
+pub(crate) fn range_report<N: Exact>(
+    alloc: Global,
+    market: &Market,
+    passed: Passed<N>,
+) -> Result<Vec<u8>, Memory>
+    ensures { IfOk result (λ bytes. bytes.items ≡ range_text (passed_at N.value passed)) }
+{
+    report(alloc, market, &Outcome::Range(passed))
 }
 
 /// The report of an outcome of a market, with its certificate.

@@ -15,9 +15,9 @@ ghost use Rattle.rights_test.specs.Paid.{payments_at, payments_of};
 ghost use Rattle.command_answers.specs.Inputs.{AreEntitled, rights_with};
 ghost use Rattle.command_answers.specs.Rights.{EntitlesTo, IsRightsRefusal, TellsFit, TellsOutcome, TellsRights, fit_status};
 ghost use Rattle.command_answers.specs.Status.{IsOfWork};
-ghost use Rattle.command_answers.specs.Tellings.{Tells, telling_of};
+ghost use Rattle.command_answers.specs.Tellings.{Tells, telling_of, uncertified};
 
-use crate::clearing::{clear_status, cleared};
+use crate::clearing::{clear_status, cleared, range_report};
 use crate::rights_lines::rights_lines;
 use crate::status::Status;
 use crate::told::{Told, refused, uncertified};
@@ -92,6 +92,33 @@ fn entitlement_of<N: Exact>(
     Ok(Entitlement { fit, payments })
 }
 
+/// Puts what is told of rights behind the report of an answer with these bus prices, and gives the status of it.
+fn put_fit<N: Exact>(
+    alloc: Global,
+    text: &mut Text,
+    market: &Market,
+    rights: &[TransmissionRight],
+    prices: &[Price<N>],
+) -> Result<Status, Memory>
+    requires prices { length prices.now ≡ length market.now.buses }
+    requires rights { All (IsTransmissionRight (length market.now.buses)) rights.now }
+    ensures work { IfOk result IsOfWork }
+    ensures tells { IfOk result (λ status. TellsFit N.bound market.now rights.now (total_at N.value prices.now) text.old (uncertified status text.new)) }
+{
+    match entitlement_of(alloc, market, rights, prices) {
+        Ok(made) => {
+            rights_lines(text, &made.fit, &made.payments)?;
+            Ok(fit_status(&made.fit))
+        }
+        Err(Stop::Passed(passed)) => {
+            let range = range_report(alloc, market, passed)?;
+            text.word(range.as_slice())?;
+            Ok(Status::Range)
+        }
+        Err(Stop::Memory) => Err(Memory),
+    }
+}
+
 /// What is told of rights behind the report of an answer with these bus prices.
 fn fit_told<N: Exact>(
     alloc: Global,
@@ -107,18 +134,8 @@ fn fit_told<N: Exact>(
 {
     let mut text = Text::new(alloc);
     text.word(reported)?;
-    match entitlement_of(alloc, market, rights, prices) {
-        Ok(made) => {
-            rights_lines(&mut text, &made.fit, &made.payments)?;
-            Ok(uncertified(fit_status(&made.fit), text.into_bytes()))
-        }
-        Err(Stop::Passed(passed)) => {
-            let range = report(alloc, market, &Outcome::Range(passed))?;
-            text.word(range.as_slice())?;
-            Ok(uncertified(Status::Range, text.into_bytes()))
-        }
-        Err(Stop::Memory) => Err(Memory),
-    }
+    let status = put_fit(alloc, &mut text, market, rights, prices)?;
+    Ok(uncertified(status, text.into_bytes()))
 }
 
 /// The report of an outcome of a market, with what is told of rights behind that of an answer.
