@@ -1,26 +1,22 @@
 -- What is told of rights.
-use Rattle.std.specs.Prelude.{◌≡◌, ◌≢◌, ℕ, List, [], ◌∷◌, ◌++◌, codes, map, refl, slice_index_or}
+use Rattle.std.specs.Prelude.{◌≡◌, ℕ, List, [], ◌∷◌, ◌++◌, codes, map, refl, slice_index_or}
 use Rattle.std.proofs.Common.{◌∙◌, ap, append_assoc, subst}
 use Rattle.fraction_theory.specs.Fraction.{Fraction}
 use Rattle.exact_fraction.specs.Written.{written}
 use Rattle.market_data.specs.Scales.{mw_places}
 use Rattle.market_model.specs.declared.answered.Answer.{Answer}
-use Rattle.market_model.specs.declared.answered.Outcome.{Outcome}
 use Rattle.market_model.specs.declared.answered.Outcome.TheVariants as outcome
 use Rattle.market_model.specs.declared.answered.Price.{Price}
 use Rattle.market_model.specs.declared.answered.RowId.{RowId}
 use Rattle.market_model.specs.declared.participants.Parts.{Parts}
 use Rattle.market_model.specs.declared.participants.TransmissionRight.{TransmissionRight}
 use Rattle.market_model.specs.Dispatch.{zero}
-use Rattle.market_model.specs.Valued.{answer_at, outcome_at, price_at, total_at}
+use Rattle.market_model.specs.Valued.{answer_at, price_at, total_at}
 use Rattle.report_text.specs.Reports.{report_text, row_text}
 use Rattle.rights_test.specs.declared.right_parts.Fit.TheVariants.{Breaks}
-use Rattle.command_answers.specs.Clearing.{status_of}
 use Rattle.command_answers.specs.Rights.{TellsFit, TellsOutcome}
 use Rattle.command_answers.specs.RightsLines.{fit_text}
-use Rattle.command_answers.specs.declared.status.Status.{Status}
-use Rattle.command_answers.specs.declared.told.Told.{Told}
-use Rattle.command_answers.specs.Tellings.{Telling, telling_of, uncertified}
+use Rattle.command_answers.specs.Tellings.{Telling}
 
 -- the line of the first limit that rights break, word by word
 pub broken-line : (t0 t1 t2 t3 t4 : List ℕ) (row : RowId) (flow : Fraction) → t1 ≡ t0 ++ codes "rights break " → t2 ≡ t1 ++ row_text row → t3 ≡ t2 ++ codes " flow " ++ written mw_places flow → t4 ≡ t3 ++ codes "\n"
@@ -37,14 +33,6 @@ broken-line t0 t1 t2 t3 t4 row flow e1 e2 e3 e4 =
     ∙ ap (λ t. t ++ ends) (append_assoc t0 (begins ++ row_text row ++ middle) number)
     ∙ append_assoc t0 (begins ++ row_text row ++ middle ++ number) ends
 
--- a text that begins with nothing, of two parts
-pub grown : (t0 t1 t2 first second : List ℕ) → t0 ≡ [] → t1 ≡ t0 ++ first → t2 ≡ t1 ++ second → t2 ≡ first ++ second
-grown t0 t1 t2 first second e0 e1 e2 = e2 ∙ ap (λ t. t ++ second) (e1 ∙ ap (λ t. t ++ first) e0)
-
--- a telling without a certificate, of this status and this text
-pub told-as : (told : Told) (s s' : Status) (t t' : List ℕ) → telling_of told ≡ uncertified s t → s ≡ s' → t ≡ t' → telling_of told ≡ uncertified s' t'
-told-as told s s' t t' is status text = is ∙ ap (λ x. uncertified x t) status ∙ ap (uncertified s') text
-
 -- the prices of an answer are those of its fractions
 totals : {N : Type 0} (value : N → Fraction) (prices : List (Price N)) → map (λ p. value p.total) prices ≡ map (λ p. p.total) (map (price_at value) prices)
 totals value [] = refl
@@ -58,10 +46,3 @@ of-cleared value bound m rights a prices reported t same text tells =
     subst (λ price. TellsFit bound m rights price report t)
     (ap (total_at value) same ∙ ap (λ xs bus. slice_index_or xs bus zero) (totals value a.prices))
     (subst (λ r. TellsFit bound m rights (total_at value prices) r t) text tells)
-
--- and the report of what is no answer stands alone
-pub of-other : {N : Type 0} (value : N → Fraction) (bound : ℕ) (m : Parts) (rights : List TransmissionRight) (o : Outcome N) (t : Telling) → ((a : Answer N) → o ≢ outcome.Cleared a)
-    → t ≡ uncertified (status_of (outcome_at value o)) (report_text m (outcome_at value o)) → TellsOutcome bound m rights (outcome_at value o) t
-of-other value bound m rights (outcome.Cleared a) t other is = absurd (other a refl)
-of-other value bound m rights (outcome.Infeasible f) t other is = is
-of-other value bound m rights (outcome.Range p) t other is = is

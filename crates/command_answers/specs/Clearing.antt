@@ -35,6 +35,13 @@ AreSidesWithin bound (outcome.Cleared a) = Unit {0}
 AreSidesWithin bound (outcome.Infeasible f) = Unit {0}
 AreSidesWithin bound (outcome.Range p) = ArePassedWithin bound p
 
+-- what is told is the report of an outcome of a market with its status, and its certificate, whose numbers are within their bounds
+pub record TellsCertified (bound : ℕ) (m : Parts) (o : Outcome Fraction) (t : Telling) : Type 0 where
+  pub status_is : t.status ≡ status_of o
+  pub text_is : t.text ≡ report_text m o
+  pub certificate_is : t.outputs ≡ certified (certificate_of m.places o)
+  pub certificate_fits : IfSome (cert_of_outcome m.places o) (NumbersFit bound)
+
 -- What is told is that of a right outcome of the market, with no limits taken before: the report of a right answer, of duals that show
 -- that no dispatch is feasible, or of two numbers of the market, each within the bound, whose outcome passes it. Its certificate is that
 -- of the answer, or of the duals, and its numbers are within their bounds. The market is of energy alone.

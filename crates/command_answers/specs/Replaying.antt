@@ -72,6 +72,13 @@ NoPairPassesIn m before (edit.Clear ∷ steps) bound = NoPairPasses m before bou
 abbrev pub AreDecided : Parts → List Step → List (StepOutcome Fraction) → Type 0
 AreDecided m steps outcomes = (k : ℕ) (o : Outcome Fraction) → slice_get outcomes k ≡ Some (step.Clear o) → IsDecided (edited_by m (take k steps)) o
 
+-- what is told is the text of these outcomes of steps with the status of a replay, and the certificate of the last clear, whose numbers are within their bounds
+pub record TellsSteps (bound : ℕ) (m : Parts) (steps : List Step) (outcomes : List (StepOutcome Fraction)) (t : Telling) : Type 0 where
+  pub status_is : t.status ≡ replay_status outcomes
+  pub text_is : t.text ≡ replayed m steps outcomes
+  pub certificate_is : t.outputs ≡ certified (option_and_then (certificate_of m.places) (last_clear None outcomes))
+  pub certificate_fits : IfSome (option_and_then (cert_of_outcome m.places) (last_clear None outcomes)) (NumbersFit bound)
+
 -- What is told is that of right outcomes, one for each step: those of edits as the market stands then, and those of clears of the market
 -- as it is edited by then, with no limits taken before the first; each of these is a market. Each clear is decided, where no working pair
 -- passes the bound at any. The certificate is that of the last clear, and its numbers are within their bounds.

@@ -5,9 +5,10 @@ ghost use Rattle.market_tables.specs.Tables.{tables_lent};
 ghost use Rattle.market_model.specs.Fitting.{FitsOutcome};
 ghost use Rattle.market_model.specs.Market.{IsMarket};
 ghost use Rattle.market_model.specs.Reserves.{no_reserve};
-ghost use Rattle.market_model.specs.Valued.{outcome_at};
+ghost use Rattle.market_model.specs.Valued.{outcome_at, passed_at};
 ghost use Rattle.market_system.specs.Outcomes.{IsRightOutcome};
-ghost use Rattle.command_answers.specs.Clearing.{AreSidesWithin, ClearsTo, TellsClear, status_of};
+ghost use Rattle.report_text.specs.Reports.{range_text};
+ghost use Rattle.command_answers.specs.Clearing.{AreSidesWithin, ClearsTo, TellsCertified, TellsClear, status_of};
 ghost use Rattle.command_answers.specs.Inputs.{IsLimited, IsPool};
 ghost use Rattle.command_answers.specs.Status.{IsOfWork};
 ghost use Rattle.command_answers.specs.Tellings.{MadeTo, Tells, telling_of};
@@ -16,7 +17,7 @@ use crate::status::Status;
 use crate::told::{Outputs, Told, refused};
 use cert_format::outcome_json;
 use clear_loop::{Clearer, outcome};
-use exact_fraction::{Exact, Frac};
+use exact_fraction::{Exact, Frac, Passed};
 use market_data::FactorPlaces;
 use market_inputs::{InputStop, clear_market, pool_market};
 use market_model::{Market, Memory, Outcome};
@@ -48,6 +49,36 @@ pub(crate) fn clear_status<N: Exact>(outcome: &Outcome<N>) -> Status
     }
 }
 
+/// The report of two numbers that became too large together.
+pub(crate) fn range_report<N: Exact>(
+    alloc: Global,
+    market: &Market,
+    passed: Passed<N>,
+) -> Result<Vec<u8>, Memory>
+    ensures { IfOk result (λ bytes. bytes.items ≡ range_text (passed_at N.value passed)) }
+{
+    report(alloc, market, &Outcome::Range(passed))
+}
+
+/// The report of an outcome of a market, with its certificate.
+fn outcome_told<N: Exact>(
+    alloc: Global,
+    market: &Market,
+    outcome: &Outcome<N>,
+) -> Result<Told, Memory>
+    requires { FitsOutcome market.now outcome.now }
+    ensures status { IfOk result (λ told. IsOfWork told.status) }
+    ensures tells { IfOk result (λ told. TellsCertified N.bound market.now (outcome_at N.value outcome.now) (telling_of told)) }
+{
+    let text = report(alloc, market, outcome)?;
+    let certificate = outcome_json(alloc, market.places(), outcome)?;
+    Ok(Told {
+        status: clear_status(outcome),
+        text,
+        outputs: Outputs::certified(certificate),
+    })
+}
+
 /// What clearing a market comes to.
 fn clear_outcome<N: Exact>(alloc: Global, market: &Market) -> Result<Told, Memory>
     requires energy_alone { market.now.reserve ≡ no_reserve }
@@ -55,11 +86,7 @@ fn clear_outcome<N: Exact>(alloc: Global, market: &Market) -> Result<Told, Memor
     ensures clears { IfOk result (λ told. ClearsTo N.bound market.now (telling_of told)) }
 {
     let outcome = cleared::<N>(alloc, market)?;
-    Ok(Told {
-        status: clear_status(&outcome),
-        text: report(alloc, market, &outcome)?,
-        outputs: Outputs::certified(outcome_json(alloc, market.places(), &outcome)?),
-    })
+    outcome_told(alloc, market, &outcome)
 }
 
 /// What a market comes to, or why none was made.

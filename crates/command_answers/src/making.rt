@@ -3,12 +3,13 @@
 ghost use Rattle.std.specs.Prelude.{◌≡◌, ◌≤◌, ◌<◌, ◌^◌, ◌++◌, [], IfOk, decimal};
 ghost use Rattle.case_maker.specs.Rings.{IsRingSize, ring_of};
 ghost use Rattle.market_model.specs.Valued.{answer_at, outcome_at};
-ghost use Rattle.command_answers.specs.Clearing.{most_size};
+ghost use Rattle.command_answers.specs.Clearing.{AreSidesWithin, most_size};
 ghost use Rattle.command_answers.specs.Making.{MakesTo, counts, summary, title};
 ghost use Rattle.command_answers.specs.Status.{IsOfWork};
 ghost use Rattle.command_answers.specs.Tellings.{telling_of};
 ghost use Rattle.market_model.specs.Fitting.{FitsOutcome};
 ghost use Rattle.market_model.specs.Market.{IsMarket};
+ghost use Rattle.market_system.specs.Outcomes.{IsRightOutcome};
 ghost use Rattle.report_text.specs.Reports.{report_text};
 
 use crate::clearing::cleared;
@@ -68,6 +69,15 @@ fn summary<N: Exact>(text: &mut Text, answer: &Answer<N>) -> Result<(), Memory>
     text.word(b"\n")
 }
 
+/// The words that a ring is made by, and its size.
+#[tactic(auto, using(std::proofs::Common::append_assoc))]
+fn size_line(text: &mut Text, ring: &Ring<'_>) -> Result<(), Memory>
+    ensures { IfOk result (λ _. text.new ≡ text.old ++ title ring.now.buses ring.now.seed ++ counts ring.now.market.now) }
+{
+    title(text, ring.buses, ring.seed)?;
+    counts(text, ring.market)
+}
+
 /// The size of a ring, with what it comes to behind.
 #[tactic(auto, using(std::proofs::Common::append_assoc))]
 fn cleared_text<N: Exact>(
@@ -78,8 +88,7 @@ fn cleared_text<N: Exact>(
     ensures { IfOk result (λ bytes. bytes.items ≡ (title ring.now.buses ring.now.seed ++ counts ring.now.market.now) ++ summary (answer_at N.value answer.now)) }
 {
     let mut text = Text::new(alloc);
-    title(&mut text, ring.buses, ring.seed)?;
-    counts(&mut text, ring.market)?;
+    size_line(&mut text, ring)?;
     summary(&mut text, answer)?;
     Ok(text.into_bytes())
 }
@@ -95,11 +104,34 @@ fn reported_text<N: Exact>(
     ensures { IfOk result (λ bytes. bytes.items ≡ (title ring.now.buses ring.now.seed ++ counts ring.now.market.now) ++ report_text ring.now.market.now (outcome_at N.value outcome.now)) }
 {
     let mut text = Text::new(alloc);
-    title(&mut text, ring.buses, ring.seed)?;
-    counts(&mut text, ring.market)?;
+    size_line(&mut text, ring)?;
     let report = report(alloc, ring.market, outcome)?;
     text.word(report.as_slice())?;
     Ok(text.into_bytes())
+}
+
+/// What an outcome of a ring comes to; it is never infeasible.
+fn outcome_told<N: Exact>(
+    alloc: Global,
+    ring: &Ring<'_>,
+    outcome: &Outcome<N>,
+) -> Result<Told, Memory>
+    requires ring { ring.now.market.now ≡ ring_of ring.now.buses ring.now.seed }
+    requires kept { IsMarket ring.now.market.now }
+    requires fits { FitsOutcome ring.now.market.now outcome.now }
+    requires right { IsRightOutcome N.bound ring.now.market.now [] (outcome_at N.value outcome.now) }
+    requires sides { AreSidesWithin N.bound (outcome_at N.value outcome.now) }
+    ensures status { IfOk result (λ told. IsOfWork told.status) }
+    ensures makes { IfOk result (λ told. MakesTo N.bound ring.now.buses ring.now.seed (telling_of told)) }
+{
+    match outcome {
+        Outcome::Cleared(answer) => Ok(uncertified(
+            Status::Done,
+            cleared_text(alloc, ring, answer)?,
+        )),
+        Outcome::Infeasible(_) => unreachable!(),
+        Outcome::Range(_) => Ok(uncertified(Status::Range, reported_text(alloc, ring, outcome)?)),
+    }
 }
 
 /// What clearing a ring comes to.
@@ -110,14 +142,7 @@ fn ring_told<N: Exact>(alloc: Global, ring: &Ring<'_>) -> Result<Told, Memory>
     ensures makes { IfOk result (λ told. MakesTo N.bound ring.now.buses ring.now.seed (telling_of told)) }
 {
     let outcome = cleared::<N>(alloc, ring.market)?;
-    match &outcome {
-        Outcome::Cleared(answer) => Ok(uncertified(
-            Status::Done,
-            cleared_text(alloc, ring, answer)?,
-        )),
-        Outcome::Infeasible(_) => unreachable!(),
-        Outcome::Range(_) => Ok(uncertified(Status::Range, reported_text(alloc, ring, &outcome)?)),
-    }
+    outcome_told(alloc, ring, &outcome)
 }
 
 /// What the ring of a seed comes to, of 4, 8, 16, 32 or 64 buses.

@@ -4,15 +4,17 @@ ghost use Rattle.std.specs.Prelude.{◌≡◌, ◌≢◌, None, All, IfOk, IfSom
 ghost use Rattle.fraction_theory.specs.Fraction.{Fraction};
 ghost use Rattle.cert_format.specs.Certificates.{NumbersFit, cert_of_outcome};
 ghost use Rattle.cert_format.specs.Written.{certificate_of};
-ghost use Rattle.edit_replay.specs.Replays.{step_outcome_at};
+ghost use Rattle.edit_replay.specs.Replays.{FitsStep, step_outcome_at};
 ghost use Rattle.edit_table.specs.EditTable.{AreSteps, IsStep};
 ghost use Rattle.market_tables.specs.Tables.{tables_lent};
 ghost use Rattle.market_inputs.specs.Stops.{IsToldAs};
+ghost use Rattle.market_model.specs.Frame.{SameFrame};
 ghost use Rattle.market_model.specs.Market.{IsMarket};
+ghost use Rattle.market_model.specs.declared.participants.Parts.{Parts};
 ghost use Rattle.market_model.specs.Reserves.{no_reserve};
 ghost use Rattle.market_model.specs.Valued.{outcome_at};
 ghost use Rattle.command_answers.specs.Inputs.{IsReplayed, steps_with};
-ghost use Rattle.command_answers.specs.Replaying.{ReplaysTo, TellsReplay, clear_or, is_done, last_clear, replay_status, step_status};
+ghost use Rattle.command_answers.specs.Replaying.{ReplaysTo, TellsReplay, TellsSteps, clear_or, is_done, last_clear, replay_status, step_status};
 ghost use Rattle.command_answers.specs.Status.{IsOfWork};
 ghost use Rattle.command_answers.specs.Tellings.{Tells, telling_of};
 
@@ -118,6 +120,27 @@ fn last_certificate<N: Exact>(
     }
 }
 
+/// The text of the outcomes of steps, by a market of their frame, with their status and the certificate of the last clear.
+fn outcomes_told<N: Exact>(
+    alloc: Global,
+    market: &Market,
+    steps: &Steps,
+    outcomes: &Outcomes<N>,
+) -> Result<Told, Memory>
+    requires count { length outcomes.now ≡ length steps.now }
+    requires fits { All (FitsStep market.now) outcomes.now }
+    ensures status { IfOk result (λ told. IsOfWork told.status) }
+    ensures tells { (m : Parts) → SameFrame market.now m → IfOk result (λ told. TellsSteps N.bound m steps.now (map (step_outcome_at N.value) outcomes.now) (telling_of told)) }
+{
+    let text = replay_text(alloc, market, steps, outcomes)?;
+    let certificate = last_certificate(alloc, outcomes, market.places())?;
+    Ok(Told {
+        status: replay_status(outcomes),
+        text,
+        outputs: Outputs::certified(certificate),
+    })
+}
+
 /// What replaying the steps of a market comes to.
 fn replay_outcome<N: Exact>(alloc: Global, market: Market, steps: &Steps) -> Result<Told, Memory>
     requires market { IsMarket market }
@@ -126,15 +149,9 @@ fn replay_outcome<N: Exact>(alloc: Global, market: Market, steps: &Steps) -> Res
     ensures status { IfOk result (λ told. IsOfWork told.status) }
     ensures replays { IfOk result (λ told. ReplaysTo N.bound market steps.now (telling_of told)) }
 {
-    let places = market.places();
     let mut session = Session::<N>::new(market);
     let outcomes = session.replay(alloc, steps)?;
-    let text = replay_text(alloc, session.market(), steps, &outcomes)?;
-    Ok(Told {
-        status: replay_status(&outcomes),
-        text,
-        outputs: Outputs::certified(last_certificate(alloc, &outcomes, places)?),
-    })
+    outcomes_told(alloc, session.market(), steps, &outcomes)
 }
 
 /// What the whole bytes of the files of a market and of a table of edits come to.

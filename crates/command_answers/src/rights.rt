@@ -4,19 +4,20 @@ ghost use Rattle.std.specs.Prelude.{◌≡◌, [], All, IfErr, IfOk, ℕ, length
 ghost use Rattle.fraction_theory.specs.Fraction.{Fraction};
 ghost use Rattle.market_tables.specs.Tables.{tables_lent};
 ghost use Rattle.market_inputs.specs.Stops.{IsToldAs};
+ghost use Rattle.market_model.specs.Fitting.{FitsOutcome};
 ghost use Rattle.market_model.specs.Market.{IsMarket};
 ghost use Rattle.market_model.specs.Reserves.{no_reserve};
 ghost use Rattle.market_model.specs.Rights.{IsTransmissionRight};
 ghost use Rattle.market_model.specs.Stops.{StopsBy};
-ghost use Rattle.market_model.specs.Valued.{total_at};
+ghost use Rattle.market_model.specs.Valued.{outcome_at, total_at};
 ghost use Rattle.rights_test.specs.Fits.{IsFit, fit_at};
 ghost use Rattle.rights_test.specs.Paid.{payments_at, payments_of};
 ghost use Rattle.command_answers.specs.Inputs.{AreEntitled, rights_with};
-ghost use Rattle.command_answers.specs.Rights.{EntitlesTo, IsRightsRefusal, TellsFit, TellsRights, fit_status};
+ghost use Rattle.command_answers.specs.Rights.{EntitlesTo, IsRightsRefusal, TellsFit, TellsOutcome, TellsRights, fit_status};
 ghost use Rattle.command_answers.specs.Status.{IsOfWork};
-ghost use Rattle.command_answers.specs.Tellings.{Tells, telling_of};
+ghost use Rattle.command_answers.specs.Tellings.{Tells, telling_of, uncertified};
 
-use crate::clearing::{clear_status, cleared};
+use crate::clearing::{clear_status, cleared, range_report};
 use crate::rights_lines::rights_lines;
 use crate::status::Status;
 use crate::told::{Told, refused, uncertified};
@@ -91,6 +92,33 @@ fn entitlement_of<N: Exact>(
     Ok(Entitlement { fit, payments })
 }
 
+/// Puts what is told of rights behind the report of an answer with these bus prices, and gives the status of it.
+fn put_fit<N: Exact>(
+    alloc: Global,
+    text: &mut Text,
+    market: &Market,
+    rights: &[TransmissionRight],
+    prices: &[Price<N>],
+) -> Result<Status, Memory>
+    requires prices { length prices.now ≡ length market.now.buses }
+    requires rights { All (IsTransmissionRight (length market.now.buses)) rights.now }
+    ensures work { IfOk result IsOfWork }
+    ensures tells { IfOk result (λ status. TellsFit N.bound market.now rights.now (total_at N.value prices.now) text.old (uncertified status text.new)) }
+{
+    match entitlement_of(alloc, market, rights, prices) {
+        Ok(made) => {
+            rights_lines(text, &made.fit, &made.payments)?;
+            Ok(fit_status(&made.fit))
+        }
+        Err(Stop::Passed(passed)) => {
+            let range = range_report(alloc, market, passed)?;
+            text.word(range.as_slice())?;
+            Ok(Status::Range)
+        }
+        Err(Stop::Memory) => Err(Memory),
+    }
+}
+
 /// What is told of rights behind the report of an answer with these bus prices.
 fn fit_told<N: Exact>(
     alloc: Global,
@@ -106,17 +134,29 @@ fn fit_told<N: Exact>(
 {
     let mut text = Text::new(alloc);
     text.word(reported)?;
-    match entitlement_of(alloc, market, rights, prices) {
-        Ok(made) => {
-            rights_lines(&mut text, &made.fit, &made.payments)?;
-            Ok(uncertified(fit_status(&made.fit), text.into_bytes()))
+    let status = put_fit(alloc, &mut text, market, rights, prices)?;
+    Ok(uncertified(status, text.into_bytes()))
+}
+
+/// The report of an outcome of a market, with what is told of rights behind that of an answer.
+fn outcome_told<N: Exact>(
+    alloc: Global,
+    market: &Market,
+    rights: &[TransmissionRight],
+    outcome: &Outcome<N>,
+) -> Result<Told, Memory>
+    requires fits { FitsOutcome market.now outcome.now }
+    requires rights { All (IsTransmissionRight (length market.now.buses)) rights.now }
+    ensures status { IfOk result (λ told. IsOfWork told.status) }
+    ensures tells { IfOk result (λ told. TellsOutcome N.bound market.now rights.now (outcome_at N.value outcome.now) (telling_of told)) }
+{
+    let reported = report(alloc, market, outcome)?;
+    match outcome {
+        Outcome::Cleared(answer) => {
+            let prices = answer.prices.slice();
+            fit_told(alloc, market, rights, prices, reported.as_slice())
         }
-        Err(Stop::Passed(passed)) => {
-            let range = report(alloc, market, &Outcome::Range(passed))?;
-            text.word(range.as_slice())?;
-            Ok(uncertified(Status::Range, text.into_bytes()))
-        }
-        Err(Stop::Memory) => Err(Memory),
+        _ => Ok(uncertified(clear_status(outcome), reported)),
     }
 }
 
@@ -132,14 +172,7 @@ fn rights_outcome<N: Exact>(
     ensures entitles { IfOk result (λ told. EntitlesTo N.bound market.now rights.now (telling_of told)) }
 {
     let outcome = cleared::<N>(alloc, market)?;
-    let reported = report(alloc, market, &outcome)?;
-    match &outcome {
-        Outcome::Cleared(answer) => {
-            let prices = answer.prices.slice();
-            fit_told(alloc, market, rights, prices, reported.as_slice())
-        }
-        _ => Ok(uncertified(clear_status(&outcome), reported)),
-    }
+    outcome_told(alloc, market, rights, &outcome)
 }
 
 /// What the whole bytes of the files of a market and of a table of rights come to.

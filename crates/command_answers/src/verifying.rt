@@ -17,6 +17,7 @@ ghost use Rattle.command_answers.specs.Tellings.{Tells, telling_of};
 ghost use Rattle.command_answers.specs.Verdicts.{verdict_line};
 ghost use Rattle.command_answers.specs.Verifying.{TellsVerdict, VerifiesTo, verdict_status};
 
+use crate::clearing::range_report;
 use crate::replaying::replay_inputs;
 use crate::status::Status;
 use crate::told::{Told, refused, uncertified};
@@ -27,11 +28,10 @@ use edit_table::{Step, Steps};
 use exact_fraction::{Exact, Frac};
 use market_data::FactorPlaces;
 use market_inputs::{InputStop, read_certificate};
-use market_model::{Market, Memory, Outcome};
+use market_model::{Market, Memory};
 use market_tables::MarketTables;
 use net_case::PostRating;
 use offer_book::edit;
-use report_text::report;
 use std::alloc::Global;
 
 /// A market, and a certificate that is to hold of it.
@@ -104,7 +104,7 @@ fn verdict_told<N: Exact>(
             Ok(uncertified(verdict_status(verdict), text))
         }
         Err(VerifyStop::Range(passed)) => {
-            let text = report(alloc, market, &Outcome::Range(passed))?;
+            let text = range_report(alloc, market, passed)?;
             Ok(uncertified(Status::Range, text))
         }
         Err(VerifyStop::Memory) => Err(Memory),
