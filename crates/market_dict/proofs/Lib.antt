@@ -1,5 +1,9 @@
+pub mod ColumnLists
 pub mod EntryLemmas
+pub mod HoldingLaws
 pub mod ListedLemmas
 pub mod NameLists
 pub mod PutInLemmas
+pub mod ReadingLemmas
+pub mod TakingLists
 pub mod TermLemmas

@@ -1,0 +1,116 @@
+use Rattle.std.proofs.Common.{◌≡◌, ◌<◌, ◌∙◌, ◌+◌, ℕ, ap, sym, subst, arith, length}
+use Rattle.std.specs.List.{Contains}
+use Rattle.fraction_theory.proofs.ListSums.{Contains-from_filter}
+use Rattle.market_model.specs.declared.participants.Parts.{Parts}
+use Rattle.market_model.specs.Dispatch.{places}
+use Rattle.market_model.specs.Reserves.{offers_reserve, reserve_units}
+use Rattle.market_system.proofs.VariableLaws.{from_places}
+use Rattle.market_model.specs.Optimality.{all_of}
+use Rattle.market_system.specs.MarketSystem.{name, IsVariableOf}
+use Rattle.market_system.specs.declared.variables.Variable.TheVariants.{Over, Under, Offer, Room}
+use Rattle.market_dict.proofs.EntryLemmas.{name_at_place, over_small}
+use Rattle.limit_rows.proofs.WalkLemmas.{rows_few}
+use Rattle.market_dict.proofs.names.name_of.Goals as goal
+
+pub overflow_cast-result : goal.overflow_cast-result
+overflow_cast-result c =
+    let m = c.args.market.now in
+    let inside : c.in-Block.place < length m.blocks = subst (IsVariableOf m (all_of m)) c.in-Block.is c.requires in
+    omega (arith, inside, c.lines-lines.ensures.market.block_count)
+
+pub overflow_add-result-in-Limit : goal.overflow_add-result-in-Limit
+overflow_add-result-in-Limit c =
+    let m = c.args.market.now in
+    let market = c.lines-lines.ensures.market in
+    let at = name_at_place m market c.in-Limit.row c.place_of.result c.place_of.ensures in
+    let blocks : c.len-blocks.result ≡ length m.blocks = c.len-blocks.ensures ∙ ap length c.blocks-2.ensures.list in
+    omega (arith, at.0, rows_few m market, market.block_count, blocks)
+
+pub overflow_cast-result-in-Limit : goal.overflow_cast-result-in-Limit
+overflow_cast-result-in-Limit c =
+    let m = c.args.market.now in
+    let market = c.lines-lines.ensures.market in
+    let at = name_at_place m market c.in-Limit.row c.place_of.result c.place_of.ensures in
+    let blocks : c.len-blocks.result ≡ length m.blocks = c.len-blocks.ensures ∙ ap length c.blocks-2.ensures.list in
+    omega (arith, at.0, rows_few m market, market.block_count, blocks)
+
+pub returns-in-Limit : goal.returns-in-Limit
+returns-in-Limit c =
+    let m = c.args.market.now in
+    let at = name_at_place m c.lines-lines.ensures.market c.in-Limit.row c.place_of.result c.place_of.ensures in
+    let blocks : c.len-blocks.result ≡ length m.blocks = c.len-blocks.ensures ∙ ap length c.blocks-2.ensures.list in
+    ap (λ (n : ℕ). n + 1 + c.place_of.result) blocks ∙ sym at.1 ∙ ap (name m) (sym c.in-Limit.is)
+
+pub overflow_cast-result-in-Over : goal.overflow_cast-result-in-Over
+overflow_cast-result-in-Over c =
+    let m = c.args.market.now in
+    let here : IsVariableOf m (all_of m) (Over c.in-Over.row) = subst (IsVariableOf m (all_of m)) c.in-Over.is c.requires in
+    omega (arith, over_small m c.lines-lines.ensures.market c.in-Over.row here.0, c.over_name.ensures)
+
+pub overflow_add-result-in-Under : goal.overflow_add-result-in-Under
+overflow_add-result-in-Under c =
+    let m = c.args.market.now in
+    let here : IsVariableOf m (all_of m) (Under c.in-Under.row) = subst (IsVariableOf m (all_of m)) c.in-Under.is c.requires in
+    omega (arith, over_small m c.lines-lines.ensures.market c.in-Under.row here.0, c.over_name-in-Under.ensures)
+
+pub overflow_cast-result-in-Under : goal.overflow_cast-result-in-Under
+overflow_cast-result-in-Under c =
+    let m = c.args.market.now in
+    let here : IsVariableOf m (all_of m) (Under c.in-Under.row) = subst (IsVariableOf m (all_of m)) c.in-Under.is c.requires in
+    omega (arith, over_small m c.lines-lines.ensures.market c.in-Under.row here.0, c.over_name-in-Under.ensures)
+
+pub overflow_mul-result : goal.overflow_mul-result
+overflow_mul-result c = omega (arith, rows_few c.args.market.now c.lines-lines.ensures.market, c.count.ensures)
+
+pub overflow_add-result-in-Offer-2 : goal.overflow_add-result-in-Offer-2
+overflow_add-result-in-Offer-2 c =
+    let m = c.args.market.now in
+    let market = c.lines-lines.ensures.market in
+    let blocks : c.len-blocks.result ≡ length m.blocks = c.len-blocks.ensures ∙ ap length c.blocks-2.ensures.list in
+    omega (arith, rows_few m market, market.block_count, blocks, c.count.ensures)
+
+pub overflow_add-result-in-Offer-3 : goal.overflow_add-result-in-Offer-3
+overflow_add-result-in-Offer-3 c =
+    let m = c.args.market.now in
+    let market = c.lines-lines.ensures.market in
+    let inside : c.in-Offer.place < length m.reserve.offers = subst (IsVariableOf m (all_of m)) c.in-Offer.is c.requires in
+    let blocks : c.len-blocks.result ≡ length m.blocks = c.len-blocks.ensures ∙ ap length c.blocks-2.ensures.list in
+    omega (arith, inside, rows_few m market, market.block_count, market.reserve.count, blocks, c.count.ensures)
+
+pub overflow_cast-result-in-Offer : goal.overflow_cast-result-in-Offer
+overflow_cast-result-in-Offer c =
+    let m = c.args.market.now in
+    let market = c.lines-lines.ensures.market in
+    let inside : c.in-Offer.place < length m.reserve.offers = subst (IsVariableOf m (all_of m)) c.in-Offer.is c.requires in
+    let blocks : c.len-blocks.result ≡ length m.blocks = c.len-blocks.ensures ∙ ap length c.blocks-2.ensures.list in
+    omega (arith, inside, rows_few m market, market.block_count, market.reserve.count, blocks, c.count.ensures)
+
+pub overflow_cast-result-in-Need : goal.overflow_cast-result-in-Need
+overflow_cast-result-in-Need c =
+    let m = c.args.market.now in
+    let market = c.lines-lines.ensures.market in
+    omega (arith, rows_few m market, market.block_count, market.reserve.count, c.need_name.ensures)
+
+-- the place of a unit that offers reserve
+unit_inside : (m : Parts) (u : ℕ) → Contains (reserve_units m) u → u < length m.units
+unit_inside m u c = from_places (length m.units) u (Contains-from_filter (offers_reserve m) (places (length m.units)) u c).0
+
+pub overflow_add-result-in-Room : goal.overflow_add-result-in-Room
+overflow_add-result-in-Room c =
+    let m = c.args.market.now in
+    let market = c.lines-lines.ensures.market in
+    omega (arith, rows_few m market, market.block_count, market.reserve.count, c.need_name-in-Room.ensures)
+
+pub overflow_add-result-in-Room-2 : goal.overflow_add-result-in-Room-2
+overflow_add-result-in-Room-2 c =
+    let m = c.args.market.now in
+    let market = c.lines-lines.ensures.market in
+    let here : IsVariableOf m (all_of m) (Room c.in-Room.unit) = subst (IsVariableOf m (all_of m)) c.in-Room.is c.requires in
+    omega (arith, unit_inside m c.in-Room.unit here, rows_few m market, market.block_count, market.unit_count, market.reserve.count, c.need_name-in-Room.ensures)
+
+pub overflow_cast-result-in-Room : goal.overflow_cast-result-in-Room
+overflow_cast-result-in-Room c =
+    let m = c.args.market.now in
+    let market = c.lines-lines.ensures.market in
+    let here : IsVariableOf m (all_of m) (Room c.in-Room.unit) = subst (IsVariableOf m (all_of m)) c.in-Room.is c.requires in
+    omega (arith, unit_inside m c.in-Room.unit here, rows_few m market, market.block_count, market.unit_count, market.reserve.count, c.need_name-in-Room.ensures)

@@ -1,0 +1,1 @@
+use Rattle.market_dict.proofs.rows.start.Goals as goal
