@@ -8,7 +8,7 @@ pub returns : goal.returns
 returns g c =
     let m = c.args.market.now in
     let value = g.N.Exact.value in
-    let blocks = c.len.ensures ∙ ap length c.blocks.ensures.list in
+    let blocks = c.len.ensures ∙ ap length c.blocks-2.ensures.list in
     let offers = c.len-2.ensures ∙ ap (λ (r : Reserve). length r.offers) c.reserve.ensures.reserve in
     need_at_start m (map value c.push_alike-2.new.entries)
     (c.in_ok-push_alike-2.ensures
