@@ -1,14 +1,8 @@
 use Rattle.std.proofs.Common.{◌≡◌, ◌<◌, ◌∙◌, ◌+◌, ℕ, ap, sym, subst, arith, length}
-use Rattle.std.specs.List.{Contains}
-use Rattle.fraction_theory.proofs.ListSums.{Contains-from_filter}
-use Rattle.market_model.specs.declared.participants.Parts.{Parts}
-use Rattle.market_model.specs.Dispatch.{places}
-use Rattle.market_model.specs.Reserves.{offers_reserve, reserve_units}
-use Rattle.market_system.proofs.VariableLaws.{from_places}
 use Rattle.market_model.specs.Optimality.{all_of}
 use Rattle.market_system.specs.MarketSystem.{name, IsVariableOf}
 use Rattle.market_system.specs.declared.variables.Variable.TheVariants.{Over, Under, Offer, Room}
-use Rattle.market_dict.proofs.EntryLemmas.{name_at_place, over_small}
+use Rattle.market_dict.proofs.EntryLemmas.{name_at_place, over_small, unit_inside}
 use Rattle.limit_rows.proofs.WalkLemmas.{rows_few}
 use Rattle.market_dict.proofs.names.name_of.Goals as goal
 
@@ -90,10 +84,6 @@ overflow_cast-result-in-Need c =
     let m = c.args.market.now in
     let market = c.lines-lines.ensures.market in
     omega (arith, rows_few m market, market.block_count, market.reserve.count, c.need_name.ensures)
-
--- the place of a unit that offers reserve
-unit_inside : (m : Parts) (u : ℕ) → Contains (reserve_units m) u → u < length m.units
-unit_inside m u c = from_places (length m.units) u (Contains-from_filter (offers_reserve m) (places (length m.units)) u c).0
 
 pub overflow_add-result-in-Room : goal.overflow_add-result-in-Room
 overflow_add-result-in-Room c =
