@@ -3,6 +3,7 @@ pub mod EntryLemmas
 pub mod HoldingLaws
 pub mod ListedLemmas
 pub mod NameLists
+pub mod OfferLemmas
 pub mod PutInLemmas
 pub mod ReadingLemmas
 pub mod TakingLists
