@@ -90,6 +90,10 @@ is_listed (s ∷ ts) t c = elim (Contains-cases s ts t c) [
 alone : {X : Type 0} (x y : X) → Contains (x ∷ []) y → y ≡ x
 alone x y h = elim (Contains-cases x [] y h) [ inl e ↦ sym e | inr n ↦ absurd (Prim.omega (arith, n.1)) ]
 
+pub limits_within : (ts : List Taking) (t : Taking) → Contains ts t → (r : Row) → Contains (limits_of (t ∷ [])) r → Contains (limits_of ts) r
+limits_within ts (Limit q) c r k = subst (Contains (limits_of ts)) (sym (alone q r k)) (is_listed ts (Limit q) c)
+limits_within ts (Room u) c r k = absurd (Prim.omega (arith, k.1))
+
 -- distinct things with a new one behind them
 one_behind : {X : Type 0} (xs : List X) (x : X) → AllPairs (λ (a b : X). a ≢ b) xs → ¬ (Contains xs x) → AllPairs (λ (a b : X). a ≢ b) (xs ++ x ∷ [])
 one_behind {X} xs x distinct absent =
