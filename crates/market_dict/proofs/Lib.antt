@@ -6,6 +6,7 @@ pub mod PosingLemmas
 pub mod ListedLemmas
 pub mod NameLists
 pub mod OfferLemmas
+pub mod OfferedPairs
 pub mod PutInLemmas
 pub mod ReadingLemmas
 pub mod RefusalLaws

@@ -1,5 +1,5 @@
 -- What is refused is a working pair of the market.
-use Rattle.std.specs.Prelude.{◌≡◌, ℕ, List, [], ◌∷◌, Some, Contains, refl}
+use Rattle.std.specs.Prelude.{◌≡◌, ℕ, Bool, true, false, List, [], ◌∷◌, Some, Contains, refl}
 use Rattle.std.proofs.Common.{inl, inr, subst}
 use Rattle.fraction_theory.specs.Fraction.{Fraction, neg_ℚ, ◌-ℚ◌}
 use Rattle.fraction_theory.specs.Sums.{Term}
@@ -30,6 +30,7 @@ use Rattle.market_system.specs.declared.variables.Variable.TheVariants.{Limit}
 use Rattle.market_dict.specs.declared.taking.Taking.{Taking}
 use Rattle.market_dict.specs.Refusals.{IsLeftRefusal, of_high, of_low, IsBoundsRefusal, of_sum, of_pickup, of_bound, of_offered, offered_terms}
 use Rattle.market_dict.specs.Takings.{limits_of, taken_of}
+use Rattle.market_dict.proofs.OfferedPairs.{none_refused, offered_pair}
 
 -- of the market's system
 pub pair_range : {N : Type 0} (value : N → Fraction) (bound : ℕ) (m : Parts) (old : List Row) (ts : List Taking) (p : Passed N) → Growth m old (limits_of ts) → IsPairOf value bound (system_of m (taken_of ts)) p → IsRangeOf m old bound (passed_at value p)
@@ -66,14 +67,16 @@ module _ (m : Parts) (old : List Row) (ts : List Taking) (h : Choice) (bound : �
     bound_range (of_high a) = pairs.less Quantity (limit m r) (flow m (empty m) r) (is_limit r c) (flow_number r c) high_number a
     bound_range (of_low a) = pairs.less Quantity (neg_ℚ (limit m r)) (flow m (empty m) r) (of_opposite Quantity (limit m r) (is_limit r c)) (flow_number r c) low_number a
 
+  -- the sum of what is offered of reserve
+  offered_range : (b : Bool) → m.reserve.listed ≡ b → IsRefusedIn (offered_terms m) bound p → IsRangeOf m old bound p
+  offered_range true listed a = pairs.system (offered_pair m (taken_in_order m (taken_of ts)) (law.taken-in_order m (rows_apart m (names_apart m market)) (taken_of ts)) listed bound p a)
+  offered_range false unlisted a = absurd (none_refused m bound p market unlisted a)
+
   pub posing_range : (over : List Row) → ((r : Row) → Contains over r → Contains (limits_of ts) r) → IsBoundsRefusal m over bound p → IsRangeOf m old bound p
   posing_range over inside (of_sum (terms, sum, a)) = pairs.sum (Some Quantity) terms (flows_named (empty m) terms (inl refl) sum) a
   posing_range over inside (of_pickup r c taken (terms, sum, a)) = pairs.sum (Some Factor) terms (factor_of r terms c (factor_of_pickup terms sum)) a
   posing_range over inside (of_bound r c taken a) = bound_range r c (inside r taken) a
-  posing_range over inside (of_offered a) = offered_range a
-    where
-      offered_range : IsRefusedIn (offered_terms m) bound p → IsRangeOf m old bound p
-      offered_range a = ?
+  posing_range over inside (of_offered a) = offered_range m.reserve.listed refl a
 
 -- rows among others
 pub bounds_among : (m : Parts) (over wider : List Row) (bound : ℕ) (p : Passed Fraction) → ((r : Row) → Contains over r → Contains wider r) → IsBoundsRefusal m over bound p → IsBoundsRefusal m wider bound p
