@@ -7,7 +7,6 @@ use Rattle.std.proofs.lemmas.List.{append-nil, length-map, map-append, replicate
 use Rattle.std.proofs.lemmas.List.Elements.{filter-append}
 use Rattle.std.proofs.lemmas.List.FromFn.{length-range_with_len}
 use Rattle.fraction_theory.specs.Fraction.{Fraction, whole, neg_ℚ}
-use Rattle.fraction_theory.proofs.ListSums.{Contains-head}
 use Rattle.market_model.specs.declared.limits.Row.{Row}
 use Rattle.market_model.specs.declared.participants.Parts.{Parts}
 use Rattle.market_model.specs.Dispatch.{places, zero}

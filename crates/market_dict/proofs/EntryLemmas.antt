@@ -1,8 +1,7 @@
 -- What blocks count in the rows of a dictionary, and the names of its variables.
-use Rattle.std.specs.Prelude.{◌≡◌, ◌≢◌, ℕ, ◌<◌, ◌+◌, ◌*◌, pos, length, AllPairs, Contains, Some}
+use Rattle.std.specs.Prelude.{◌≡◌, ℕ, ◌<◌, ◌+◌, ◌*◌, pos, length, Contains, Some}
 use Rattle.std.specs.List.{slice_get}
-use Rattle.std.proofs.Common.{arith, ap, ap₂, sym, ◌∙◌, get_or}
-use Rattle.std.proofs.lemmas.List.FromFn.{length-range_with_len, get_or-range_with_len}
+use Rattle.std.proofs.Common.{arith, ap, ap₂, sym, ◌∙◌}
 use Rattle.std.proofs.lemmas.Option.{slice_get_within, get_or_from_slice_get}
 use Rattle.fraction_theory.specs.Fraction.{Fraction, whole}
 use Rattle.fraction_theory.proofs.ListSums.{Contains-from_filter}

@@ -1,7 +1,7 @@
 -- The flows of a dispatch are those of its blocks: what is accepted of reserve counts for none.
-use Rattle.std.specs.Prelude.{◌≡◌, ℕ, List, [], ◌++◌, length, map, refl}
+use Rattle.std.specs.Prelude.{◌≡◌, ℕ, List, ◌++◌, length, map, refl}
 use mathlib.Core.Path.{fun_ext}
-use Rattle.std.proofs.Common.{ap, ap₂, subst}
+use Rattle.std.proofs.Common.{ap₂, subst}
 use Rattle.fraction_theory.specs.Fraction.{Fraction}
 use Rattle.fraction_theory.specs.Sums.{Term}
 use Rattle.exact_fraction.specs.declared.Passed.{Passed}

@@ -40,7 +40,7 @@ use Rattle.market_model.proofs.Excesses.{limit_least}
 use Rattle.limit_rows.proofs.ApartLemmas.{names_apart}
 use Rattle.market_system.specs.declared.variables.Variable.{Variable}
 use Rattle.market_system.specs.declared.variables.Variable.TheVariants.{Block, Balance, Limit, Over, Under, Offer, Need, Room}
-use Rattle.market_system.specs.MarketSystem.{balance_name, row_name, over_name, under_name, taken_in_order, residual_demand, reserve_offered, name, coefficient, objective_price, low, high, system_of, system_over, row_variables, columns as market_columns, variable_of, IsVariableOf, block_columns, offer_columns}
+use Rattle.market_system.specs.MarketSystem.{balance_name, over_name, under_name, taken_in_order, residual_demand, reserve_offered, name, coefficient, objective_price, low, high, system_of, system_over, row_variables, columns as market_columns, variable_of, IsVariableOf, block_columns, offer_columns}
 use Rattle.market_system.specs.SolvedLaws.{AnswersBy, StuckShows, state_at}
 use Rattle.market_system.proofs.DualLists.{rows_apart}
 use Rattle.market_system.proofs.FrameLaws.{law_of_the_frame, rows_in_turn, same_names}
@@ -55,7 +55,7 @@ use Rattle.market_dict.specs.Holding.{HasPutIn, HoldsMarket, HoldsSystem, prices
 use Rattle.market_dict.specs.Takings.{limits_of, rooms_of, taken_of, AreTakings, columns_put, rows_put}
 use Rattle.market_dict.proofs.ColumnLists.{columns_limit, columns_room, soft_columns, hard_columns, own_nil}
 use Rattle.market_dict.proofs.PutInLemmas.{start_coefficient, kept_coefficient, added_coefficient, same_put_in}
-use Rattle.market_dict.proofs.TakingLists.{no_takings, one_limit_more, one_room_more, column_put, row_put, row_is, column_is, put_is, column_or_row, no_put_column, rows_more, rows_bare, rows_need, all_in_order, of_all, from_order, to_order, put_to_rows, put_to_columns, put_from_rows, put_from_columns, columns_in_frame, rows_in_frame, units_in_frame}
+use Rattle.market_dict.proofs.TakingLists.{no_takings, one_limit_more, row_put, row_is, column_is, put_is, column_or_row, no_put_column, rows_bare, all_in_order, of_all, from_order, to_order, put_to_rows, put_to_columns, put_from_rows, put_from_columns, columns_in_frame, rows_in_frame, units_in_frame}
 use Rattle.market_dict.proofs.NameLists.{ascending_same}
 
 -- ---- the lists as put in

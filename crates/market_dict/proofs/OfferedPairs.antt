@@ -1,8 +1,8 @@
 -- What is added up of the offers of reserve is what the need's row would be with all of them accepted whole. So where that sum is refused, the
 -- operation is a working pair of the market's system: at the choice whose rows are basic and whose columns stand at their high bounds.
-use Rattle.std.specs.Prelude.{◌≡◌, ℕ, ◌+◌, ◌<◌, pos, Bool, true, false, not, List, [], ◌∷◌, ◌++◌, length, map, take, Contains, refl, ◌⊎◌}
+use Rattle.std.specs.Prelude.{◌≡◌, ℕ, ◌+◌, ◌<◌, Bool, true, false, not, List, [], ◌∷◌, ◌++◌, length, map, Contains, refl, ◌⊎◌}
 use Rattle.std.specs.List.Sorted.{IsStrictlyIncreasing}
-use Rattle.std.proofs.Common.{zero as none, suc, arith, ap, ap₂, sym, ◌∙◌, subst, subst₂, inl, inr}
+use Rattle.std.proofs.Common.{zero as none, suc, arith, ap, ap₂, sym, ◌∙◌, subst, inl, inr}
 use Rattle.std.proofs.lemmas.List.{map-append, length-map}
 use Rattle.std.proofs.lemmas.List.Elements.{Contains-append_cases}
 use Rattle.std.proofs.lemmas.List.FromFn.{length-range_with_len, get_or-map-range_with_len}
@@ -18,15 +18,13 @@ use Rattle.exact_fraction.specs.declared.Passed.{Passed}
 use Rattle.exact_fraction.specs.Passes.{IsTooLarge, Passes, outcome}
 use Rattle.linear_dict.specs.Places.{is_among}
 use Rattle.linear_dict.proofs.NameLemmas.{among-tells, among-from}
-use Rattle.linear_system.specs.Choices.{Choice, IsChoice, MeetsTable, at_bound, basics, others, value_terms}
-use Rattle.linear_system.specs.Numbers.{Quantity, SolvingNumber, SystemNumber, is_high, is_number, is_opposite, is_turned, is_value}
-use Rattle.linear_system.specs.Pairs.{AtEither, IsForLarge, IsPairCase, IsSummand, IsSystemPair, Makes, OfEither, added, alone, itself, plain, subtracted}
-use Rattle.linear_system.specs.Systems.{IsSystem, MeetsRows, System, activity}
+use Rattle.linear_system.specs.Choices.{Choice, IsChoice, at_bound, basics, others, value_terms}
+use Rattle.linear_system.specs.Numbers.{Quantity, SystemNumber, is_high, is_number, is_opposite, is_value}
+use Rattle.linear_system.specs.Pairs.{IsPairCase, IsSummand, IsSystemPair, OfEither, added, alone, itself, plain, subtracted}
+use Rattle.linear_system.specs.Systems.{IsSystem, System, activity}
 use Rattle.linear_system.proofs.ChoiceLaws.{basics_are, is_basic, is_other, others_are}
-use Rattle.market_model.specs.declared.limits.Row.{Row}
 use Rattle.market_model.specs.declared.participants.Parts.{Parts}
-use Rattle.market_model.specs.declared.participants.Reserve.{Reserve}
-use Rattle.market_model.specs.Dispatch.{places, reserve_quantity, zero as nil}
+use Rattle.market_model.specs.Dispatch.{reserve_quantity, zero as nil}
 use Rattle.market_model.specs.Market.{IsMarket}
 use Rattle.market_model.specs.NamedSums.{IsNextTerm, IsRefusedIn, IsSumStep, SameSize, term_at}
 use Rattle.market_model.specs.Optimality.{Taken}

@@ -1,15 +1,15 @@
 -- The limits and rooms that are taken, and the columns and rows that a dictionary has then: they are those of the market's system.
-use Rattle.std.specs.Prelude.{◌≡◌, ◌≢◌, ◌⊎◌, ℕ, ◌+◌, ◌<◌, Bool, true, false, if◌then◌else◌, List, [], ◌∷◌, ◌++◌, length, map, filter, Contains, AllPairs, refl}
-use Rattle.std.proofs.Common.{arith, ap, ap₂, sym, ◌∙◌, subst, inl, inr, append_assoc}
+use Rattle.std.specs.Prelude.{◌≡◌, ◌≢◌, ◌⊎◌, ℕ, ◌+◌, Bool, true, false, List, [], ◌∷◌, ◌++◌, length, map, All, Contains, AllPairs, refl}
+use Rattle.std.proofs.Common.{arith, ap, ap₂, sym, ◌∙◌, subst, inl, inr, append_assoc, get_or}
 use Rattle.std.proofs.lemmas.List.{append-nil, length-map, length-append, map-append}
-use Rattle.std.proofs.lemmas.List.Elements.{Contains-append_left, Contains-append_right, Contains-append_cases}
+use Rattle.std.proofs.lemmas.List.Elements.{Contains-append_left, Contains-append_right, Contains-append_cases, Contains-get_or}
 use Rattle.std.proofs.lemmas.List.FromFn.{length-range_with_len}
 use Rattle.fraction_theory.proofs.ListSums.{Contains-head, Contains-cons, Contains-cases}
 use Rattle.market_model.specs.declared.limits.Row.{Row}
 use Rattle.market_model.specs.declared.participants.Parts.{Parts}
 use Rattle.market_model.specs.Dispatch.{places}
 use Rattle.market_model.specs.Frame.{SameFrame}
-use Rattle.market_model.specs.LimitRows.{rows, is_soft}
+use Rattle.market_model.specs.LimitRows.{rows}
 use Rattle.market_model.specs.Market.{IsMarket}
 use Rattle.market_model.specs.Optimality.{Taken, all_of, rows_alone}
 use Rattle.market_model.specs.Reserves.{no_reserve, reserve_units}
@@ -89,6 +89,14 @@ is_listed (s ∷ ts) t c = elim (Contains-cases s ts t c) [
 
 alone : {X : Type 0} (x y : X) → Contains (x ∷ []) y → y ≡ x
 alone x y h = elim (Contains-cases x [] y h) [ inl e ↦ sym e | inr n ↦ absurd (Prim.omega (arith, n.1)) ]
+
+-- each is one of the market
+pub takings_known : (m : Parts) (ts : List Taking) → AreTakings m ts → All (IsTaking m) ts
+takings_known m ts are k d lt = known (get_or ts k d) (is_listed ts (get_or ts k d) (Contains-get_or ts k d lt))
+  where
+    known : (t : Taking) → IsListed ts t → IsTaking m t
+    known (Limit r) c = are.taken.limits.rows r c
+    known (Room u) c = are.taken.rooms u c
 
 pub limits_within : (ts : List Taking) (t : Taking) → Contains ts t → (r : Row) → Contains (limits_of (t ∷ [])) r → Contains (limits_of ts) r
 limits_within ts (Limit q) c r k = subst (Contains (limits_of ts)) (sym (alone q r k)) (is_listed ts (Limit q) c)

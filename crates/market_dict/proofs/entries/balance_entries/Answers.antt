@@ -1,8 +1,6 @@
-use Rattle.std.proofs.Common.{◌≡◌, ◌∙◌, ◌++◌, List, ℕ, ap, ap₂, map, length, replicate}
+use Rattle.std.proofs.Common.{◌∙◌, ◌++◌, List, ℕ, ap, ap₂, map, length, replicate}
 use Rattle.fraction_theory.specs.Fraction.{Fraction}
 use Rattle.market_model.specs.declared.participants.Reserve.{Reserve}
-use Rattle.market_model.specs.Dispatch.{places}
-use Rattle.market_system.specs.MarketSystem.{block_sign}
 use Rattle.market_dict.proofs.ColumnLists.{balance_at_start}
 use Rattle.market_dict.proofs.entries.balance_entries.Goals as goal
 

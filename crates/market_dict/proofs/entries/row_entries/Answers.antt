@@ -1,4 +1,4 @@
-use Rattle.std.proofs.Common.{◌≡◌, ◌-◌, ◌+◌, ◌∙◌, ◌++◌, List, arith, ap, ap₂, map, length, refl, replicate}
+use Rattle.std.proofs.Common.{◌≡◌, ◌-◌, ◌+◌, ◌∙◌, ◌++◌, List, arith, ap, map, length, refl, replicate}
 use Rattle.std.specs.Prelude.{[], ◌∷◌}
 use Rattle.fraction_theory.specs.Fraction.{Fraction}
 use Rattle.market_system.specs.MarketSystem.{excess_columns, limit_coefficient, offer_columns}

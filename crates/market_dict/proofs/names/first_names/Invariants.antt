@@ -1,4 +1,4 @@
-use Rattle.std.proofs.Common.{◌≡◌, ◌++◌, length, map}
+use Rattle.std.proofs.Common.{◌≡◌, ◌++◌, map}
 use Rattle.market_model.specs.Dispatch.{places}
 use Rattle.market_system.specs.MarketSystem.{block_columns, name, offer_name}
 use Rattle.market_dict.proofs.names.first_names.Given as goal

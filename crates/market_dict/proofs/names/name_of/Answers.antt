@@ -1,7 +1,7 @@
 use Rattle.std.proofs.Common.{◌≡◌, ◌<◌, ◌∙◌, ◌+◌, ℕ, ap, sym, subst, arith, length}
 use Rattle.market_model.specs.Optimality.{all_of}
 use Rattle.market_system.specs.MarketSystem.{name, IsVariableOf}
-use Rattle.market_system.specs.declared.variables.Variable.TheVariants.{Over, Under, Offer, Room}
+use Rattle.market_system.specs.declared.variables.Variable.TheVariants.{Over, Under, Room}
 use Rattle.market_dict.proofs.EntryLemmas.{name_at_place, over_small, unit_inside}
 use Rattle.limit_rows.proofs.WalkLemmas.{rows_few}
 use Rattle.market_dict.proofs.names.name_of.Goals as goal

@@ -1,10 +1,9 @@
 use Rattle.std.proofs.Common.{◌≡◌, ◌∙◌, ◌+◌, ◌++◌, ◌<◌, ◌≤ℤ◌, List, map, ap, subst, sym, length, arith, pos, ℕ}
 use Rattle.std.specs.Prelude.{slice_index_or}
-use Rattle.fraction_theory.specs.Fraction.{Fraction, whole, neg_ℚ}
+use Rattle.fraction_theory.specs.Fraction.{Fraction, whole}
 use Rattle.market_model.specs.declared.participants.Reserve.{Reserve}
 use Rattle.market_model.specs.declared.participants.ReserveOffer.{ReserveOffer}
 use Rattle.market_model.specs.Dispatch.{places}
-use Rattle.market_system.specs.declared.variables.Variable.TheVariants.{Offer}
 use Rattle.market_model.specs.Dispatch.{reserve_quantity, zero}
 use Rattle.market_system.specs.MarketSystem.{low as low_of, high as high_of}
 use Rattle.simplex_core.specs.declared.bounds.Bounds.{Bounds}

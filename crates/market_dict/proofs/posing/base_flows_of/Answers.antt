@@ -1,5 +1,5 @@
-use Rattle.std.proofs.Common.{◌≡◌, ◌∙◌, [], List, ℕ, ap, map, length, replicate, subst}
-use Rattle.std.proofs.lemmas.Result.{MatchResult-weaker, IfOk-weaker, IfErr-weaker}
+use Rattle.std.proofs.Common.{◌∙◌, [], List, ℕ, ap, map, length, replicate, subst}
+use Rattle.std.proofs.lemmas.Result.{IfOk-weaker, IfErr-weaker}
 use Rattle.fraction_theory.specs.Fraction.{Fraction}
 use Rattle.market_model.specs.Dispatch.{dispatch_with, zero}
 use Rattle.market_model.specs.Valued.{passed_at}

@@ -1,5 +1,5 @@
 use Rattle.std.proofs.Common.{Err, ◌+◌, ◌≡◌, ◌∙◌, ◌++◌, ◌∷◌, [], List, ap, take, sym, subst}
-use Rattle.std.specs.Prelude.{Contains, slice_index_or}
+use Rattle.std.specs.Prelude.{slice_index_or}
 use Rattle.std.proofs.lemmas.List.Elements.{Contains-get_or}
 use Rattle.std.proofs.lemmas.List.{take_more}
 use Rattle.std.proofs.lemmas.Result.{err_from_is_err_and}

@@ -1,5 +1,5 @@
 use Rattle.std.specs.Prelude.{[], ◌∷◌}
-use Rattle.std.proofs.Common.{◌≡◌, ◌∙◌, ◌++◌, List, map, ap, ap₂, sym, subst}
+use Rattle.std.proofs.Common.{◌∙◌, ◌++◌, List, map, ap, ap₂, sym, subst}
 use Rattle.std.proofs.lemmas.List.{map-append}
 use Rattle.fraction_theory.specs.Fraction.{Fraction}
 use Rattle.market_system.specs.MarketSystem.{objective_price, low as low_of, high as high_of}

@@ -1,4 +1,3 @@
-use Rattle.std.proofs.Common.{◌≡◌}
 use Rattle.market_dict.proofs.reading.duals_by.Goals as goal
 
 pub returns : goal.returns

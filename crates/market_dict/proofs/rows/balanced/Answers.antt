@@ -1,4 +1,4 @@
-use Rattle.std.proofs.Common.{◌≡◌, ◌≢◌, ◌∙◌, [], ℕ, List, map, ap, sym, subst, length}
+use Rattle.std.proofs.Common.{◌≢◌, ◌∙◌, [], ℕ, List, map, ap, sym, subst, length}
 use Rattle.std.specs.List.{AllPairs, Contains}
 use Rattle.std.proofs.lemmas.List.{length-map}
 use Rattle.std.proofs.lemmas.Result.{IfOk-weaker}

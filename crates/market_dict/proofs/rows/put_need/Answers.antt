@@ -1,4 +1,4 @@
-use Rattle.std.proofs.Common.{◌≡◌, ◌∙◌, [], ◌∷◌, ℕ, map, ap, sym, subst}
+use Rattle.std.proofs.Common.{◌∙◌, [], ◌∷◌, ℕ, map, ap, sym, subst}
 use Rattle.std.specs.List.{Contains}
 use Rattle.linear_dict.specs.Causes.{IsPairWith}
 use Rattle.linear_dict.specs.Dictionaries.{AddsRow}

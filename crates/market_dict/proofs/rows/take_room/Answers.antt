@@ -1,12 +1,10 @@
-use Rattle.std.proofs.Common.{◌≡◌, ◌∙◌, [], ◌∷◌, ◌++◌, ℕ, List, arith, map, ap, sym, subst}
+use Rattle.std.proofs.Common.{◌∙◌, [], ◌∷◌, ◌++◌, ℕ, arith, map, ap, sym, subst}
 use Rattle.std.specs.List.{Contains}
-use Rattle.fraction_theory.specs.Fraction.{Fraction}
 use Rattle.linear_dict.specs.Causes.{IsPairWith}
 use Rattle.linear_dict.specs.Dictionaries.{AddsRow}
 use Rattle.market_system.specs.declared.variables.Variable.TheVariants.{Room}
 use Rattle.market_system.specs.MarketSystem.{coefficient}
 use Rattle.market_dict.specs.Takings.{rows_put}
-use Rattle.market_dict.specs.declared.taking.Taking.{Taking}
 use Rattle.market_dict.specs.declared.taking.Taking.TheVariants as taking
 use Rattle.market_dict.proofs.ColumnLists.{mapped_room}
 use Rattle.market_dict.proofs.HoldingLaws.{room_absent_from, room_no_row, room_put_in, put_count, row_is_new, entry_count, holds_taken, pair_taken}

@@ -1,4 +1,4 @@
-use Rattle.std.proofs.Common.{◌≡◌, List, ap₂, refl}
+use Rattle.std.proofs.Common.{List, ap₂, refl}
 use Rattle.fraction_theory.specs.Fraction.{Fraction}
 use Rattle.linear_dict.specs.Dictionaries.{choice_of}
 use Rattle.market_model.specs.Dispatch.{dispatch_with}

@@ -1,14 +1,12 @@
 use Rattle.std.proofs.lemmas.Result.{err_from_is_err_and}
-use Rattle.std.proofs.Common.{Err, ◌≡◌, ◌∙◌, ap, sym, subst, subst₂, slice_index}
+use Rattle.std.proofs.Common.{Err, ◌≡◌, ◌∙◌, ap, sym, subst₂, slice_index}
 use Rattle.fraction_theory.specs.Fraction.{Fraction}
-use Rattle.fraction_theory.specs.Order.{◌≤ℚ◌}
 use Rattle.linear_dict.specs.Dictionaries.{choice_of, system_in}
 use Rattle.linear_dict.proofs.SplitLemmas.{Contains-at}
 use Rattle.linear_system.proofs.SameSystems.{same_pair}
 use Rattle.simplex_theory.proofs.SameStates.{same_margin}
 use Rattle.market_model.specs.declared.answered.Duals.{Duals}
 use Rattle.market_model.specs.declared.stops.Stop.TheVariants.{Passed as StoppedBy}
-use Rattle.market_model.specs.Infeasibility.{farkas_bound}
 use Rattle.market_system.specs.MarketSystem.{system_of}
 use Rattle.market_dict.specs.Findings.{IsStuckBy}
 use Rattle.market_dict.specs.Takings.{taken_of}
