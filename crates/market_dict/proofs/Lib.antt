@@ -1,11 +1,5 @@
-pub mod ColumnLists
-pub mod EnergyLists
 pub mod EntryLemmas
-pub mod HoldingLaws
 pub mod ListedLemmas
 pub mod NameLists
-pub mod PosingLemmas
 pub mod PutInLemmas
-pub mod ReadingLemmas
-pub mod RefusalLaws
 pub mod TermLemmas

@@ -1,6 +1,7 @@
--- What a market of energy alone comes to over some of its limit rows.
-use Rattle.std.specs.Prelude.{◌≡◌, ℕ, List}
+-- What a market comes to over some of its limits and rooms.
+use Rattle.std.specs.Prelude.{◌≡◌, ℕ, false, List, map}
 use Rattle.fraction_theory.specs.Fraction.{Fraction}
+use Rattle.fraction_theory.specs.Order.{◌≤ℚ◌}
 use Rattle.linear_system.specs.Choices.{Choice, IsChoice}
 use Rattle.linear_dict.specs.Causes.{IsPairOf}
 use Rattle.linear_dict.specs.Dictionaries.{choice_of}
@@ -8,34 +9,45 @@ use Rattle.simplex_core.specs.Outcomes.{ShowsChoice}
 use Rattle.market_model.specs.declared.participants.Parts.{Parts}
 use Rattle.market_model.specs.declared.stops.Stop.{Stop}
 use Rattle.market_model.specs.declared.answered.Duals.{Duals}
-use Rattle.market_model.specs.Dispatch.{Dispatch}
-use Rattle.market_model.specs.Infeasibility.{IsFarkas}
-use Rattle.market_model.specs.Optimality.{rows_alone}
+use Rattle.market_model.specs.Dispatch.{Dispatch, dispatch_with}
+use Rattle.market_model.specs.Infeasibility.{farkas_bound}
+use Rattle.market_model.specs.Optimality.{ProperDuals}
 use Rattle.market_model.specs.Stops.{OnPassed}
-use Rattle.market_model.specs.declared.limits.Row.{Row}
-use Rattle.market_model.specs.Valued.{duals_at, farkas_at}
-use Rattle.market_dict.specs.EnergySystem.{system_of, choice_dispatch, choice_duals}
-use Rattle.market_system.specs.Growth.{PricesOnly}
+use Rattle.market_model.specs.Valued.{duals_at}
+use Rattle.market_system.specs.MarketNumbers.{IsFarkasOf}
+use Rattle.market_system.specs.MarketSystem.{system_of, choice_dispatch, choice_duals}
 use Rattle.market_system.specs.SolvedLaws.{AnswersBy}
-use Rattle.market_model.specs.PutIn.{dispatch_of}
 use Rattle.market_dict.specs.Holding.{HoldsMarket, HoldsSystem}
+use Rattle.market_dict.specs.Takings.{taken_of}
 use Rattle.market_dict.specs.declared.solving.Found.{Found}
 use Rattle.market_dict.specs.declared.solving.Found.TheVariants.{Best, Nothing}
+use Rattle.market_dict.specs.declared.taking.Taking.{Taking}
 
--- the dispatch and the duals are those of a choice of basic variables that solves the market over these rows
-pub record IsSolvedBy (m : Parts) (g : List Row) (x : Dispatch) (d : Duals Fraction) : Type 0 where
+-- the dispatch and the duals are those of a choice of basic variables that solves the market over these limits and rooms
+pub record IsSolvedBy (m : Parts) (ts : List Taking) (x : Dispatch) (d : Duals Fraction) : Type 0 where
   pub choice : Choice
-  pub is_choice : IsChoice (system_of m g) choice
-  pub dispatch : x ≡ choice_dispatch m g choice
-  pub duals : d ≡ choice_duals m g choice
-  pub answers : AnswersBy m (rows_alone g) choice
+  pub is_choice : IsChoice (system_of m (taken_of ts)) choice
+  pub dispatch : x ≡ choice_dispatch m (taken_of ts) choice
+  pub duals : d ≡ choice_duals m (taken_of ts) choice
+  pub answers : AnswersBy m (taken_of ts) choice
 
--- a dictionary that holds the market over these rows and a best dispatch for them, which the duals of its choice support; or one that still
--- holds it, and duals that show that no dispatch of the market is feasible
-abbrev pub IsFound : {N : Type 0} → (N → Fraction) → Parts → List Row → Found N → Type 0
-IsFound value m g (Best d xs) = HoldsSystem m g d × ShowsChoice d × IsSolvedBy m g (dispatch_of value xs) (choice_duals m g (choice_of d))
-IsFound value m g (Nothing d farkas) = HoldsMarket m g d × IsFarkas m (farkas_at value farkas) × PricesOnly m g (duals_at value farkas.duals)
+-- The duals are those of a variable that is stuck at a choice: they show that no dispatch of the market is feasible. Their bound is at most
+-- the margin, which is what the variable leaves of the bound that it violates, and in a market of energy alone it is just that.
+pub record IsStuckBy (m : Parts) (ts : List Taking) (d : Duals Fraction) (margin : Fraction) : Type 0 where
+  pub choice : Choice
+  pub is_choice : IsChoice (system_of m (taken_of ts)) choice
+  pub shows : IsFarkasOf m (taken_of ts) choice d
+  pub proper : ProperDuals m d
+  pub most : farkas_bound m d ≤ℚ margin
+  pub energy_alone : m.reserve.listed ≡ false → farkas_bound m d ≡ margin
 
--- where numbers became too large, they are a working pair of the market's system over these rows
-abbrev pub IsPairOver : {N : Type 0} → (N → Fraction) → ℕ → Parts → List Row → Stop N → Type 0
-IsPairOver value bound m g stop = OnPassed stop (IsPairOf value bound (system_of m g))
+-- a dictionary that holds the market over these limits and rooms and a best dispatch for them, which the duals of its choice support; or one
+-- that still holds it, and duals that show that no dispatch of the market is feasible
+abbrev pub IsFound : {N : Type 0} → (N → Fraction) → Parts → List Taking → Found N → Type 0
+IsFound value m ts (Best d blocks reserve) =
+    HoldsSystem m ts d × ShowsChoice d × IsSolvedBy m ts (dispatch_with (map value blocks) (map value reserve)) (choice_duals m (taken_of ts) (choice_of d))
+IsFound value m ts (Nothing d duals margin) = HoldsMarket m ts d × IsStuckBy m ts (duals_at value duals) (value margin)
+
+-- where numbers became too large, they are a working pair of the market's system over these limits and rooms
+abbrev pub IsPairOver : {N : Type 0} → (N → Fraction) → ℕ → Parts → List Taking → Stop N → Type 0
+IsPairOver value bound m ts stop = OnPassed stop (IsPairOf value bound (system_of m (taken_of ts)))

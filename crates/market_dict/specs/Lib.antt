@@ -1,5 +1,5 @@
-pub mod EnergySystem
 pub mod Findings
 pub mod Holding
-pub mod Refusals
 pub mod PricesAndBounds
+pub mod Refusals
+pub mod Takings

@@ -1,11 +1,12 @@
 //! The names that a market's variables have in its dictionary: those of the blocks are their places, the balance has the next one, the
-//! limits follow in the market's order, and behind all of them the columns of soft ones, two for each limit.
+//! limits follow in the market's order, and behind all of them the columns of soft ones, two for each limit; then the offers of reserve
+//! by their places, the need, and the rooms by the places of their units.
 
-ghost use Rattle.std.specs.Prelude.{◌≡◌, ◌++◌, length, map, Contains, IfOk};
-ghost use Rattle.market_model.specs.Dispatch.{places};
+ghost use Rattle.std.specs.Prelude.{◌≡◌, ◌++◌, [], map, Contains, IfOk};
 ghost use Rattle.market_model.specs.LimitRows.{rows};
-ghost use Rattle.market_system.specs.MarketSystem.{name as name_in, over_name, block_columns};
-ghost use Rattle.market_dict.specs.EnergySystem.{IsVariableOf, row_variables, variable_of as variable_named};
+ghost use Rattle.market_model.specs.Optimality.{all_of};
+ghost use Rattle.market_system.specs.MarketSystem.{name as name_in, over_name, need_name, block_columns, energy_rows, variable_of as variable_named, IsVariableOf};
+ghost use Rattle.market_dict.specs.Takings.{columns_put};
 
 use limit_rows::{count, place_of, row_at};
 use market_model::{Market, Row};
@@ -22,9 +23,17 @@ fn over_name(market: &Market, row: Row) -> usize
     market.blocks().len() + 1 + count(market) + 2 * place_of(market, row)
 }
 
+/// The name of the need of reserve. The offers are before it, and the rooms behind it.
+pub(crate) fn need_name(market: &Market) -> usize
+    ensures { result ≡ need_name market.now }
+{
+    let _lines = market.lines();
+    market.blocks().len() + 1 + 3 * count(market) + market.reserve().offers.len()
+}
+
 /// The name of a variable.
 pub(crate) fn name_of(market: &Market, variable: Variable) -> u32
-    requires { IsVariableOf market.now (rows market.now) variable }
+    requires { IsVariableOf market.now (all_of market.now) variable }
     ensures { result ≡ name_in market.now variable }
 {
     let _lines = market.lines();
@@ -35,17 +44,16 @@ pub(crate) fn name_of(market: &Market, variable: Variable) -> u32
         Variable::Limit(row) => (blocks + 1 + place_of(market, row)) as u32,
         Variable::Over(row) => over_name(market, row) as u32,
         Variable::Under(row) => (over_name(market, row) + 1) as u32,
-        // Nothing of reserve is a variable of a market of energy alone.
-        Variable::Offer(_) => unreachable!(),
-        Variable::Need => unreachable!(),
-        Variable::Room(_) => unreachable!(),
+        Variable::Offer(place) => (blocks + 1 + 3 * count(market) + place) as u32,
+        Variable::Need => need_name(market) as u32,
+        Variable::Room(unit) => (need_name(market) + 1 + unit) as u32,
     }
 }
 
 /// The variable of a name before those of the columns of soft limits.
 pub(crate) fn variable_of(market: &Market, name: u32) -> Variable
-    requires { Contains (map (name_in market.now) (block_columns market.now ++ row_variables (rows market.now))) name }
-    ensures { result ≡ variable_named market.now (rows market.now) name }
+    requires { Contains (map (name_in market.now) (block_columns market.now ++ energy_rows (all_of market.now))) name }
+    ensures { result ≡ variable_named market.now (all_of market.now) name }
 {
     let _lines = market.lines();
     let blocks = market.blocks().len();
@@ -59,13 +67,16 @@ pub(crate) fn variable_of(market: &Market, name: u32) -> Variable
     Variable::Limit(row_at(market, place - blocks - 1))
 }
 
-/// The names of the blocks.
-pub(crate) fn block_names(alloc: Global, market: &Market) -> Result<List<u32>, Memory>
-    ensures { IfOk result (λ names. names ≡ places (length market.now.blocks)) }
+/// The names of the columns that a dictionary begins with: the blocks, and then the offers of reserve.
+pub(crate) fn first_names(alloc: Global, market: &Market) -> Result<List<u32>, Memory>
+    ensures { IfOk result (λ names. names ≡ map (name_in market.now) (columns_put market.now [])) }
 {
     let mut names = List::new(alloc);
     for place in 0..market.blocks().len() {
         names.push(name_of(market, Variable::Block(place)))?;
+    }
+    for place in 0..market.reserve().offers.len() {
+        names.push(name_of(market, Variable::Offer(place)))?;
     }
     Ok(names)
 }

@@ -1,4 +1,5 @@
-//! The prices and bounds of a market's blocks, of its balance and of the limits taken, in the order in which its dictionary has them.
+//! The prices and bounds of a market's blocks and offers of reserve, of its balance and its need, and of the limits and rooms taken, in the
+//! order in which its dictionary has them.
 
 ghost use Rattle.std.specs.Prelude.{◌≡◌, List, [], ◌∷◌, ◌++◌, map, All, Contains, IfOk, IfErr};
 ghost use Rattle.market_model.specs.Dispatch.{empty, balance_terms};
@@ -7,13 +8,17 @@ ghost use Rattle.market_model.specs.LimitRows.{rows};
 ghost use Rattle.market_model.specs.NamedSums.{IsRefusedIn};
 ghost use Rattle.market_model.specs.Stops.{StopsBy};
 ghost use Rattle.market_model.specs.Valued.{passed_at};
-ghost use Rattle.market_system.specs.MarketSystem.{residual_demand as residual_demand_of, least_added, most_added, objective_price, low, high, excess_columns};
-ghost use Rattle.market_dict.specs.EnergySystem.{columns, row_variables};
+ghost use Rattle.market_system.specs.MarketSystem.{residual_demand as residual_demand_of, least_added, most_added, objective_price, low, high, block_columns, excess_columns};
 ghost use Rattle.limit_screen.specs.Flows.{flows_at, IsFlowsRefusal};
 ghost use Rattle.market_dict.specs.Holding.{prices as prices_of};
+ghost use Rattle.market_dict.specs.PricesAndBounds.{AreBounds, ArePricesAndBounds};
 ghost use Rattle.market_dict.specs.Refusals.{IsBoundsRefusal};
-ghost use Rattle.market_dict.specs.PricesAndBounds.{ArePricesAndBounds};
+ghost use Rattle.market_dict.specs.Takings.{IsTaking, columns_put, first_rows, limits_of};
+ghost use Rattle.market_dict.specs.declared.taking.Taking.{Taking};
+ghost use Rattle.market_dict.specs.declared.taking.Taking.TheVariants as taking;
 
+use crate::Taking;
+use crate::offering::{need_bounds, push_offer_bounds, push_offer_prices, room_bounds};
 use exact_fraction::{Exact, Passed, exact_difference};
 use limit_rows::{excess_at, is_soft, limit_at, penalty_at, row_flow};
 use limit_screen::{bus_injections, carried_flows, flows_made};
@@ -25,12 +30,13 @@ use std::alloc::Global;
 /// Prices and bounds as the market has them now.
 #[derive(Drop)]
 pub struct PricesAndBounds<N> {
-    /// In 10^-6 per MWh: of the blocks, the price of a buy, and the opposite of that of a sell; then, for each soft limit in the order
-    /// taken, twice the opposite of its penalty.
+    /// In 10^-6 per MWh: of the blocks, the price of a buy, and the opposite of that of a sell; of the offers of reserve, the opposite of
+    /// the price; then, for each soft limit in the order taken, twice the opposite of its penalty.
     pub prices: List<N>,
-    /// Of the same, in 10^-9 MW: what a block may have accepted, and by how much a limit may be exceeded on either side.
+    /// Of the same, in 10^-9 MW: what a block or an offer may have accepted, and by how much a limit may be exceeded on either side.
     pub column_bounds: List<Bounds<N>>,
-    /// Of the balance and the limits in the order taken, in 10^-9 MW: by how much blocks may raise these.
+    /// In 10^-9 MW: by how much blocks may raise the balance, and, where reserve is cleared, how much of it is to be accepted; then, in
+    /// the order taken, by how much blocks may raise a limit, and what a unit may use of its room.
     pub row_bounds: List<Bounds<N>>,
     /// Where nothing is accepted, what each bus puts in, then what each line carries and then what the unit of each outage of a unit puts
     /// out, in 10^-9 MW.
@@ -55,12 +61,21 @@ impl<N: Exact> PricesAndBounds<N> {
 
 /// What a MW of each block is worth.
 fn block_prices<N: Exact>(alloc: Global, market: &Market) -> Result<List<N>, Memory>
-    ensures { IfOk result (λ prices. map N.value prices ≡ prices_of market.now []) }
+    ensures { IfOk result (λ prices. map N.value prices ≡ map (objective_price market.now) (block_columns market.now)) }
 {
     let mut prices = List::new(alloc);
     for block in market.blocks().slice() {
         prices.push(block_value(block))?;
     }
+    Ok(prices)
+}
+
+/// What a MW of each block and of each offer of reserve is worth.
+fn first_prices<N: Exact>(alloc: Global, market: &Market) -> Result<List<N>, Memory>
+    ensures { IfOk result (λ prices. map N.value prices ≡ prices_of market.now []) }
+{
+    let mut prices = block_prices(alloc, market)?;
+    push_offer_prices(market, &mut prices)?;
     Ok(prices)
 }
 
@@ -85,8 +100,8 @@ fn residual_demand<N: Exact>(market: &Market, base_flows: &[N]) -> Result<N, Pas
 
 /// What each block may have accepted.
 fn block_bounds<N: Exact>(alloc: Global, market: &Market) -> Result<List<Bounds<N>>, Memory>
-    ensures lows { IfOk result (λ bounds. map (λ b. N.value b.low) bounds ≡ map (low market.now) (columns market.now [])) }
-    ensures highs { IfOk result (λ bounds. map (λ b. N.value b.high) bounds ≡ map (high market.now) (columns market.now [])) }
+    ensures lows { IfOk result (λ bounds. map (λ (b : Bounds N). N.value b.low) bounds ≡ map (low market.now) (block_columns market.now)) }
+    ensures highs { IfOk result (λ bounds. map (λ (b : Bounds N). N.value b.high) bounds ≡ map (high market.now) (block_columns market.now)) }
 {
     let low: N = datum(0);
     let mut bounds = List::new(alloc);
@@ -97,16 +112,24 @@ fn block_bounds<N: Exact>(alloc: Global, market: &Market) -> Result<List<Bounds<
     Ok(bounds)
 }
 
-/// The bounds of the balance.
-fn balance_bounds<N: Exact>(
+/// What each block and each offer of reserve may have accepted.
+fn first_column_bounds<N: Exact>(alloc: Global, market: &Market) -> Result<List<Bounds<N>>, Memory>
+    ensures { IfOk result (AreBounds N.value market.now (columns_put market.now [])) }
+{
+    let mut bounds = block_bounds(alloc, market)?;
+    push_offer_bounds(market, &mut bounds)?;
+    Ok(bounds)
+}
+
+/// The bounds of the balance, and of the need where reserve is cleared.
+fn first_row_bounds<N: Exact>(
     alloc: Global,
     market: &Market,
     base_flows: &[N],
 ) -> Result<List<Bounds<N>>, Stop<N>>
     requires { map N.value base_flows.now ≡ flows_at market.now (empty market.now) }
-    ensures lows { IfOk result (λ bounds. map (λ b. N.value b.low) bounds ≡ map (low market.now) (row_variables [])) }
-    ensures highs { IfOk result (λ bounds. map (λ b. N.value b.high) bounds ≡ map (high market.now) (row_variables [])) }
-    ensures cause { IfErr result (StopsBy N.value (IsRefusedIn (balance_terms market.now (empty market.now)) N.bound)) }
+    ensures bounds { IfOk result (AreBounds N.value market.now (first_rows market.now)) }
+    ensures cause { IfErr result (StopsBy N.value (IsBoundsRefusal market.now [] N.bound)) }
 {
     let residual_demand = residual_demand(market, base_flows)?;
     let mut bounds = List::new(alloc);
@@ -114,6 +137,9 @@ fn balance_bounds<N: Exact>(
         low: residual_demand,
         high: residual_demand,
     })?;
+    if market.reserve().listed {
+        bounds.push(need_bounds(market)?)?;
+    }
     Ok(bounds)
 }
 
@@ -133,28 +159,28 @@ fn row_bounds<N: Exact>(market: &Market, base_flows: &[N], row: Row) -> Result<B
     Ok(Bounds { low, high })
 }
 
-/// Prices and bounds of a market over the limits taken.
+/// Prices and bounds of a market over the limits and rooms taken.
 pub fn prices_and_bounds<N: Exact>(
     alloc: Global,
     market: &Market,
-    taken: &[Row],
+    taken: &[Taking],
 ) -> Result<PricesAndBounds<N>, Stop<N>>
-    requires rows { All (λ r. Contains (rows market.now) r) taken.now }
+    requires takings { All (IsTaking market.now) taken.now }
     ensures posing { IfOk result (ArePricesAndBounds N.value market.now taken.now) }
-    ensures cause { IfErr result (StopsBy N.value (IsBoundsRefusal market.now taken.now N.bound)) }
+    ensures cause { IfErr result (StopsBy N.value (IsBoundsRefusal market.now (limits_of taken.now) N.bound)) }
 {
-    let prices = block_prices(alloc, market)?;
+    let prices = first_prices(alloc, market)?;
     let base_flows = base_flows_of(alloc, market)?;
-    let column_bounds = block_bounds(alloc, market)?;
-    let row_bounds = balance_bounds(alloc, market, &base_flows)?;
+    let column_bounds = first_column_bounds(alloc, market)?;
+    let row_bounds = first_row_bounds(alloc, market, &base_flows)?;
     let mut posing = PricesAndBounds {
         prices,
         column_bounds,
         row_bounds,
         base_flows,
     };
-    for row in taken {
-        take_bounds(market, &mut posing, *row)?;
+    for taking in taken {
+        take_bounds(market, &mut posing, *taking)?;
     }
     Ok(posing)
 }
@@ -187,19 +213,39 @@ fn take_columns<N: Exact>(
     Ok(())
 }
 
-/// The same with one limit more: its bounds, and the prices and bounds of its columns where it is soft.
-pub fn take_bounds<N: Exact>(
+/// Adds the bounds of a limit, and the prices and bounds of its columns where it is soft.
+fn take_limit_bounds<N: Exact>(
     market: &Market,
     posing: &mut PricesAndBounds<N>,
     row: Row,
 ) -> Result<(), Stop<N>>
     requires row { Contains (rows market.now) row }
-    requires posing { (g : List Row) × ArePricesAndBounds N.value market.now g posing.old }
-    ensures taken { (g : List Row) → ArePricesAndBounds N.value market.now g posing.old → IfOk result (λ _. ArePricesAndBounds N.value market.now (g ++ row ∷ []) posing.new) }
+    requires posing { (ts : List Taking) × ArePricesAndBounds N.value market.now ts posing.old }
+    ensures taken { (ts : List Taking) → ArePricesAndBounds N.value market.now ts posing.old → IfOk result (λ _. ArePricesAndBounds N.value market.now (ts ++ taking.Limit row ∷ []) posing.new) }
     ensures cause { IfErr result (StopsBy N.value (IsBoundsRefusal market.now (row ∷ []) N.bound)) }
 {
     let bounds = row_bounds(market, &posing.base_flows, row)?;
     take_columns(market, posing, row)?;
     posing.row_bounds.push(bounds)?;
     Ok(())
+}
+
+/// The same with one limit or room more: its bounds, and the prices and bounds of the columns of a soft limit.
+pub fn take_bounds<N: Exact>(
+    market: &Market,
+    posing: &mut PricesAndBounds<N>,
+    taking: Taking,
+) -> Result<(), Stop<N>>
+    requires taking { IsTaking market.now taking }
+    requires posing { (ts : List Taking) × ArePricesAndBounds N.value market.now ts posing.old }
+    ensures taken { (ts : List Taking) → ArePricesAndBounds N.value market.now ts posing.old → IfOk result (λ _. ArePricesAndBounds N.value market.now (ts ++ taking ∷ []) posing.new) }
+    ensures cause { IfErr result (StopsBy N.value (IsBoundsRefusal market.now (limits_of (taking ∷ [])) N.bound)) }
+{
+    match taking {
+        Taking::Limit(row) => take_limit_bounds(market, posing, row),
+        Taking::Room(unit) => {
+            posing.row_bounds.push(room_bounds(market, unit))?;
+            Ok(())
+        }
+    }
 }

@@ -8,21 +8,19 @@ ghost use Rattle.linear_dict.specs.Dictionaries.{IsDictionary, choice_of, note_o
 ghost use Rattle.simplex_core.specs.Outcomes.{IsEmptyAt, ShowsChoice};
 ghost use Rattle.simplex_theory.specs.Steps.{opposite_if};
 ghost use Rattle.simplex_theory.specs.Stuck.{multiplier as multiplier_of, margin as margin_of};
-ghost use Rattle.market_model.specs.declared.limits.Row.{Row};
-ghost use Rattle.market_model.specs.Stops.{OnPassed};
 ghost use Rattle.market_model.specs.Valued.{dual_at, duals_at};
-ghost use Rattle.market_system.specs.MarketSystem.{dual_by};
-ghost use Rattle.market_dict.specs.EnergySystem.{duals_by_cost, choice_dispatch, choice_duals, system_of};
+ghost use Rattle.market_system.specs.MarketSystem.{dual_by, duals_by_cost, choice_dispatch, choice_duals};
 ghost use Rattle.market_system.specs.SolvedLaws.{stuck_duals};
-ghost use Rattle.market_model.specs.Optimality.{rows_alone};
-ghost use Rattle.market_model.specs.PutIn.{dispatch_of};
 ghost use Rattle.market_dict.specs.Holding.{HoldsMarket, HoldsSystem};
+ghost use Rattle.market_dict.specs.Takings.{taken_of};
+ghost use Rattle.market_dict.specs.declared.taking.Taking.{Taking};
 
 use crate::names::{name_of, variable_of};
+use crate::reserve_prices::{reserve_price, room_prices};
 use exact_fraction::{Exact, Passed, Sign, exact_difference};
 use limit_rows::{count, name_at};
 use linear_dict::{Dict, Place};
-use market_model::{Dual, Duals, Farkas, Market, RowId, Stop, datum};
+use market_model::{Dual, Duals, Market, RowId, datum};
 use market_system::Variable;
 use plain_list::{List, Memory};
 use std::alloc::Global;
@@ -33,13 +31,31 @@ pub(crate) fn dispatch<N: Exact>(
     market: &Market,
     dict: &Dict<N>,
 ) -> Result<List<N>, Memory>
-    requires holds { (g : List Row) × HoldsSystem market.now g dict.now }
+    requires holds { (ts : List Taking) × HoldsSystem market.now ts dict.now }
     requires shows { ShowsChoice dict.now }
-    ensures { (g : List Row) → HoldsSystem market.now g dict.now → IfOk result (λ values. dispatch_of N.value values ≡ choice_dispatch market.now g (choice_of dict.now)) }
+    ensures { (ts : List Taking) → HoldsSystem market.now ts dict.now → IfOk result (λ values. map N.value values ≡ (choice_dispatch market.now (taken_of ts) (choice_of dict.now)).blocks) }
 {
     let mut values = List::new(alloc);
     for block in 0..market.blocks().len() {
         let name = name_of(market, Variable::Block(block));
+        values.push(dict.note(name).value)?;
+    }
+    Ok(values)
+}
+
+/// The accepted MW of each offer of reserve, likewise.
+pub(crate) fn reserved<N: Exact>(
+    alloc: Global,
+    market: &Market,
+    dict: &Dict<N>,
+) -> Result<List<N>, Memory>
+    requires holds { (ts : List Taking) × HoldsSystem market.now ts dict.now }
+    requires shows { ShowsChoice dict.now }
+    ensures { (ts : List Taking) → HoldsSystem market.now ts dict.now → IfOk result (λ values. map N.value values ≡ (choice_dispatch market.now (taken_of ts) (choice_of dict.now)).reserve) }
+{
+    let mut values = List::new(alloc);
+    for offer in 0..market.reserve().offers.len() {
+        let name = name_of(market, Variable::Offer(offer));
         values.push(dict.note(name).value)?;
     }
     Ok(values)
@@ -65,18 +81,20 @@ fn push_dual<N: Exact>(limits: &mut List<Dual<N>>, row: RowId, cost: N) -> Resul
     }
 }
 
-/// The duals of what a MW costs on the balance and on the flow of each limit taken, of what it costs on each variable by rank. The
-/// columns of soft limits are behind these, and none of theirs is read.
-fn duals_by<N: Exact>(
+/// The price of energy and those of the limits taken, by what a MW costs on the balance and on their flows, of what it costs on each
+/// variable by rank. The columns of soft limits and all of reserve are behind these, and nothing of theirs is read.
+fn energy_prices<N: Exact>(
     alloc: Global,
     market: &Market,
     dict: &Dict<N>,
     costs: &[N],
-) -> Result<Duals<N>, Memory>
-    requires holds { (g : List Row) × HoldsMarket market.now g dict.now }
+) -> Result<(N, List<Dual<N>>), Memory>
+    requires holds { (ts : List Taking) × HoldsMarket market.now ts dict.now }
     requires costs { length costs.now ≡ length dict.now.names }
-    ensures { (g : List Row) (cost : ℕ → Fraction) → HoldsMarket market.now g dict.now → map N.value costs.now ≡ map cost dict.now.names
-        → IfOk result (λ duals. duals_at N.value duals ≡ duals_by_cost market.now g cost) }
+    ensures energy { (ts : List Taking) (cost : ℕ → Fraction) → HoldsMarket market.now ts dict.now → map N.value costs.now ≡ map cost dict.now.names
+        → IfOk result (λ prices. N.value prices.0 ≡ (duals_by_cost market.now (taken_of ts) cost).energy) }
+    ensures limits { (ts : List Taking) (cost : ℕ → Fraction) → HoldsMarket market.now ts dict.now → map N.value costs.now ≡ map cost dict.now.names
+        → IfOk result (λ prices. map (dual_at N.value) prices.1 ≡ (duals_by_cost market.now (taken_of ts) cost).limits) }
 {
     let _lines = market.lines();
     let mut energy: N = datum(0);
@@ -88,9 +106,9 @@ fn duals_by<N: Exact>(
             continue;
         }
         match variable_of(market, name) {
-            Variable::Block(_) => {}
             Variable::Balance => energy = costs[rank].neg(),
             Variable::Limit(row) => push_dual(&mut limits, name_at(market, row), costs[rank])?,
+            Variable::Block(_) => {}
             Variable::Over(_) => {}
             Variable::Under(_) => {}
             Variable::Offer(_) => {}
@@ -98,11 +116,29 @@ fn duals_by<N: Exact>(
             Variable::Room(_) => {}
         }
     }
+    Ok((energy, limits))
+}
+
+/// The duals of what a MW costs on each variable by rank.
+fn duals_by<N: Exact>(
+    alloc: Global,
+    market: &Market,
+    dict: &Dict<N>,
+    costs: &[N],
+) -> Result<Duals<N>, Memory>
+    requires holds { (ts : List Taking) × HoldsMarket market.now ts dict.now }
+    requires costs { length costs.now ≡ length dict.now.names }
+    ensures { (ts : List Taking) (cost : ℕ → Fraction) → HoldsMarket market.now ts dict.now → map N.value costs.now ≡ map cost dict.now.names
+        → IfOk result (λ duals. duals_at N.value duals ≡ duals_by_cost market.now (taken_of ts) cost) }
+{
+    let (energy, limits) = energy_prices(alloc, market, dict, costs)?;
+    let reserve = reserve_price(market, dict, costs);
+    let rooms = room_prices(alloc, market, dict, costs)?;
     Ok(Duals {
         energy,
         limits,
-        reserve: datum(0),
-        rooms: List::new(alloc),
+        reserve,
+        rooms,
     })
 }
 
@@ -119,10 +155,11 @@ fn reduced<N: Exact>(alloc: Global, dict: &Dict<N>) -> Result<List<N>, Memory>
 }
 
 /// The duals of the reduced prices noted: the price of energy is the opposite of that of the balance, and a limit whose own is 0 is not named.
+/// The price of reserve is the opposite of that of the need, or 0 where that is below 0, and only rooms whose own is above 0 are named.
 pub fn duals<N: Exact>(alloc: Global, market: &Market, dict: &Dict<N>) -> Result<Duals<N>, Memory>
-    requires holds { (g : List Row) × HoldsSystem market.now g dict.now }
+    requires holds { (ts : List Taking) × HoldsSystem market.now ts dict.now }
     requires shows { ShowsChoice dict.now }
-    ensures { (g : List Row) → HoldsSystem market.now g dict.now → IfOk result (λ duals. duals_at N.value duals ≡ choice_duals market.now g (choice_of dict.now)) }
+    ensures { (ts : List Taking) → HoldsSystem market.now ts dict.now → IfOk result (λ duals. duals_at N.value duals ≡ choice_duals market.now (taken_of ts) (choice_of dict.now)) }
 {
     let prices = reduced(alloc, dict)?;
     duals_by(alloc, market, dict, prices.slice())
@@ -165,7 +202,7 @@ fn multipliers<N: Exact>(
 }
 
 /// What the basic variable of a row place leaves of its high bound, or what it has above its low one.
-fn margin<N: Exact>(dict: &Dict<N>, row: usize, above: bool) -> Result<N, Passed<N>>
+pub(crate) fn margin<N: Exact>(dict: &Dict<N>, row: usize, above: bool) -> Result<N, Passed<N>>
     requires live { dict.now.spent ≡ false }
     requires sound { IsDictionary dict.now }
     requires shows { ShowsChoice dict.now }
@@ -181,23 +218,18 @@ fn margin<N: Exact>(dict: &Dict<N>, row: usize, above: bool) -> Result<N, Passed
     }
 }
 
-/// The duals of a basic variable that is stuck, at a row place, and what it leaves of the bound that it violates.
-pub(crate) fn farkas<N: Exact>(
+/// The duals of a basic variable that is stuck, at a row place.
+pub(crate) fn stuck_duals<N: Exact>(
     alloc: Global,
     market: &Market,
     dict: &Dict<N>,
     row: usize,
     above: bool,
-) -> Result<Farkas<N>, Stop<N>>
-    requires holds { (g : List Row) × HoldsSystem market.now g dict.now }
-    requires shows { ShowsChoice dict.now }
-    requires empty { IsEmptyAt dict.now row above }
-    ensures duals { (g : List Row) → HoldsSystem market.now g dict.now → IfOk result (λ farkas. duals_at N.value farkas.duals ≡ stuck_duals market.now (rows_alone g) (choice_of dict.now) (slice_index dict.now.basics row) above) }
-    ensures bound { (g : List Row) → HoldsSystem market.now g dict.now → IfOk result (λ farkas. N.value farkas.bound ≡ margin_of (system_of market.now g) (choice_of dict.now) (slice_index dict.now.basics row) above) }
-    ensures pair { (g : List Row) → HoldsSystem market.now g dict.now → IfErr result (λ stop. OnPassed stop (IsPairOf N.value N.bound (system_of market.now g))) }
+) -> Result<Duals<N>, Memory>
+    requires holds { (ts : List Taking) × HoldsMarket market.now ts dict.now }
+    requires row { row < length dict.now.basics }
+    ensures { (ts : List Taking) → HoldsMarket market.now ts dict.now → IfOk result (λ duals. duals_at N.value duals ≡ stuck_duals market.now (taken_of ts) (choice_of dict.now) (slice_index dict.now.basics row) above) }
 {
     let costs = multipliers(alloc, dict, row, above)?;
-    let duals = duals_by(alloc, market, dict, costs.slice())?;
-    let bound = margin(dict, row, above)?;
-    Ok(Farkas { duals, bound })
+    duals_by(alloc, market, dict, costs.slice())
 }

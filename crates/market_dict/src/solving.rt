@@ -5,37 +5,52 @@ ghost use Rattle.linear_dict.specs.Dictionaries.{system_in};
 ghost use Rattle.simplex_core.specs.Outcomes.{IsEmptyAt, ShowsChoice};
 ghost use Rattle.simplex_core.specs.States.{state_of};
 ghost use Rattle.simplex_theory.specs.States.{IsSolved};
-ghost use Rattle.market_model.specs.declared.limits.Row.{Row};
 ghost use Rattle.market_dict.specs.Findings.{IsFound, IsPairOver};
 ghost use Rattle.market_dict.specs.Holding.{HoldsSystem};
+ghost use Rattle.market_dict.specs.declared.taking.Taking.{Taking};
 
-use crate::reading::{dispatch, farkas};
+use crate::reading::{dispatch, margin, reserved, stuck_duals};
 use exact_fraction::Exact;
 use linear_dict::Dict;
-use market_model::{Farkas, Market, Stop};
+use market_model::{Duals, Market, Stop};
 use plain_list::{List, Memory};
 use simplex_core::{Posed, Run};
 use std::alloc::Global;
 
-/// What a market comes to over the limits taken, with the dictionary as it can be posed again.
+/// What a market comes to over the limits and rooms taken, with the dictionary as it can be posed again.
 #[derive(Drop)]
 pub enum Found<N: Exact> {
-    /// The accepted MW of each block of a best dispatch for these limits. The duals that the dictionary has support it.
-    Best { dict: Dict<N>, dispatch: List<N> },
-    /// No dispatch of the market is feasible: these duals show it.
-    Nothing { dict: Dict<N>, farkas: Farkas<N> },
+    /// The accepted MW of each block and of each offer of reserve, in 10^-9, of a best dispatch for these limits and rooms. The duals that
+    /// the dictionary has support it.
+    Best {
+        dict: Dict<N>,
+        dispatch: List<N>,
+        reserve: List<N>,
+    },
+    /// No dispatch of the market is feasible: these duals show it. Their bound is at most the margin, in 10^-9 MW, which is below 0, and
+    /// in a market of energy alone it is just that.
+    Nothing {
+        dict: Dict<N>,
+        duals: Duals<N>,
+        margin: N,
+    },
 }
 
 /// The best dispatch that a solved dictionary shows.
 fn best<N: Exact>(alloc: Global, market: &Market, dict: Dict<N>) -> Result<Found<N>, Memory>
-    requires holds { (g : List Row) × HoldsSystem market.now g dict }
+    requires holds { (ts : List Taking) × HoldsSystem market.now ts dict }
     requires shows { ShowsChoice dict }
     requires solved { IsSolved (system_in dict) (state_of dict) }
-    ensures { (g : List Row) → HoldsSystem market.now g dict → IfOk result (IsFound N.value market.now g) }
+    ensures { (ts : List Taking) → HoldsSystem market.now ts dict → IfOk result (IsFound N.value market.now ts) }
 {
     let _lines = market.lines();
     let dispatch = dispatch(alloc, market, &dict)?;
-    Ok(Found::Best { dict, dispatch })
+    let reserve = reserved(alloc, market, &dict)?;
+    Ok(Found::Best {
+        dict,
+        dispatch,
+        reserve,
+    })
 }
 
 /// The duals that a dictionary with a stuck variable shows, at a row place.
@@ -46,22 +61,27 @@ fn nothing<N: Exact>(
     row: usize,
     above: bool,
 ) -> Result<Found<N>, Stop<N>>
-    requires holds { (g : List Row) × HoldsSystem market.now g dict }
+    requires holds { (ts : List Taking) × HoldsSystem market.now ts dict }
     requires shows { ShowsChoice dict }
     requires empty { IsEmptyAt dict row above }
-    ensures found { (g : List Row) → HoldsSystem market.now g dict → IfOk result (IsFound N.value market.now g) }
-    ensures pair { (g : List Row) → HoldsSystem market.now g dict → IfErr result (IsPairOver N.value N.bound market.now g) }
+    ensures found { (ts : List Taking) → HoldsSystem market.now ts dict → IfOk result (IsFound N.value market.now ts) }
+    ensures pair { (ts : List Taking) → HoldsSystem market.now ts dict → IfErr result (IsPairOver N.value N.bound market.now ts) }
 {
     let _lines = market.lines();
-    let farkas = farkas(alloc, market, &dict, row, above)?;
-    Ok(Found::Nothing { dict, farkas })
+    let duals = stuck_duals(alloc, market, &dict, row, above)?;
+    let margin = margin(&dict, row, above)?;
+    Ok(Found::Nothing {
+        dict,
+        duals,
+        margin,
+    })
 }
 
 /// Runs the dual simplex method.
 pub fn solve<N: Exact>(alloc: Global, market: &Market, posed: Posed<N>) -> Result<Found<N>, Stop<N>>
-    requires holds { (g : List Row) × HoldsSystem market.now g posed }
-    ensures found { (g : List Row) → HoldsSystem market.now g posed → IfOk result (IsFound N.value market.now g) }
-    ensures pair { (g : List Row) → HoldsSystem market.now g posed → IfErr result (IsPairOver N.value N.bound market.now g) }
+    requires holds { (ts : List Taking) × HoldsSystem market.now ts posed }
+    ensures found { (ts : List Taking) → HoldsSystem market.now ts posed → IfOk result (IsFound N.value market.now ts) }
+    ensures pair { (ts : List Taking) → HoldsSystem market.now ts posed → IfErr result (IsPairOver N.value N.bound market.now ts) }
 {
     match posed.run() {
         Run::Solved(solved) => Ok(best(alloc, market, solved.into_dict())?),
