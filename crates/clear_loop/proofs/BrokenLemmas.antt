@@ -1,4 +1,4 @@
--- The limits that a dispatch doesn't keep where some rows are taken, and what follows where all are kept.
+-- The limits and rooms that a dispatch doesn't keep where some are taken, and what follows where all are kept.
 use Rattle.std.specs.Prelude.{◌≡◌, ◌⊎◌, ℕ, Bool, true, false, List, [], ◌∷◌, Contains, refl}
 use Rattle.std.proofs.Common.{inl, inr, ap, sym, subst, subst₂, ◌∙◌, get_or}
 use Rattle.fraction_theory.specs.Fraction.{Fraction, neg_ℚ}
@@ -14,9 +14,8 @@ use Rattle.market_model.specs.Overrun.{overrun, IsBeyond, IsWorst, Keeps, Within
 use Rattle.market_model.specs.declared.limits.Row.{Row}
 use Rattle.market_model.specs.LimitRows.{rows, limit, flow, flow_by, most_flow}
 use Rattle.market_model.specs.Market.{IsMarket}
-use Rattle.market_model.specs.Optimality.{Feasible, FeasibleFor, all_of, rows_alone}
-use Rattle.market_model.specs.Reserves.{no_reserve}
-use Rattle.market_model.proofs.EnergyAlone.{feasible_alone}
+use Rattle.market_model.specs.Optimality.{Feasible, FeasibleFor}
+use Rattle.market_model.specs.Reserves.{room, room_used}
 use Rattle.market_model.proofs.ChangeLemmas.{same_default}
 use Rattle.market_system.specs.Growth.{BestFor, Broken}
 use Rattle.market_system.specs.MarketSystem.{is_in}
@@ -24,7 +23,11 @@ use Rattle.market_system.proofs.RowOrder.{is_in-from, is_in-in}
 use Rattle.limit_screen.specs.Flows.{carried_at, flows_at}
 use Rattle.limit_screen.specs.Screening.{AllKeep}
 use Rattle.limit_screen.proofs.ScreenLemmas.{law_of_row_flows, limit_most, listed_row, not_passed}
-use Rattle.clear_loop.specs.Rounds.{AllKept}
+use Rattle.market_dict.specs.Takings.{IsTaking, limits_of, taken_of}
+use Rattle.market_dict.specs.declared.taking.Taking.{Taking}
+use Rattle.market_dict.specs.declared.taking.Taking.TheVariants.{Limit, Room}
+use Rattle.clear_loop.specs.Rounds.{AllKept, IsNew, IsPassed, IsScreened, KeepsAll}
+use Rattle.clear_loop.specs.declared.screen.Screened.TheVariants as screened
 
 -- ---- a limit that is passed
 below_limit : (f F : Fraction) → F <ℚ neg_ℚ f → f <ℚ neg_ℚ F
@@ -50,45 +53,48 @@ within_more F G f h w = record {
 }
 
 -- ---- rows that are taken
-taken_or_not : (g : List Row) (r : Row) → Contains g r ⊎ (¬ (Contains g r))
+pub taken_or_not : (g : List Row) (r : Row) → Contains g r ⊎ (¬ (Contains g r))
 taken_or_not g r = by (is_in g r) refl
   where
     by : (b : Bool) → is_in g r ≡ b → Contains g r ⊎ (¬ (Contains g r))
     by true e = inl (is_in-from g r e)
     by false e = inr (λ k. let wrong : false ≡ true = sym e ∙ is_in-in g r k in absurd Prim.cc)
 
-module _ (m : Parts) (market : IsMarket m) (alone : m.reserve ≡ no_reserve) (g : List Row) (x : Dispatch) where
+module _ (m : Parts) (market : IsMarket m) (ts : List Taking) (x : Dispatch) where
   -- a flow beyond what it may be breaks its limit
-  beyond_broken : (r : Row) → IsBeyond m g r (flow m x r) → Broken m x r
-  beyond_broken r beyond = passed_size (flow m x r) (limit m r) (above (taken_or_not g r))
+  beyond_broken : (r : Row) → IsBeyond m (limits_of ts) r (flow m x r) → Broken m x r
+  beyond_broken r beyond = passed_size (flow m x r) (limit m r) (above (taken_or_not (limits_of ts) r))
     where
-      above : Contains g r ⊎ (¬ (Contains g r)) → limit m r <ℚ abs_ℚ (flow m x r)
+      above : Contains (limits_of ts) r ⊎ (¬ (Contains (limits_of ts) r)) → limit m r <ℚ abs_ℚ (flow m x r)
       above (inl c) = ≤ℚ-<ℚ_trans (limit m r) (most_flow m r) (abs_ℚ (flow m x r)) (limit_most m market r) (beyond.most c)
       above (inr new) = beyond.limit new
 
   -- and its row is not among those for which the dispatch is feasible
-  beyond_new : FeasibleFor m (rows_alone g) x → (r : Row) → IsBeyond m g r (flow m x r) → ¬ (Contains g r)
+  beyond_new : FeasibleFor m (taken_of ts) x → (r : Row) → IsBeyond m (limits_of ts) r (flow m x r) → ¬ (Contains (limits_of ts) r)
   beyond_new feasible r beyond c = not_passed (most_flow m r) (flow m x r) (feasible.limits r c) (beyond.most c)
 
-  -- where all rows keep what they may be, a dispatch that is best for those taken is feasible
-  pub kept_feasible : BestFor m (rows_alone g) x → AllKept m g x → Feasible m x
+  -- where all rows keep what they may be, and units their rooms, a dispatch that is best for what is taken is feasible
+  pub kept_feasible : BestFor m (taken_of ts) x → KeepsAll m (limits_of ts) x → Feasible m x
   kept_feasible best kept =
-      feasible_alone m alone (all_of m) x (λ u c. c) best.feasible.blocks best.feasible.balanced (λ r c. within r (kept r c) (taken_or_not g r))
+      record { blocks = best.feasible.blocks; balanced = best.feasible.balanced; limits = λ r c. within r (kept.limits r c) (taken_or_not (limits_of ts) r); need = best.feasible.need; rooms = kept.rooms }
     where
-      within : (r : Row) → Keeps m g r (flow m x r) → Contains g r ⊎ (¬ (Contains g r)) → Within (most_flow m r) (flow m x r)
+      within : (r : Row) → Keeps m (limits_of ts) r (flow m x r) → Contains (limits_of ts) r ⊎ (¬ (Contains (limits_of ts) r)) → Within (most_flow m r) (flow m x r)
       within r keeps (inl c) = keeps.most c
       within r keeps (inr new) = within_more (limit m r) (most_flow m r) (flow m x r) (limit_most m market r) (keeps.limit new)
 
-  -- the worst row is one of the market's, is new, and is broken
-  module _ (place : ℕ) (r : Row) (worst : IsWorst m g (flow m x) place r) where
-    pub worst_inside : Contains (rows m) r
-    worst_inside = listed_row (rows m) place r worst.stands
+  -- what is passed by the most is of the market, and is new
+  module _ {N : Type 0} (value : N → Fraction) (best : BestFor m (taken_of ts) x) where
+    pub worst_taking : (t : Taking) → IsScreened value m (limits_of ts) x (screened.Broken t) → IsTaking m t
+    worst_taking (Limit r) (place, worst) = listed_row (rows m) place r worst.stands
+    worst_taking (Room u) (kept, worst) = worst.offers
 
-    pub worst_new : BestFor m (rows_alone g) x → ¬ (Contains g r)
-    worst_new best = beyond_new best.feasible r worst.counts
+    pub worst_new : (t : Taking) → IsScreened value m (limits_of ts) x (screened.Broken t) → IsNew ts t
+    worst_new (Limit r) (place, worst) = beyond_new best.feasible r worst.counts
+    worst_new (Room u) (kept, worst) = λ c. <ℚ-not-≤ℚ (room m u) (room_used m x u) worst.passed (best.feasible.rooms u c)
 
-    pub worst_broken : Broken m x r
-    worst_broken = beyond_broken r worst.counts
+    pub worst_passed : (t : Taking) → IsScreened value m (limits_of ts) x (screened.Broken t) → IsPassed m x t
+    worst_passed (Limit r) (place, worst) = beyond_broken r worst.counts
+    worst_passed (Room u) (kept, worst) = worst.passed
 
 -- ---- the flows of a dispatch
 module _ (m : Parts) (market : IsMarket m) (g : List Row) (x : Dispatch) (fs : List Fraction) (puts : fs ≡ flows_at m x) where

@@ -1,58 +1,99 @@
 -- What is in hand, and how it grows.
-use Rattle.std.specs.Prelude.{◌≡◌, ◌+◌, ◌-◌, ◌<◌, ◌≤◌, List, [], ◌∷◌, ◌++◌, length, map, Option, Some, Contains}
+use Rattle.std.specs.Prelude.{◌≡◌, ℕ, ◌+◌, ◌-◌, ◌<◌, ◌≤◌, List, [], ◌∷◌, ◌++◌, length, map, All, Option, Some, Result, Ok, Err, IfOk, MatchResult, Contains}
 use Rattle.std.proofs.Common.{arith, ap, sym, subst, ◌∙◌, length-append}
-use Rattle.std.proofs.lemmas.List.{length-map, map-append}
-use Rattle.std.proofs.lemmas.List.FromFn.{length-range_with_len}
+use Rattle.std.proofs.lemmas.List.{map-append}
+use Rattle.std.proofs.lemmas.List.Elements.{All-cons, All-nil}
 use Rattle.fraction_theory.specs.Fraction.{Fraction}
+use Rattle.fraction_theory.proofs.ListSums.{Contains-head, Contains-cons}
 use Rattle.linear_dict.specs.Dictionaries.{Dictionary}
-use Rattle.market_model.specs.declared.answered.Duals.{Duals}
 use Rattle.market_model.specs.declared.answered.RowId.{RowId}
 use Rattle.market_model.specs.declared.participants.Parts.{Parts}
-use Rattle.market_model.specs.Dispatch.{Dispatch, places}
+use Rattle.market_model.specs.Dispatch.{Dispatch}
 use Rattle.market_model.specs.declared.limits.Row.{Row}
 use Rattle.market_model.specs.LimitRows.{rows, row_id}
-use Rattle.market_model.specs.Optimality.{rows_alone}
-use Rattle.market_system.specs.Growth.{BestFor, Broken, Growth}
-use Rattle.market_dict.specs.EnergySystem.{system_of}
-use Rattle.market_system.specs.SolvedLaws.{AreRows}
-use Rattle.linear_system.specs.Choices.{value}
-use Rattle.market_system.proofs.GrowthLaws.{growth_none, growth_more, rows_few}
-use Rattle.market_model.specs.PutIn.{dispatch_of}
-use Rattle.market_dict.specs.Findings.{IsSolvedBy}
+use Rattle.market_model.specs.Reserves.{reserve_units}
+use Rattle.market_system.specs.Growth.{BestFor, Growth}
+use Rattle.market_system.proofs.GrowthLaws.{growth_again, growth_more, growth_none, rows_few}
 use Rattle.market_dict.specs.Holding.{HoldsMarket}
 use Rattle.market_dict.specs.PricesAndBounds.{ArePricesAndBounds}
+use Rattle.market_dict.specs.Takings.{AreTakings, IsTaking, limits_of, rooms_of, taken_of}
 use Rattle.market_dict.specs.declared.posing.PricesAndBounds.{PricesAndBounds}
-use Rattle.clear_loop.specs.Rounds.{GrowsByOne, IsInHand}
+use Rattle.market_dict.specs.declared.taking.Taking.{Taking}
+use Rattle.market_dict.specs.declared.taking.Taking.TheVariants.{Limit, Room}
+use Rattle.market_dict.proofs.TakingLists.{limits-limit, limits-room, rooms-limit, rooms-room}
+use Rattle.clear_loop.specs.Keeping.{AreListed}
+use Rattle.clear_loop.specs.Rounds.{GrowsByOne, IsInHand, IsNew, IsPassed}
 use Rattle.clear_loop.specs.declared.hand.Taken.{Taken}
+use Rattle.clear_loop.proofs.CountLemmas.{no_longer}
 
--- ---- one row more
-pub grown_behind : (m : Parts) (g : List Row) (r : Row) → Contains (rows m) r → ¬ (Contains g r) → ((x : Dispatch) × BestFor m (rows_alone g) x × Broken m x r) → Growth m g (g ++ r ∷ [])
-grown_behind m g r inside new (x, best, broken) = growth_more m g g x r (growth_none m g) ([], best) broken inside new
+-- ---- one limit or room more
+pub grown_behind : (m : Parts) (ts : List Taking) (t : Taking) → IsTaking m t → IsNew ts t → ((x : Dispatch) × BestFor m (taken_of ts) x × IsPassed m x t) → Growth m (limits_of ts) (limits_of (ts ++ t ∷ []))
+grown_behind m ts (Limit r) inside new (x, best, broken) =
+    subst (Growth m (limits_of ts)) (sym (limits-limit ts r)) (growth_more m (limits_of ts) (limits_of ts) x r (growth_none m (limits_of ts)) (rooms_of ts, best) broken inside new)
+grown_behind m ts (Room u) inside new passed = subst (Growth m (limits_of ts)) (sym (limits-room ts u)) (growth_none m (limits_of ts))
 
-pub grown_more : (m : Parts) (t g new : List Row) → Growth m t g → GrowsByOne m g new → Growth m t new
-grown_more m t g new grown (r, is, inside, absent, broken) = subst (Growth m t) (sym is) (growth_more m t g broken.0 r grown ([], broken.1) broken.2 inside absent)
+pub grown_more : (m : Parts) (t : List Row) (ts new : List Taking) → Growth m t (limits_of ts) → GrowsByOne m ts new → Growth m t (limits_of new)
+grown_more m t ts new grown (k, is, inside, absent, passed) =
+    growth_again m t (limits_of ts) (limits_of new) grown (subst (λ (us : List Taking). Growth m (limits_of ts) (limits_of us)) (sym is) (grown_behind m ts k inside absent passed))
 
--- rounds come nearer to all rows
-pub comes_nearer : (m : Parts) (old new : Taken) → GrowsByOne m old.rows new.rows → AreRows m new.rows → (length (rows m) - length new.rows) < (length (rows m) - length old.rows)
-comes_nearer m old new (r, is, inside, absent, broken) are =
-    let one : length new.rows ≡ length old.rows + 1 = ap length is ∙ length-append old.rows (r ∷ []) in
-    let few : length new.rows ≤ length (rows m) = rows_few m new.rows are in
-    Prim.omega (arith, one, few)
+-- how many limits and rooms of the market are not in hand
+abbrev pub left_over : Parts → List Taking → ℕ
+left_over m ts = (length (rows m) - length (limits_of ts)) + (length (reserve_units m) - length (rooms_of ts))
+
+-- rounds come nearer to all of them
+pub comes_nearer : (m : Parts) (ts new : List Taking) → GrowsByOne m ts new → AreTakings m new → left_over m new < left_over m ts
+comes_nearer m ts new (k, is, inside, absent, passed) are = nearer k is
+  where
+    few : length (limits_of new) ≤ length (rows m)
+    few = rows_few m (limits_of new) are.taken.limits
+
+    few_rooms : length (rooms_of new) ≤ length (reserve_units m)
+    few_rooms = no_longer (rooms_of new) (reserve_units m) are.rooms_distinct are.taken.rooms
+
+    nearer : (t : Taking) → new ≡ ts ++ t ∷ [] → left_over m new < left_over m ts
+    nearer (Limit r) by_one =
+        let limits : length (limits_of new) ≡ length (limits_of ts) + 1 = ap (λ (us : List Taking). length (limits_of us)) by_one ∙ ap length (limits-limit ts r) ∙ length-append (limits_of ts) (r ∷ []) in
+        let rooms : length (rooms_of new) ≡ length (rooms_of ts) = ap (λ (us : List Taking). length (rooms_of us)) by_one ∙ ap length (rooms-limit ts r) in
+        let some = few in
+        Prim.omega (arith, limits, rooms, some)
+    nearer (Room u) by_one =
+        let limits : length (limits_of new) ≡ length (limits_of ts) = ap (λ (us : List Taking). length (limits_of us)) by_one ∙ ap length (limits-room ts u) in
+        let rooms : length (rooms_of new) ≡ length (rooms_of ts) + 1 = ap (λ (us : List Taking). length (rooms_of us)) by_one ∙ ap length (rooms-room ts u) ∙ length-append (rooms_of ts) (u ∷ []) in
+        let some = few_rooms in
+        Prim.omega (arith, limits, rooms, some)
+
+-- each is one of the market
+pub all_takings : (m : Parts) (ts : List Taking) → AreTakings m ts → All (IsTaking m) ts
+all_takings m ts are = each ts are.taken.limits.rows are.taken.rooms
+  where
+    each : (us : List Taking) → ((r : Row) → Contains (limits_of us) r → Contains (rows m) r) → ((u : ℕ) → Contains (rooms_of us) u → Contains (reserve_units m) u) → All (IsTaking m) us
+    each [] limits rooms = All-nil (IsTaking m)
+    each (Limit r ∷ us) limits rooms = All-cons (IsTaking m) (Limit r) us (limits r (Contains-head r (limits_of us))) (each us (λ s c. limits s (Contains-cons r (limits_of us) s c)) rooms)
+    each (Room u ∷ us) limits rooms = All-cons (IsTaking m) (Room u) us (rooms u (Contains-head u (rooms_of us))) (each us limits (λ v c. rooms v (Contains-cons u (rooms_of us) v c)))
+
+-- ---- its limits with their names
+-- what is pushed stands behind
+pub pushed : {X T E : Type 0} {old new : List X} {x : X} (r : Result T E) → MatchResult r (λ _. new ≡ old ++ x ∷ []) (λ _. new ≡ old) → IfOk r (λ _. new ≡ old ++ x ∷ [])
+pushed (Ok u) is = is
+pushed (Err e) is = tt
+
+pub listed_limit : (m : Parts) (old new : Taken) (r : Row) → AreListed m old → new.takings ≡ old.takings ++ Limit r ∷ [] → new.rows ≡ old.rows ++ r ∷ [] → new.names ≡ old.names ++ row_id m r ∷ [] → AreListed m new
+listed_limit m old new r are grown more named = record {
+  rows = more ∙ ap (λ (rs : List Row). rs ++ r ∷ []) are.rows ∙ sym (limits-limit old.takings r) ∙ ap limits_of (sym grown);
+  names = named ∙ ap (λ (ns : List RowId). ns ++ row_id m r ∷ []) are.names ∙ sym (map-append (row_id m) old.rows (r ∷ [])) ∙ ap (map (row_id m)) (sym more);
+}
+
+pub listed_room : (m : Parts) (old new : Taken) (u : ℕ) → AreListed m old → new.takings ≡ old.takings ++ Room u ∷ [] → new.rows ≡ old.rows → new.names ≡ old.names → AreListed m new
+listed_room m old new u are grown same named = record {
+  rows = same ∙ are.rows ∙ sym (limits-room old.takings u) ∙ ap limits_of (sym grown);
+  names = named ∙ are.names ∙ ap (map (row_id m)) (sym same);
+}
 
 module _ {N : Type 0} (worth : N → Fraction) (m : Parts) where
-  pub hand_grown : (old new : Taken) (row : Row) (warm : Option Dictionary) (d : Dictionary) (posing : PricesAndBounds N) → new.rows ≡ old.rows ++ row ∷ [] → new.names ≡ old.names ++ row_id m row ∷ []
-      → old.names ≡ map (row_id m) old.rows → warm ≡ Some d → HoldsMarket m (old.rows ++ row ∷ []) d → ArePricesAndBounds worth m (old.rows ++ row ∷ []) posing
-      → IsInHand worth m (record { warm = warm; posing = posing; taken = new })
-  hand_grown old new row warm d posing grown named names is holds are = record {
-    start = (d, is, subst (λ g. HoldsMarket m g d) (sym grown) holds);
-    posing = subst (λ g. ArePricesAndBounds worth m g posing) (sym grown) are;
-    names =
-        named ∙ ap (λ (ns : List RowId). ns ++ row_id m row ∷ []) names ∙ sym (map-append (row_id m) old.rows (row ∷ []))
-        ∙ sym (ap (map (row_id m)) grown);
+  pub hand_grown : (new : Taken) (more : List Taking) (warm : Option Dictionary) (d : Dictionary) (posing : PricesAndBounds N) → new.takings ≡ more → AreListed m new
+      → warm ≡ Some d → HoldsMarket m more d → ArePricesAndBounds worth m more posing → IsInHand worth m (record { warm = warm; posing = posing; taken = new })
+  hand_grown new more warm d posing grown listed is holds are = record {
+    start = (d, is, subst (λ (us : List Taking). HoldsMarket m us d) (sym grown) holds);
+    posing = subst (λ (us : List Taking). ArePricesAndBounds worth m us posing) (sym grown) are;
+    listed = listed;
   }
-
-  -- ---- a dispatch that solves the market over the rows in hand
-  pub dispatch_count : (g : List Row) (ds : List N) (d : Duals Fraction) → IsSolvedBy m g (dispatch_of worth ds) d → length ds ≡ length m.blocks
-  dispatch_count g ds d solved =
-      sym (length-map ds worth) ∙ ap (λ (x : Dispatch). length x.blocks) solved.dispatch
-      ∙ length-map (places (length m.blocks)) (value (system_of m g) solved.choice) ∙ length-range_with_len 0 (length m.blocks)

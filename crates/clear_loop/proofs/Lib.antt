@@ -1,5 +1,7 @@
 pub mod AnswerLemmas
+pub mod BoundLemmas
 pub mod BrokenLemmas
+pub mod CountLemmas
 pub mod FrameLemmas
 pub mod HandLemmas
 pub mod MarginLemmas

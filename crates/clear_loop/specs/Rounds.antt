@@ -1,6 +1,8 @@
 -- What is in hand between two rounds of a clear, and what a round comes to.
-use Rattle.std.specs.Prelude.{◌≡◌, ℕ, Option, Some, List, [], ◌∷◌, ◌++◌, Result, Ok, Err, map, Contains}
+use Rattle.std.specs.Prelude.{◌≡◌, ◌⊎◌, ℕ, Option, Some, List, [], ◌∷◌, ◌++◌, Result, Ok, Err, map, Contains}
 use Rattle.fraction_theory.specs.Fraction.{Fraction}
+use Rattle.fraction_theory.specs.Order.{◌<ℚ◌}
+use Rattle.exact_fraction.specs.declared.Passed.{Passed}
 use Rattle.linear_dict.specs.Dictionaries.{Dictionary}
 use Rattle.market_model.specs.declared.answered.Answer.{Answer}
 use Rattle.market_model.specs.declared.answered.Duals.{Duals}
@@ -10,19 +12,26 @@ use Rattle.market_model.specs.Dispatch.{Dispatch}
 use Rattle.market_model.specs.Fitting.{FitsMarket}
 use Rattle.market_model.specs.Infeasibility.{IsFarkas}
 use Rattle.market_model.specs.declared.limits.Row.{Row}
-use Rattle.market_model.specs.LimitRows.{flow, rows, row_id}
-use Rattle.market_model.specs.Optimality.{rows_alone}
+use Rattle.market_model.specs.LimitRows.{flow, rows}
 use Rattle.market_model.specs.Overrun.{IsWorst, Keeps}
+use Rattle.market_model.specs.Reserves.{room, room_used}
 use Rattle.market_model.specs.RightAnswers.{IsRight}
+use Rattle.market_model.specs.SumTables.{IsRefusedAmong, ReserveSum}
 use Rattle.market_model.specs.Valued.{answer_at, duals_at, farkas_at}
 use Rattle.market_system.specs.Growth.{BestFor, Broken, PricesOnly}
 use Rattle.market_system.specs.WorkingPairs.{IsRangeOf}
-use Rattle.limit_screen.specs.Flows.{flows_at}
+use Rattle.limit_screen.specs.Flows.{carried_at, flows_at, IsFlowsRefusal}
+use Rattle.limit_screen.specs.Rooms.{AllKeepRooms, IsWorstRoom}
+use Rattle.limit_screen.specs.Screening.{IsScreenRefusal}
 use Rattle.market_model.specs.Stops.{StopsBy}
 use Rattle.market_dict.specs.Findings.{IsSolvedBy}
 use Rattle.market_dict.specs.Holding.{HoldsMarket}
 use Rattle.market_dict.specs.PricesAndBounds.{ArePricesAndBounds}
+use Rattle.market_dict.specs.Takings.{IsTaking, limits_of, rooms_of, taken_of}
+use Rattle.market_dict.specs.declared.taking.Taking.{Taking}
+use Rattle.market_dict.specs.declared.taking.Taking.TheVariants as taking
 use Rattle.market_model.specs.declared.stops.Stop.{Stop}
+use Rattle.clear_loop.specs.Keeping.{AreListed}
 use Rattle.clear_loop.specs.declared.hand.Hand.{Hand}
 use Rattle.clear_loop.specs.declared.rounds.Ended.{Ended}
 use Rattle.clear_loop.specs.declared.rounds.Round.{Round}
@@ -30,49 +39,70 @@ use Rattle.clear_loop.specs.declared.rounds.Round.TheVariants as round
 use Rattle.clear_loop.specs.declared.screen.Screened.{Screened}
 use Rattle.clear_loop.specs.declared.screen.Screened.TheVariants as screened
 
--- a dictionary that holds the market over these rows
-abbrev pub HoldsStart : Parts → List Row → Option Dictionary → Type 0
-HoldsStart m g start = (d : Dictionary) × (start ≡ Some d) × HoldsMarket m g d
+-- a dictionary that holds the market over these limits and rooms
+abbrev pub HoldsStart : Parts → List Taking → Option Dictionary → Type 0
+HoldsStart m ts start = (d : Dictionary) × (start ≡ Some d) × HoldsMarket m ts d
 
--- a start over the rows in hand, with the prices and bounds of the market over them, and their names
+-- a start over what is in hand, with the prices and bounds of the market over that, and its limits with their names
 pub record IsInHand {N : Type 0} (value : N → Fraction) (m : Parts) (h : Hand N) : Type 0 where
-  pub start : HoldsStart m h.taken.rows h.warm
-  pub posing : ArePricesAndBounds value m h.taken.rows h.posing
-  pub names : h.taken.names ≡ map (row_id m) h.taken.rows
+  pub start : HoldsStart m h.taken.takings h.warm
+  pub posing : ArePricesAndBounds value m h.taken.takings h.posing
+  pub listed : AreListed m h.taken
 
--- the rows with one more of the market behind, which is not among them, and which a best dispatch for them breaks
-abbrev pub GrowsByOne : Parts → List Row → List Row → Type 0
-GrowsByOne m g new = (r : Row) × (new ≡ g ++ r ∷ []) × Contains (rows m) r × (¬ (Contains g r)) × ((x : Dispatch) × BestFor m (rows_alone g) x × Broken m x r)
+-- a limit or a room that is not among these
+abbrev pub IsNew : List Taking → Taking → Type 0
+IsNew ts (taking.Limit r) = ¬ (Contains (limits_of ts) r)
+IsNew ts (taking.Room u) = ¬ (Contains (rooms_of ts) u)
+
+-- a dispatch passes it
+abbrev pub IsPassed : Parts → Dispatch → Taking → Type 0
+IsPassed m x (taking.Limit r) = Broken m x r
+IsPassed m x (taking.Room u) = room m u <ℚ room_used m x u
+
+-- what is taken with one limit or room more of the market behind, which is not among it, and which a best dispatch for it passes
+abbrev pub GrowsByOne : Parts → List Taking → List Taking → Type 0
+GrowsByOne m ts new = (t : Taking) × (new ≡ ts ++ t ∷ []) × IsTaking m t × IsNew ts t × ((x : Dispatch) × BestFor m (taken_of ts) x × IsPassed m x t)
 
 -- where some rows are taken, all rows of the market keep at a dispatch what they may be
 abbrev pub AllKept : Parts → List Row → Dispatch → Type 0
 AllKept m taken x = (r : Row) → Contains (rows m) r → Keeps m taken r (flow m x r)
 
--- a dispatch and duals solve the market over some rows, and where these are taken all rows keep what they may be
-pub record IsSolution (m : Parts) (g : List Row) (x : Dispatch) (d : Duals Fraction) : Type 0 where
-  pub solved : IsSolvedBy m g x d
-  pub kept : AllKept m g x
+-- and all units that offer reserve their rooms
+pub record KeepsAll (m : Parts) (taken : List Row) (x : Dispatch) : Type 0 where
+  pub limits : AllKept m taken x
+  pub rooms : AllKeepRooms m x
 
--- what a look at all limits comes to at a dispatch: the worst of those that are broken, or the flows, where all are kept
+-- a dispatch and duals solve the market over some limits and rooms, and where these are taken all are kept
+pub record IsSolution (m : Parts) (ts : List Taking) (x : Dispatch) (d : Duals Fraction) : Type 0 where
+  pub solved : IsSolvedBy m ts x d
+  pub kept : KeepsAll m (limits_of ts) x
+
+-- what a look at all limits and rooms comes to at a dispatch, where some rows are taken: the worst of the limits that are broken, or where
+-- all are kept the worst room that is passed, or the flows
 abbrev pub IsScreened : {N : Type 0} → (N → Fraction) → Parts → List Row → Dispatch → Screened N → Type 0
-IsScreened value m taken x (screened.Broken row) = (place : ℕ) × IsWorst m taken (flow m x) place row
-IsScreened value m taken x (screened.Within flows) = AllKept m taken x × (map value flows.items ≡ flows_at m x)
+IsScreened value m taken x (screened.Broken (taking.Limit row)) = (place : ℕ) × IsWorst m taken (flow m x) place row
+IsScreened value m taken x (screened.Broken (taking.Room unit)) = AllKept m taken x × IsWorstRoom m x unit
+IsScreened value m taken x (screened.Within flows) = KeepsAll m taken x × (map value flows.items ≡ flows_at m x)
+
+-- an operation refused where all limits and rooms are looked at: in the flows of the dispatch, in that of a row, or in what is used of a room
+abbrev pub IsLookRefusal : Parts → Dispatch → ℕ → Passed Fraction → Type 0
+IsLookRefusal m x bound p = IsFlowsRefusal m x bound p ⊎ IsScreenRefusal m (carried_at m (flows_at m x)) bound p ⊎ IsRefusedAmong (ReserveSum m x) bound p
 
 -- a right answer, or duals that show that nothing is feasible, with prices of no other rows
 abbrev pub IsEnd : {N : Type 0} → (N → Fraction) → Parts → List Row → Result (Answer N) (Farkas N) → Type 0
 IsEnd value m g (Ok a) = FitsMarket m a × IsRight m (answer_at value a) × PricesOnly m g (duals_at value a.duals)
 IsEnd value m g (Err f) = IsFarkas m (farkas_at value f) × PricesOnly m g (duals_at value f.duals)
 
--- the clear ends so, with a dictionary that holds the market over the rows taken
+-- the clear ends so, with a dictionary that holds the market over what is taken
 pub record IsEnded {N : Type 0} (value : N → Fraction) (m : Parts) (e : Ended N) : Type 0 where
-  pub holds : HoldsMarket m e.taken.rows e.dict
-  pub names : e.taken.names ≡ map (row_id m) e.taken.rows
-  pub end : IsEnd value m e.taken.rows e.answer
+  pub holds : HoldsMarket m e.taken.takings e.dict
+  pub listed : AreListed m e.taken
+  pub end : IsEnd value m (limits_of e.taken.takings) e.answer
 
--- what a round over these rows comes to: one more row, or the end
-abbrev pub IsRound : {N : Type 0} → (N → Fraction) → Parts → List Row → Round N → Type 0
-IsRound value m g (round.Broken hand) = IsInHand value m hand × GrowsByOne m g hand.taken.rows
-IsRound value m g (round.Done ended) = IsEnded value m ended × (ended.taken.rows ≡ g)
+-- what a round over this comes to: one limit or room more, or the end
+abbrev pub IsRound : {N : Type 0} → (N → Fraction) → Parts → List Taking → Round N → Type 0
+IsRound value m ts (round.Broken hand) = IsInHand value m hand × GrowsByOne m ts hand.taken.takings
+IsRound value m ts (round.Done ended) = IsEnded value m ended × (ended.taken.takings ≡ ts)
 
 -- where numbers became too large, the two are a working pair of the market over rows reached from those taken
 abbrev pub StopsInRange : {N : Type 0} → (N → Fraction) → ℕ → Parts → List Row → Stop N → Type 0

@@ -1,4 +1,4 @@
--- The limit rows taken, as a clearer has them.
+-- What is taken, as a clearer has it.
 use Rattle.std.specs.Prelude.{◌≡◌, Option, Some, None, length}
 use Rattle.linear_dict.specs.Dictionaries.{Dictionary}
 use Rattle.clear_loop.specs.declared.hand.Taken.{Taken}

@@ -1,16 +1,16 @@
 //! The answer of a dispatch and duals.
 
-ghost use Rattle.std.specs.Prelude.{◌≡◌, false, List, length, map, IfOk, IfErr};
-ghost use Rattle.market_model.specs.Dispatch.{places};
+ghost use Rattle.std.specs.Prelude.{◌≡◌, List, length, map, IfOk, IfErr};
+ghost use Rattle.market_model.specs.Dispatch.{dispatch_with, places};
 ghost use Rattle.market_model.specs.Fitting.{FitsMarket};
-ghost use Rattle.market_model.specs.declared.limits.Row.{Row};
 ghost use Rattle.market_model.specs.Optimality.{ProperDuals};
 ghost use Rattle.market_model.specs.RightAnswers.{IsRight, price_made};
 ghost use Rattle.market_model.specs.Stops.{StopsBy};
 ghost use Rattle.market_model.specs.SumTables.{IsRefusedInPrices};
 ghost use Rattle.market_model.specs.Valued.{answer_at, duals_at, price_at};
-ghost use Rattle.market_model.specs.PutIn.{dispatch_of};
 ghost use Rattle.limit_screen.specs.Flows.{flows_at};
+ghost use Rattle.market_dict.specs.Takings.{limits_of};
+ghost use Rattle.market_dict.specs.declared.taking.Taking.{Taking};
 ghost use Rattle.clear_loop.specs.Rounds.{IsSolution, StopsInRange};
 
 use bus_prices::prices;
@@ -44,26 +44,25 @@ fn bus_prices<N: Exact>(
     Ok(by_bus)
 }
 
-/// The answer of a dispatch that solves the market over some of its limits and keeps all of them, with its flows, by bus, by line and by
-/// outage of a unit, and its duals: bus prices, welfare and settlement.
+/// The answer of a dispatch, of blocks and of offers of reserve, that solves the market over some of its limits and rooms and keeps all of
+/// them, with its flows, by bus, by line and by outage of a unit, and its duals: bus prices, welfare and settlement.
 pub(crate) fn answer_of<N: Exact>(
     alloc: Global,
     market: &Market,
     dispatch: List<N>,
+    reserve: List<N>,
     flows: &[N],
     duals: Duals<N>,
 ) -> Result<Answer<N>, Stop<N>>
-    requires energy_alone { market.now.reserve.listed ≡ false }
-    requires solved { (g : List Row) × IsSolution market.now g (dispatch_of N.value dispatch) (duals_at N.value duals) }
-    requires flows { map N.value flows.now ≡ flows_at market.now (dispatch_of N.value dispatch) }
+    requires solved { (ts : List Taking) × IsSolution market.now ts (dispatch_with (map N.value dispatch) (map N.value reserve)) (duals_at N.value duals) }
+    requires flows { map N.value flows.now ≡ flows_at market.now (dispatch_with (map N.value dispatch) (map N.value reserve)) }
     ensures fits { IfOk result (FitsMarket market.now) }
     ensures right { IfOk result (λ answer. IsRight market.now (answer_at N.value answer)) }
     ensures duals { IfOk result (λ answer. answer.duals ≡ duals) }
-    ensures cause { (g : List Row) → IsSolution market.now g (dispatch_of N.value dispatch) (duals_at N.value duals) → IfErr result (StopsInRange N.value N.bound market.now g) }
+    ensures cause { (ts : List Taking) → IsSolution market.now ts (dispatch_with (map N.value dispatch) (map N.value reserve)) (duals_at N.value duals) → IfErr result (StopsInRange N.value N.bound market.now (limits_of ts)) }
 {
     let _lines = market.lines();
     let prices = bus_prices(alloc, market, &duals)?;
-    let reserve: List<N> = List::new(alloc);
     let welfare = welfare(market, dispatch.slice(), reserve.slice(), flows)?;
     let money = settle_flows(
         alloc,

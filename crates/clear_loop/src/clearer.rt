@@ -3,12 +3,13 @@
 ghost use Rattle.std.specs.Prelude.{◌≡◌, ◌<◌, List, length, map, slice_get, Some, IfOk, IfErr, false};
 ghost use Rattle.market_model.specs.Fitting.{FitsMarket};
 ghost use Rattle.market_model.specs.LimitRows.{row_id};
+ghost use Rattle.market_dict.specs.Takings.{limits_of};
 ghost use Rattle.clear_loop.specs.Clearing.{ClearComesTo, KeepsStart};
 ghost use Rattle.clear_loop.specs.Keeping.{FitsFrame, Kept, cold};
 ghost use Rattle.clear_loop.specs.Rounds.{HoldsStart, IsInHand, StopsInRange};
 
 use crate::fault::ClearFault;
-use crate::hand::{Hand, Taken, rows_or_none, started};
+use crate::hand::{Hand, Taken, started, taken_or_none};
 use crate::merit::start_at_margin;
 use crate::rounds::{Ended, all_rounds};
 use dual_restart::Warm;
@@ -21,7 +22,7 @@ use std::alloc::Global;
 use std::marker::Model;
 
 /// Clears markets of one frame, one after another: those that come of one market by edits of its prices, quantities, loads and limits. Each
-/// clear starts from the limits that the one before it took, with its dictionary, at the prices and bounds of the market handed in.
+/// clear starts from the limits and rooms that the one before it took, with its dictionary, at the prices and bounds of the market handed in.
 #[derive(Drop)]
 pub struct Clearer<N: Exact> {
     warm: Warm<N>,
@@ -52,7 +53,7 @@ fn unused<N: Exact>() -> Clearer<N>
     }
 }
 
-/// A clearer that keeps a dictionary over the limits taken.
+/// A clearer that keeps a dictionary over the limits and rooms taken.
 fn keeping<N: Exact>(dict: Dict<N>, taken: Taken) -> Clearer<N>
     requires live { dict.spent ≡ false }
     requires names { length taken.names ≡ length taken.rows }
@@ -64,10 +65,10 @@ fn keeping<N: Exact>(dict: Dict<N>, taken: Taken) -> Clearer<N>
     }
 }
 
-/// The start, or that of a market over none of its limits where there is none.
-fn warmed<N: Exact>(alloc: Global, market: &Market, warm: Warm<N>) -> Result<Warm<N>, Memory>
-    requires energy_alone { market.now.reserve.listed ≡ false }
-    ensures { (k : Kept) → k.dict ≡ warm → FitsFrame market.now k → IfOk result (HoldsStart market.now k.taken.rows) }
+/// The start, or that of a market over none of its limits and rooms where there is none.
+fn warmed<N: Exact>(alloc: Global, market: &Market, warm: Warm<N>) -> Result<Warm<N>, Stop<N>>
+    ensures start { (k : Kept) → k.dict ≡ warm → FitsFrame market.now k → IfOk result (HoldsStart market.now k.taken.takings) }
+    ensures cause { (k : Kept) → k.dict ≡ warm → FitsFrame market.now k → IfErr result (StopsInRange N.value N.bound market.now (limits_of k.taken.takings)) }
 {
     if warm.is_kept() {
         Ok(warm)
@@ -82,16 +83,15 @@ fn first_hand<N: Exact>(
     market: &Market,
     clearer: Clearer<N>,
 ) -> Result<Hand<N>, Stop<N>>
-    requires frame { FitsFrame market.now clearer }
-    requires energy_alone { market.now.reserve.listed ≡ false }
+    requires { FitsFrame market.now clearer }
     ensures hand { IfOk result (IsInHand N.value market.now) }
     ensures taken { IfOk result (λ hand. hand.taken ≡ clearer.taken) }
-    ensures cause { IfErr result (StopsInRange N.value N.bound market.now clearer.taken.rows) }
+    ensures cause { IfErr result (StopsInRange N.value N.bound market.now (limits_of clearer.taken.takings)) }
 {
     let _lines = market.lines();
     let warm = warmed(alloc, market, clearer.warm)?;
-    let taken = rows_or_none(alloc, clearer.taken);
-    let posing = prices_and_bounds(alloc, market, taken.rows.slice())?;
+    let taken = taken_or_none(alloc, clearer.taken);
+    let posing = prices_and_bounds(alloc, market, taken.takings.slice())?;
     Ok(Hand {
         warm,
         posing,
@@ -129,9 +129,9 @@ impl<N: Exact> Clearer<N> {
         }
     }
 
-    /// Clears a market: a best dispatch over all its limits with prices that support it, duals that show that no dispatch is
-    /// feasible, or two numbers that together are too large. Each round takes a limit that is new, so it ends. After an answer and
-    /// after `Infeasible` the dictionary with the limits taken is kept; after `Range` and `Memory` nothing is, so that the next clear
+    /// Clears a market: a best dispatch over all its limits and rooms with prices that support it, duals that show that no dispatch is
+    /// feasible, or two numbers that together are too large. Each round takes a limit or a room that is new, so it ends. After an answer
+    /// and after `Infeasible` the dictionary with what is taken is kept; after `Range` and `Memory` nothing is, so that the next clear
     /// starts without limits. A clearer that keeps nothing fits every market; what is kept has to be of the market's frame, and edits
     /// keep it so (`laws::start_is_of_the_frame`). No market with reserve is cleared yet.
     pub fn clear(&mut self, alloc: Global, market: &Market) -> Result<Answer<N>, ClearFault<N>>

@@ -1,27 +1,31 @@
-//! What a clear has in hand between two rounds: the limits taken, a start over them, and prices and bounds.
+//! What a clear has in hand between two rounds: the limits and rooms taken, a start over them, and prices and bounds.
 
-ghost use Rattle.std.specs.Prelude.{◌≡◌, [], ◌∷◌, ◌++◌, map, Contains, IfOk, IfErr, Some, false};
+ghost use Rattle.std.specs.Prelude.{◌≡◌, List, [], ◌∷◌, ◌++◌, Contains, IfOk, IfErr, Some, false};
 ghost use Rattle.market_model.specs.Dispatch.{Dispatch};
-ghost use Rattle.market_model.specs.LimitRows.{row_id, rows};
-ghost use Rattle.market_model.specs.Optimality.{rows_alone};
-ghost use Rattle.market_system.specs.Growth.{BestFor, Broken};
+ghost use Rattle.market_model.specs.LimitRows.{rows};
+ghost use Rattle.market_system.specs.Growth.{BestFor, Growth};
 ghost use Rattle.market_dict.specs.Holding.{HoldsMarket};
 ghost use Rattle.market_dict.specs.PricesAndBounds.{ArePricesAndBounds};
-ghost use Rattle.clear_loop.specs.Rounds.{IsInHand, StopsInRange};
+ghost use Rattle.market_dict.specs.Takings.{IsTaking, limits_of, taken_of};
+ghost use Rattle.market_dict.specs.declared.taking.Taking.{Taking};
+ghost use Rattle.market_dict.specs.declared.taking.Taking.TheVariants as taking;
+ghost use Rattle.clear_loop.specs.Keeping.{AreListed};
+ghost use Rattle.clear_loop.specs.Rounds.{IsInHand, IsNew, IsPassed, StopsInRange};
 ghost use Rattle.clear_loop.specs.Starts.{taken_in};
 
 use dual_restart::Warm;
 use exact_fraction::Exact;
 use limit_rows::name_at;
 use linear_dict::Dict;
-use market_dict::{PricesAndBounds, take_bounds, take_limit};
+use market_dict::{PricesAndBounds, Taking, take_bounds, take_limit, take_room};
 use market_model::{Market, Row, RowId, Stop};
 use plain_list::{List, Memory};
 use std::alloc::Global;
 
-/// The limits taken, in the order in which they were.
+/// What is taken, in the order in which it was, and the limits among it in the same order.
 #[derive(Drop)]
 pub(crate) struct Taken {
+    pub takings: List<Taking>,
     pub rows: List<Row>,
     pub names: List<RowId>,
 }
@@ -34,13 +38,14 @@ pub(crate) struct Hand<N: Exact> {
     pub taken: Taken,
 }
 
-/// The limits taken, or none.
-pub(crate) fn rows_or_none(alloc: Global, taken: Option<Taken>) -> Taken
+/// What is taken, or nothing.
+pub(crate) fn taken_or_none(alloc: Global, taken: Option<Taken>) -> Taken
     ensures { result ≡ taken_in taken }
 {
     match taken {
         Some(taken) => taken,
         None => Taken {
+            takings: List::new(alloc),
             rows: List::new(alloc),
             names: List::new(alloc),
         },
@@ -57,44 +62,78 @@ pub(crate) fn started<N: Exact>(dict: Dict<N>) -> Warm<N>
     warm
 }
 
-/// Puts a limit behind those taken.
-fn put_row(market: &Market, taken: &mut Taken, row: Row) -> Result<(), Memory>
+/// Puts a limit behind what is taken.
+fn put_limit(market: &Market, taken: &mut Taken, row: Row) -> Result<(), Memory>
     requires row { Contains (rows market.now) row }
-    ensures rows { IfOk result (λ _. taken.new.rows ≡ taken.old.rows ++ row ∷ []) }
-    ensures names { IfOk result (λ _. taken.new.names ≡ taken.old.names ++ row_id market.now row ∷ []) }
+    requires listed { AreListed market.now taken.old }
+    ensures takings { IfOk result (λ _. taken.new.takings ≡ taken.old.takings ++ taking.Limit row ∷ []) }
+    ensures listed { IfOk result (λ _. AreListed market.now taken.new) }
 {
     let _lines = market.lines();
     let name = name_at(market, row);
+    taken.takings.push(Taking::Limit(row))?;
     taken.rows.push(row)?;
     taken.names.push(name)
 }
 
-/// What is in hand with one limit more, which is not among those in hand, and which a best dispatch for them breaks.
-pub(crate) fn with_row<N: Exact>(
+/// Puts a limit or a room behind what is taken.
+fn put(market: &Market, taken: &mut Taken, taking: Taking) -> Result<(), Memory>
+    requires taking { IsTaking market.now taking }
+    requires listed { AreListed market.now taken.old }
+    ensures takings { IfOk result (λ _. taken.new.takings ≡ taken.old.takings ++ taking ∷ []) }
+    ensures listed { IfOk result (λ _. AreListed market.now taken.new) }
+{
+    match taking {
+        Taking::Limit(row) => put_limit(market, taken, row),
+        Taking::Room(_) => taken.takings.push(taking),
+    }
+}
+
+/// Puts a limit or a room into a dictionary as the last row. After an error the dictionary is of no use.
+fn take<N: Exact>(
+    alloc: Global,
+    market: &Market,
+    dict: &mut Dict<N>,
+    taking: Taking,
+) -> Result<(), Stop<N>>
+    requires taking { IsTaking market.now taking }
+    requires holds { (ts : List Taking) × HoldsMarket market.now ts dict.old × IsNew ts taking }
+    ensures taken { (ts : List Taking) → HoldsMarket market.now ts dict.old → IfOk result (λ _. HoldsMarket market.now (ts ++ taking ∷ []) dict.new) }
+    ensures cause { (ts : List Taking) → HoldsMarket market.now ts dict.old → Growth market.now (limits_of ts) (limits_of (ts ++ taking ∷ [])) → IfErr result (StopsInRange N.value N.bound market.now (limits_of ts)) }
+{
+    let _lines = market.lines();
+    match taking {
+        Taking::Limit(row) => take_limit(alloc, market, dict, row),
+        Taking::Room(unit) => take_room(alloc, market, dict, unit),
+    }
+}
+
+/// What is in hand with one limit or room more, which is not among those in hand, and which a best dispatch for them passes.
+pub(crate) fn with_taking<N: Exact>(
     alloc: Global,
     market: &Market,
     dict: Dict<N>,
     posing: PricesAndBounds<N>,
     taken: Taken,
-    row: Row,
+    taking: Taking,
 ) -> Result<Hand<N>, Stop<N>>
-    requires holds { HoldsMarket market.now taken.rows dict }
-    requires posing { ArePricesAndBounds N.value market.now taken.rows posing }
-    requires names { taken.names ≡ map (row_id market.now) taken.rows }
-    requires row { Contains (rows market.now) row }
-    requires new { ¬ (Contains taken.rows row) }
-    requires broken { (x : Dispatch) × BestFor market.now (rows_alone taken.rows) x × Broken market.now x row }
+    requires holds { HoldsMarket market.now taken.takings dict }
+    requires posing { ArePricesAndBounds N.value market.now taken.takings posing }
+    requires listed { AreListed market.now taken }
+    requires taking { IsTaking market.now taking }
+    requires new { IsNew taken.takings taking }
+    requires passed { (x : Dispatch) × BestFor market.now (taken_of taken.takings) x × IsPassed market.now x taking }
     ensures hand { IfOk result (IsInHand N.value market.now) }
-    ensures rows { IfOk result (λ hand. hand.taken.rows ≡ taken.rows ++ row ∷ []) }
-    ensures cause { IfErr result (StopsInRange N.value N.bound market.now taken.rows) }
+    ensures takings { IfOk result (λ hand. hand.taken.takings ≡ taken.takings ++ taking ∷ []) }
+    ensures cause { IfErr result (StopsInRange N.value N.bound market.now (limits_of taken.takings)) }
 {
     let _lines = market.lines();
     let mut dict = dict;
     let mut posing = posing;
     let mut taken = taken;
-    take_limit(alloc, market, &mut dict, row)?;
-    take_bounds(market, &mut posing, row)?;
-    put_row(market, &mut taken, row)?;
+    take(alloc, market, &mut dict, taking)?;
+    take_bounds(market, &mut posing, taking)?;
+    put(market, &mut taken, taking)?;
     Ok(Hand {
         warm: started(dict),
         posing,

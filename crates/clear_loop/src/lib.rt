@@ -1,9 +1,10 @@
-//! Clears markets one after another. A clear takes limits one by one, and only such as a best dispatch for the limits in hand breaks, until
-//! a best dispatch breaks no other, or until no dispatch is feasible for those in hand. The dictionary with the limits taken is kept for
+//! Clears markets one after another. A clear takes limits and rooms one by one, and only such as a best dispatch for those in hand passes,
+//! until a best dispatch passes no other, or until no dispatch is feasible for those in hand. The dictionary with what is taken is kept for
 //! the next market of the same frame, which starts from it at its own prices and bounds.
 #![tactic(auto)]
 
 mod answering;
+mod bounding;
 mod clearer;
 mod fault;
 mod hand;

@@ -1,12 +1,13 @@
 //! Where a clear without limits begins: near its end, by merit order. A guess, which the runs after it set right.
 
-ghost use Rattle.std.specs.Prelude.{◌≡◌, false, [], IfOk};
+ghost use Rattle.std.specs.Prelude.{[], IfOk, IfErr};
+ghost use Rattle.market_dict.specs.Findings.{IsPairOver};
 ghost use Rattle.market_dict.specs.Holding.{HoldsMarket};
 
 use exact_fraction::{Exact, Sign};
 use linear_dict::Dict;
 use market_dict::start;
-use market_model::{Market, Side};
+use market_model::{Market, Side, Stop};
 use plain_list::Memory;
 use std::alloc::Global;
 
@@ -56,11 +57,11 @@ fn marginal(alloc: Global, market: &Market) -> Result<Option<usize>, Memory> {
     Ok(None)
 }
 
-/// A dictionary of the market over none of its limits, in which the balance has given its place to the marginal block, where there
-/// is one.
-pub(crate) fn start_at_margin<N: Exact>(alloc: Global, market: &Market) -> Result<Dict<N>, Memory>
-    requires energy_alone { market.now.reserve.listed ≡ false }
-    ensures { IfOk result (HoldsMarket market.now []) }
+/// A dictionary of the market over none of its limits and rooms, in which the balance has given its place to the marginal block, where
+/// there is one.
+pub(crate) fn start_at_margin<N: Exact>(alloc: Global, market: &Market) -> Result<Dict<N>, Stop<N>>
+    ensures holds { IfOk result (HoldsMarket market.now []) }
+    ensures pair { IfErr result (IsPairOver N.value N.bound market.now []) }
 {
     let mut dict: Dict<N> = start(alloc, market)?;
     let Some(column) = marginal(alloc, market)? else {

@@ -1,16 +1,30 @@
-//! The rounds of a clear: each solves the market over the limits in hand, and takes the limit that is broken by the most, where one is.
+//! The rounds of a clear: each solves the market over the limits and rooms in hand, and takes the limit or room that is passed by the most,
+//! where one is.
 
-ghost use Rattle.std.specs.Prelude.{IfOk, IfErr};
+ghost use Rattle.std.specs.Prelude.{◌≡◌, List, length, map, IfOk, IfErr};
+ghost use Rattle.market_model.specs.Dispatch.{dispatch_with};
+ghost use Rattle.market_model.specs.Infeasibility.{IsFarkas};
+ghost use Rattle.market_model.specs.Valued.{duals_at, farkas_at};
 ghost use Rattle.market_system.specs.Growth.{Growth};
-ghost use Rattle.clear_loop.specs.Rounds.{IsEnded, IsInHand, IsRound, StopsInRange};
+ghost use Rattle.limit_screen.specs.Flows.{flows_at};
+ghost use Rattle.market_dict.specs.Findings.{IsFound, IsStuckBy};
+ghost use Rattle.market_dict.specs.PricesAndBounds.{ArePricesAndBounds};
+ghost use Rattle.market_dict.specs.Takings.{limits_of};
+ghost use Rattle.market_dict.specs.declared.solving.Found.TheVariants as found;
+ghost use Rattle.market_dict.specs.declared.taking.Taking.{Taking};
+ghost use Rattle.clear_loop.specs.Keeping.{AreListed};
+ghost use Rattle.clear_loop.specs.Rounds.{KeepsAll, HoldsStart, IsEnded, IsInHand, IsRound, StopsInRange};
 
 use crate::answering::answer_of;
-use crate::hand::{Hand, Taken, with_row};
+use crate::bounding::farkas_bound;
+use crate::hand::{Hand, Taken, with_taking};
 use crate::screen::{Screened, screened_at};
+use dual_restart::Warm;
 use exact_fraction::Exact;
 use linear_dict::Dict;
-use market_dict::{Found, duals, solve};
-use market_model::{Answer, Farkas, Market, Stop};
+use market_dict::{Found, PricesAndBounds, duals, solve};
+use market_model::{Answer, Duals, Farkas, Market, Stop};
+use plain_list::List;
 use std::alloc::Global;
 
 /// How a clear ends: with an answer, or with duals that show that no dispatch is feasible.
@@ -24,49 +38,140 @@ pub(crate) struct Ended<N: Exact> {
 /// What a round comes to.
 #[derive(Drop)]
 enum Round<N: Exact> {
-    /// A limit was broken, and is in hand now.
+    /// A limit or a room was passed, and is in hand now.
     Broken(Hand<N>),
     Done(Ended<N>),
+}
+
+/// What the market comes to over what is in hand.
+fn solved<N: Exact>(
+    alloc: Global,
+    market: &Market,
+    warm: Warm<N>,
+    posing: &PricesAndBounds<N>,
+) -> Result<Found<N>, Stop<N>>
+    requires { (ts : List Taking) × HoldsStart market.now ts warm × ArePricesAndBounds N.value market.now ts posing.now }
+    ensures found { (ts : List Taking) → HoldsStart market.now ts warm → ArePricesAndBounds N.value market.now ts posing.now → IfOk result (IsFound N.value market.now ts) }
+    ensures cause { (ts : List Taking) → HoldsStart market.now ts warm → ArePricesAndBounds N.value market.now ts posing.now → IfErr result (StopsInRange N.value N.bound market.now (limits_of ts)) }
+{
+    let _lines = market.lines();
+    let bounds = posing.bounds(alloc)?;
+    let posed = warm.repose(posing.prices.slice(), bounds.slice())?;
+    solve(alloc, market, posed)
+}
+
+/// The bound of the duals of a variable that is stuck: what it leaves of the bound that it violates, in a market of energy alone. Where
+/// reserve is cleared it is made of the duals.
+fn bound_of<N: Exact>(
+    alloc: Global,
+    market: &Market,
+    duals: &Duals<N>,
+    margin: N,
+) -> Result<N, Stop<N>>
+    requires { (ts : List Taking) × IsStuckBy market.now ts (duals_at N.value duals.now) (N.value margin) }
+    ensures farkas { IfOk result (λ bound. IsFarkas market.now (farkas_at N.value (record { duals = duals.now; bound = bound }))) }
+    ensures cause { (ts : List Taking) → IsStuckBy market.now ts (duals_at N.value duals.now) (N.value margin) → IfErr result (StopsInRange N.value N.bound market.now (limits_of ts)) }
+{
+    let _lines = market.lines();
+    if market.reserve().listed {
+        farkas_bound(alloc, market, duals)
+    } else {
+        Ok(margin)
+    }
+}
+
+/// The end with an answer, of a best dispatch that keeps all limits and rooms.
+fn answered<N: Exact>(
+    alloc: Global,
+    market: &Market,
+    dict: Dict<N>,
+    taken: Taken,
+    dispatch: List<N>,
+    reserve: List<N>,
+    flows: &[N],
+) -> Result<Ended<N>, Stop<N>>
+    requires found { IsFound N.value market.now taken.takings (found.Best dict dispatch reserve) }
+    requires listed { AreListed market.now taken }
+    requires kept { KeepsAll market.now (limits_of taken.takings) (dispatch_with (map N.value dispatch) (map N.value reserve)) }
+    requires flows { map N.value flows.now ≡ flows_at market.now (dispatch_with (map N.value dispatch) (map N.value reserve)) }
+    ensures ended { IfOk result (IsEnded N.value market.now) }
+    ensures taken { IfOk result (λ ended. ended.taken ≡ taken) }
+    ensures cause { IfErr result (StopsInRange N.value N.bound market.now (limits_of taken.takings)) }
+{
+    let _lines = market.lines();
+    let duals = duals(alloc, market, &dict)?;
+    let answer = answer_of(alloc, market, dispatch, reserve, flows, duals)?;
+    Ok(Ended {
+        dict,
+        taken,
+        answer: Ok(answer),
+    })
+}
+
+/// What a round comes to with a best dispatch for what is in hand.
+fn after_best<N: Exact>(
+    alloc: Global,
+    market: &Market,
+    dict: Dict<N>,
+    posing: PricesAndBounds<N>,
+    taken: Taken,
+    dispatch: List<N>,
+    reserve: List<N>,
+) -> Result<Round<N>, Stop<N>>
+    requires found { IsFound N.value market.now taken.takings (found.Best dict dispatch reserve) }
+    requires posing { ArePricesAndBounds N.value market.now taken.takings posing }
+    requires listed { AreListed market.now taken }
+    ensures round { IfOk result (IsRound N.value market.now taken.takings) }
+    ensures cause { IfErr result (StopsInRange N.value N.bound market.now (limits_of taken.takings)) }
+{
+    let _lines = market.lines();
+    match screened_at(
+        alloc,
+        market,
+        dispatch.slice(),
+        reserve.slice(),
+        taken.rows.slice(),
+    )? {
+        Screened::Broken(taking) => Ok(Round::Broken(with_taking(
+            alloc, market, dict, posing, taken, taking,
+        )?)),
+        Screened::Within(flows) => Ok(Round::Done(answered(
+            alloc, market, dict, taken, dispatch, reserve, &flows,
+        )?)),
+    }
 }
 
 /// One round.
 fn one_round<N: Exact>(alloc: Global, market: &Market, hand: Hand<N>) -> Result<Round<N>, Stop<N>>
     requires { IsInHand N.value market.now hand }
-    ensures round { IfOk result (IsRound N.value market.now hand.taken.rows) }
-    ensures cause { IfErr result (StopsInRange N.value N.bound market.now hand.taken.rows) }
+    ensures round { IfOk result (IsRound N.value market.now hand.taken.takings) }
+    ensures cause { IfErr result (StopsInRange N.value N.bound market.now (limits_of hand.taken.takings)) }
 {
-    let _lines = market.lines();
     let posing = hand.posing;
     let taken = hand.taken;
-    let bounds = posing.bounds(alloc)?;
-    let posed = hand.warm.repose(posing.prices.slice(), bounds.slice())?;
-    let (dict, dispatch) = match solve(alloc, market, posed)? {
-        Found::Best { dict, dispatch } => (dict, dispatch),
-        Found::Nothing { dict, farkas } => {
-            return Ok(Round::Done(Ended {
-                dict,
-                taken,
-                answer: Err(farkas),
-            }));
-        }
-    };
-    match screened_at(alloc, market, dispatch.slice(), taken.rows.slice())? {
-        Screened::Broken(row) => Ok(Round::Broken(with_row(
-            alloc, market, dict, posing, taken, row,
-        )?)),
-        Screened::Within(flows) => {
-            let duals = duals(alloc, market, &dict)?;
-            let answer = answer_of(alloc, market, dispatch, &flows, duals)?;
+    match solved(alloc, market, hand.warm, &posing)? {
+        Found::Best {
+            dict,
+            dispatch,
+            reserve,
+        } => after_best(alloc, market, dict, posing, taken, dispatch, reserve),
+        Found::Nothing {
+            dict,
+            duals,
+            margin,
+        } => {
+            let bound = bound_of(alloc, market, &duals, margin)?;
             Ok(Round::Done(Ended {
                 dict,
                 taken,
-                answer: Ok(answer),
+                answer: Err(Farkas { duals, bound }),
             }))
         }
     }
 }
 
-/// Rounds until one ends the clear. Each takes a limit that is new, so there are no more of them than limits, and the last one.
+/// Rounds until one ends the clear. Each takes a limit or a room that is new, so there are no more of them than of these together, and the
+/// last one.
 pub(crate) fn all_rounds<N: Exact>(
     alloc: Global,
     market: &Market,
@@ -74,8 +179,8 @@ pub(crate) fn all_rounds<N: Exact>(
 ) -> Result<Ended<N>, Stop<N>>
     requires { IsInHand N.value market.now first }
     ensures ended { IfOk result (IsEnded N.value market.now) }
-    ensures taken { IfOk result (λ ended. Growth market.now first.taken.rows ended.taken.rows) }
-    ensures cause { IfErr result (StopsInRange N.value N.bound market.now first.taken.rows) }
+    ensures taken { IfOk result (λ ended. Growth market.now (limits_of first.taken.takings) (limits_of ended.taken.takings)) }
+    ensures cause { IfErr result (StopsInRange N.value N.bound market.now (limits_of first.taken.takings)) }
 {
     let mut hand = first;
     loop {

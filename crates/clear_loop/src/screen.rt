@@ -1,43 +1,49 @@
-//! The limits that a dispatch does not keep.
+//! The limits and rooms that a dispatch does not keep.
 
-ghost use Rattle.std.specs.Prelude.{◌≡◌, ◌⊎◌, length, IfOk, IfErr};
+ghost use Rattle.std.specs.Prelude.{◌≡◌, length, map, IfOk, IfErr};
+ghost use Rattle.market_model.specs.Dispatch.{dispatch_with};
 ghost use Rattle.market_model.specs.Stops.{StopsBy};
-ghost use Rattle.market_model.specs.PutIn.{dispatch_of};
-ghost use Rattle.limit_screen.specs.Flows.{carried_at, flows_at, IsFlowsRefusal};
-ghost use Rattle.limit_screen.specs.Screening.{IsScreenRefusal};
-ghost use Rattle.clear_loop.specs.Rounds.{IsScreened};
+ghost use Rattle.clear_loop.specs.Rounds.{IsLookRefusal, IsScreened};
 
 use exact_fraction::Exact;
-use limit_screen::{flows_made, whole_parts, worst_row_by_parts};
+use limit_screen::{flows_made, whole_parts, worst_room, worst_row_by_parts};
+use market_dict::Taking;
 use market_model::{Market, Row, Stop};
 use std::alloc::Global;
 
-/// What a look at all limits comes to.
+/// What a look at all limits and rooms comes to.
 #[derive(Drop)]
 pub(crate) enum Screened<N> {
-    /// Of the limits that are not kept that which is passed by the most, and the first of those in the market's order.
-    Broken(Row),
-    /// All limits are kept. What each bus puts in, then what each line carries, and then what each lost unit puts out, in 10^-9 MW.
+    /// Of the limits that are not kept that which is passed by the most, and the first of those in the market's order; where all limits
+    /// are kept, so of the rooms.
+    Broken(Taking),
+    /// All limits and rooms are kept. What each bus puts in, then what each line carries, and then what each lost unit puts out, in
+    /// 10^-9 MW.
     Within(Vec<N>),
 }
 
-/// A look at all limits at a dispatch, where some are taken: of these the excess counts too.
+/// A look at all limits and then at all rooms, at the accepted MW of blocks and of offers of reserve. Some limits are taken: of these the
+/// excess counts too.
 pub(crate) fn screened_at<N: Exact>(
     alloc: Global,
     market: &Market,
     dispatch: &[N],
+    reserve: &[N],
     taken: &[Row],
 ) -> Result<Screened<N>, Stop<N>>
-    requires { length dispatch.now ≡ length market.now.blocks }
-    ensures screened { IfOk result (IsScreened N.value market.now taken.now (dispatch_of N.value dispatch.now)) }
-    ensures cause { IfErr result (StopsBy N.value (λ p. IsFlowsRefusal market.now (dispatch_of N.value dispatch.now) N.bound p
-        ⊎ IsScreenRefusal market.now (carried_at market.now (flows_at market.now (dispatch_of N.value dispatch.now))) N.bound p)) }
+    requires dispatch { length dispatch.now ≡ length market.now.blocks }
+    requires reserve { length reserve.now ≡ length market.now.reserve.offers }
+    ensures screened { let x = dispatch_with (map N.value dispatch.now) (map N.value reserve.now) in IfOk result (IsScreened N.value market.now taken.now x) }
+    ensures cause { let x = dispatch_with (map N.value dispatch.now) (map N.value reserve.now) in IfErr result (StopsBy N.value (IsLookRefusal market.now x N.bound)) }
 {
     let _lines = market.lines();
     let by_place = flows_made(alloc, market, dispatch)?;
     let parts = whole_parts(alloc, market, &by_place)?;
     match worst_row_by_parts(market, &by_place, &parts, taken)? {
-        Some(row) => Ok(Screened::Broken(row)),
-        None => Ok(Screened::Within(by_place)),
+        Some(row) => Ok(Screened::Broken(Taking::Limit(row))),
+        None => match worst_room(market, dispatch, reserve)? {
+            Some(unit) => Ok(Screened::Broken(Taking::Room(unit))),
+            None => Ok(Screened::Within(by_place)),
+        },
     }
 }

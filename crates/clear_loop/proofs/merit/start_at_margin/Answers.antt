@@ -6,7 +6,7 @@ use Rattle.clear_loop.proofs.merit.start_at_margin.Goals as goal
 
 pub pivot-requires : goal.pivot-requires
 pivot-requires g c = record {
-  live = c.in_ok-dict.ensures.live;
+  live = c.in_ok-dict.ensures.holds.live;
   row = omega (arith, c.if-row_count-eq0.false, c.row_count.ensures);
   column = omega (arith, c.if-column-column_count.false, c.column_count.ensures);
   entry = λ nil. not_nil_by_sign (g.N.Exact.value c.entry.result) c.sign.result c.sign.ensures
@@ -16,5 +16,5 @@ pivot-requires g c = record {
       ]) (c.entry.ensures.value ∙ nil);
 }
 
-pub returns-in-Ok : goal.returns-in-Ok
-returns-in-Ok g c = holds_exchanged c.args.market.now [] c.in_ok-dict.dict c.pivot.new.self 0 c.in-Some.column c.in_ok-dict.ensures c.in-Ok.ensures.pivoted c.in-Ok.ensures.sound
+pub returns-in-Ok-clause-holds : goal.returns-in-Ok-clause-holds
+returns-in-Ok-clause-holds g c = holds_exchanged c.args.market.now [] c.in_ok-dict.dict c.pivot.new.self 0 c.in-Some.column c.in_ok-dict.ensures.holds c.in-Ok.ensures.pivoted c.in-Ok.ensures.sound

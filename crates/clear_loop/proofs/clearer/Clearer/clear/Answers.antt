@@ -1,11 +1,12 @@
-use Rattle.std.proofs.Common.{Err, ◌≡◌, ◌∙◌, ap, subst}
+use Rattle.std.proofs.Common.{Err, ◌≡◌, ◌∙◌, ap, subst, sym}
 use Rattle.std.proofs.lemmas.Result.{err_from_is_err_and}
 use Rattle.market_system.specs.Growth.{Growth}
+use Rattle.market_dict.specs.Takings.{limits_of}
 use Rattle.clear_loop.specs.Faults.{fault_of}
 use Rattle.clear_loop.specs.Keeping.{Kept}
 use Rattle.clear_loop.specs.Rounds.{StopsInRange}
 use Rattle.clear_loop.specs.declared.hand.Taken.{Taken}
-use Rattle.clear_loop.proofs.StartLemmas.{answered_clear, infeasible_clear, start_rows, stopped_clear, stopped_keeps}
+use Rattle.clear_loop.proofs.StartLemmas.{answered_clear, infeasible_clear, start_listed, start_rows, stopped_clear, stopped_keeps}
 use Rattle.clear_loop.proofs.clearer.Clearer.clear.Goals as goal
 
 pub returns-in_err-dict-clause-clear : goal.returns-in_err-dict-clause-clear
@@ -13,7 +14,8 @@ returns-in_err-dict-clause-clear g c =
     let value = g.N.Exact.value in
     let m = c.args.market.now in
     let before : Kept = c.args.self.now in
-    let first : c.in_ok-hand.hand.taken.rows ≡ before.taken.rows = ap (λ (t : Taken). t.rows) (c.in_ok-hand.ensures.taken ∙ ap (λ (k : Kept). k.taken) c.replace-before.ensures.value) in
+    let first : limits_of c.in_ok-hand.hand.taken.takings ≡ before.taken.rows =
+    ap (λ (t : Taken). limits_of t.takings) (c.in_ok-hand.ensures.taken ∙ ap (λ (k : Kept). k.taken) c.replace-before.ensures.value) ∙ sym (start_listed m before.taken before.dict c.requires.frame).rows in
     let p = err_from_is_err_and c.from_residual-in_err-dict.result c.from_residual-in_err-dict.ensures.1 in
     let given : c.from_residual-in_err-dict.result ≡ Err (fault_of c.in_err-dict.field-0.0) = p.1 ∙ ap Err p.2 in
     rw given
@@ -25,7 +27,8 @@ returns-in_err-hand-clause-clear g c =
     let value = g.N.Exact.value in
     let m = c.args.market.now in
     let before : Kept = c.args.self.now in
-    let first : c.replace-before.result.taken.rows ≡ before.taken.rows = ap (λ (k : Kept). k.taken.rows) c.replace-before.ensures.value in
+    let first : limits_of c.replace-before.result.taken.takings ≡ before.taken.rows =
+    ap (λ (k : Kept). limits_of k.taken.takings) c.replace-before.ensures.value ∙ sym (start_listed m before.taken before.dict c.requires.frame).rows in
     let p = err_from_is_err_and c.from_residual.result c.from_residual.ensures.1 in
     let given : c.from_residual.result ≡ Err (fault_of c.in_err-hand.field-0.0) = p.1 ∙ ap Err p.2 in
     rw given
@@ -42,14 +45,16 @@ pub returns-in-Ok-clause-clear : goal.returns-in-Ok-clause-clear
 returns-in-Ok-clause-clear g c =
     let m = c.args.market.now in
     let before : Kept = c.args.self.now in
-    let first : c.in_ok-hand.hand.taken.rows ≡ before.taken.rows = ap (λ (t : Taken). t.rows) (c.in_ok-hand.ensures.taken ∙ ap (λ (k : Kept). k.taken) c.replace-before.ensures.value) in
+    let first : limits_of c.in_ok-hand.hand.taken.takings ≡ before.taken.rows =
+    ap (λ (t : Taken). limits_of t.takings) (c.in_ok-hand.ensures.taken ∙ ap (λ (k : Kept). k.taken) c.replace-before.ensures.value) ∙ sym (start_listed m before.taken before.dict c.requires.frame).rows in
     answered_clear g.N.Exact.value g.N.Exact.bound m (c.lines-lines.ensures.market.reserve.unlisted c.requires.energy_alone) before.taken.rows c.keeping.result.taken.rows (start_rows m before.taken before.dict c.requires.frame) c.in_ok-dict.field-0 c.in_ok-dict.ensures.ended
-    (subst (λ rs. Growth m rs c.in_ok-dict.field-0.taken.rows) first c.in_ok-dict.ensures.taken) (ap (λ (k : Kept). k.taken.rows) c.keeping.ensures) c.in-Ok.answer c.in-Ok.is
+    (subst (λ rs. Growth m rs (limits_of c.in_ok-dict.field-0.taken.takings)) first c.in_ok-dict.ensures.taken) (ap (λ (k : Kept). k.taken.rows) c.keeping.ensures ∙ c.in_ok-dict.ensures.ended.listed.rows) c.in-Ok.answer c.in-Ok.is
 
 pub returns-in-Err-clause-clear : goal.returns-in-Err-clause-clear
 returns-in-Err-clause-clear g c =
     let m = c.args.market.now in
     let before : Kept = c.args.self.now in
-    let first : c.in_ok-hand.hand.taken.rows ≡ before.taken.rows = ap (λ (t : Taken). t.rows) (c.in_ok-hand.ensures.taken ∙ ap (λ (k : Kept). k.taken) c.replace-before.ensures.value) in
+    let first : limits_of c.in_ok-hand.hand.taken.takings ≡ before.taken.rows =
+    ap (λ (t : Taken). limits_of t.takings) (c.in_ok-hand.ensures.taken ∙ ap (λ (k : Kept). k.taken) c.replace-before.ensures.value) ∙ sym (start_listed m before.taken before.dict c.requires.frame).rows in
     infeasible_clear g.N.Exact.value g.N.Exact.bound m (c.lines-lines.ensures.market.reserve.unlisted c.requires.energy_alone) before.taken.rows c.keeping.result.taken.rows (start_rows m before.taken before.dict c.requires.frame) c.in_ok-dict.field-0 c.in_ok-dict.ensures.ended
-    (subst (λ rs. Growth m rs c.in_ok-dict.field-0.taken.rows) first c.in_ok-dict.ensures.taken) (ap (λ (k : Kept). k.taken.rows) c.keeping.ensures) c.in-Err.farkas c.in-Err.is
+    (subst (λ rs. Growth m rs (limits_of c.in_ok-dict.field-0.taken.takings)) first c.in_ok-dict.ensures.taken) (ap (λ (k : Kept). k.taken.rows) c.keeping.ensures ∙ c.in_ok-dict.ensures.ended.listed.rows) c.in-Err.farkas c.in-Err.is
