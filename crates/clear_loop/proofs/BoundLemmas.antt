@@ -1,6 +1,6 @@
 -- What is refused where the bound of duals is made that show that no dispatch is feasible is a working pair of the market.
-use Rattle.std.specs.Prelude.{◌≡◌, ◌⊎◌, ◌<◌, ◌||◌, if◌then◌else◌, ℕ, Bool, true, false, List, [], ◌∷◌, length, All, Contains, Some, refl}
-use Rattle.std.proofs.Common.{suc, arith, ap, inl, inr, sym, subst, ◌∙◌}
+use Rattle.std.specs.Prelude.{◌≡◌, ◌⊎◌, ◌||◌, if◌then◌else◌, ℕ, Bool, true, false, List, [], ◌∷◌, All, Contains, Some}
+use Rattle.std.proofs.Common.{suc, arith, inl, inr, subst}
 use Rattle.fraction_theory.specs.Fraction.{Fraction}
 use Rattle.fraction_theory.specs.Order.{◌<ℚ◌}
 use Rattle.fraction_theory.proofs.ListSums.{Contains-from_filter}

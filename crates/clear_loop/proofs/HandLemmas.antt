@@ -73,9 +73,9 @@ all_takings m ts are = each ts are.taken.limits.rows are.taken.rooms
 
 -- ---- its limits with their names
 -- what is pushed stands behind
-pub pushed : {X T E : Type 0} {old new : List X} {x : X} (r : Result T E) → MatchResult r (λ _. new ≡ old ++ x ∷ []) (λ _. new ≡ old) → IfOk r (λ _. new ≡ old ++ x ∷ [])
-pushed (Ok u) is = is
-pushed (Err e) is = tt
+pub pushed : {X T E : Type 0} (old new : List X) (x : X) (r : Result T E) → MatchResult r (λ _. new ≡ old ++ x ∷ []) (λ _. new ≡ old) → IfOk r (λ _. new ≡ old ++ x ∷ [])
+pushed old new x (Ok u) is = is
+pushed old new x (Err e) is = tt
 
 pub listed_limit : (m : Parts) (old new : Taken) (r : Row) → AreListed m old → new.takings ≡ old.takings ++ Limit r ∷ [] → new.rows ≡ old.rows ++ r ∷ [] → new.names ≡ old.names ++ row_id m r ∷ [] → AreListed m new
 listed_limit m old new r are grown more named = record {

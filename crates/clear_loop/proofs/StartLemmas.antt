@@ -53,13 +53,6 @@ module _ (m : Parts) (k : Kept) (warm : Option Dictionary) (same : k.dict ≡ wa
   cold_stop worth bound s pair =
       subst (λ (t : Taken). StopsInRange worth bound m (limits_of t.takings) s) (sym kept_nothing) (pair_stop worth bound m [] [] s (growth_none m []) pair)
 
-pub started_warm : (m : Parts) (k : Kept) (warm : Option Dictionary) → k.dict ≡ warm → FitsFrame m k → IsSome warm → HoldsStart m k.taken.takings warm
-started_warm m k warm same fits some = by warm same some
-  where
-    by : (o : Option Dictionary) → k.dict ≡ o → IsSome o → HoldsStart m k.taken.takings o
-    by None e none = absurd Prim.cc
-    by (Some d) e is = (d, refl, (subst (IsStartOf m k.taken) e fits).0)
-
 -- ---- a start
 pub start_listed : (m : Parts) (t : Taken) (start : Option Dictionary) → IsStartOf m t start → AreListed m t
 start_listed m t None is = subst (AreListed m) (sym is) (record { rows = refl; names = refl })

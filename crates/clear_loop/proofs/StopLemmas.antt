@@ -1,5 +1,5 @@
 -- What stops a clear is a working pair over rows that are reached.
-use Rattle.std.specs.Prelude.{◌≡◌, Contains, ◌⊎◌, ℕ, List, [], ◌∷◌, ◌++◌, Some}
+use Rattle.std.specs.Prelude.{Contains, ◌⊎◌, ℕ, List, [], ◌∷◌, ◌++◌, Some}
 use Rattle.std.proofs.Common.{inl, inr, subst, sym}
 use Rattle.std.proofs.lemmas.List.Elements.{Contains-append_right}
 use Rattle.fraction_theory.specs.Fraction.{Fraction}

@@ -3,7 +3,6 @@ use Rattle.std.proofs.Common.{ap, ◌∙◌}
 use Rattle.std.proofs.lemmas.Result.{IfOk-weaker}
 use Rattle.market_model.specs.declared.answered.RowId.{RowId}
 use Rattle.market_model.proofs.RowMembers.{at_places}
-use Rattle.market_model.specs.LimitRows.{row_id}
 use Rattle.clear_loop.proofs.HandLemmas.{listed_limit, pushed}
 use Rattle.clear_loop.proofs.hand.put_limit.Goals as goal
 
@@ -19,4 +18,4 @@ returns-clause-listed c =
     IfOk-weaker c.push-3.result (λ _. c.push-3.new.self ≡ old.names ++ c.name_at-name.result ∷ []) _
     (λ _ named. listed_limit c.args.market.now old (record { takings = c.push.new.self; rows = c.push-2.new.self; names = c.push-3.new.self }) c.args.row c.requires.listed
     c.in_ok-push.ensures c.in_ok-push-2.ensures (named ∙ ap (λ (n : RowId). old.names ++ n ∷ []) c.name_at-name.ensures))
-    (pushed c.push-3.result c.push-3.ensures)
+    (pushed old.names c.push-3.new.self c.name_at-name.result c.push-3.result c.push-3.ensures)

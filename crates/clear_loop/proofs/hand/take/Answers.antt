@@ -1,5 +1,5 @@
-use Rattle.std.specs.Prelude.{ℕ, List, [], ◌∷◌, ◌++◌, Contains}
-use Rattle.std.proofs.Common.{◌⊎◌, sym, subst}
+use Rattle.std.specs.Prelude.{[], ◌∷◌, ◌++◌, Contains}
+use Rattle.std.proofs.Common.{◌⊎◌, subst}
 use Rattle.std.proofs.lemmas.Result.{IfErr-weaker}
 use Rattle.linear_dict.specs.Causes.{IsPairOf}
 use Rattle.linear_dict.specs.Dictionaries.{choice_of}

@@ -9,13 +9,13 @@ use Rattle.clear_loop.proofs.StopLemmas.{pair_stop}
 use Rattle.clear_loop.proofs.rounds.solved.Goals as goal
 
 pub repose-requires-clause-prices : goal.repose-requires-clause-prices
-repose-requires-clause-prices g c = prices_fit g.N.Exact.value c.args.market.now c.requires.0 c.args.posing.now c.requires.1.1 c.slice.result.now c.slice-2.result.now c.slice.ensures (c.slice-2.ensures ∙ c.in_ok-bounds.ensures) c.args.warm c.requires.1.0
+repose-requires-clause-prices g c = prices_fit g.N.Exact.value c.args.market.now c.requires.0 c.args.posing.now c.requires.2 c.slice.result.now c.slice-2.result.now c.slice.ensures (c.slice-2.ensures ∙ c.in_ok-bounds.ensures) c.args.warm c.requires.1
 
 pub repose-requires-clause-bounds : goal.repose-requires-clause-bounds
-repose-requires-clause-bounds g c = bounds_fit g.N.Exact.value c.args.market.now c.requires.0 c.args.posing.now c.requires.1.1 c.slice.result.now c.slice-2.result.now c.slice.ensures (c.slice-2.ensures ∙ c.in_ok-bounds.ensures) c.args.warm c.requires.1.0
+repose-requires-clause-bounds g c = bounds_fit g.N.Exact.value c.args.market.now c.requires.0 c.args.posing.now c.requires.2 c.slice.result.now c.slice-2.result.now c.slice.ensures (c.slice-2.ensures ∙ c.in_ok-bounds.ensures) c.args.warm c.requires.1
 
 pub repose-requires-clause-ordered : goal.repose-requires-clause-ordered
-repose-requires-clause-ordered g c = in_order g.N.Exact.value c.args.market.now c.requires.0 c.args.posing.now c.requires.1.1 c.slice.result.now c.slice-2.result.now c.slice.ensures (c.slice-2.ensures ∙ c.in_ok-bounds.ensures) c.args.warm c.requires.1.0 c.lines-lines.ensures.market
+repose-requires-clause-ordered g c = in_order g.N.Exact.value c.args.market.now c.requires.0 c.args.posing.now c.requires.2 c.slice.result.now c.slice-2.result.now c.slice.ensures (c.slice-2.ensures ∙ c.in_ok-bounds.ensures) c.args.warm c.requires.1 c.lines-lines.ensures.market
 
 pub returns-in_err-posed-clause-cause : goal.returns-in_err-posed-clause-cause
 returns-in_err-posed-clause-cause g c = λ ts start are.
@@ -29,7 +29,7 @@ pub solve-requires : goal.solve-requires
 solve-requires g c = record {
   holds = (
     c.requires.0,
-    posed_system g.N.Exact.value c.args.market.now c.requires.0 c.args.posing.now c.requires.1.1 c.slice.result.now c.slice-2.result.now c.slice.ensures (c.slice-2.ensures ∙ c.in_ok-bounds.ensures) c.args.warm c.requires.1.0 c.lines-lines.ensures.market
+    posed_system g.N.Exact.value c.args.market.now c.requires.0 c.args.posing.now c.requires.2 c.slice.result.now c.slice-2.result.now c.slice.ensures (c.slice-2.ensures ∙ c.in_ok-bounds.ensures) c.args.warm c.requires.1 c.lines-lines.ensures.market
         c.in_ok-posed.posed c.in_ok-posed.ensures.posed,
   );
 }

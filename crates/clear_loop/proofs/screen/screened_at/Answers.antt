@@ -4,7 +4,7 @@ use Rattle.std.specs.Prelude.{ℕ, List, MatchOption, Option}
 use Rattle.std.proofs.lemmas.Result.{err_from_is_err_and}
 use Rattle.fraction_theory.specs.Fraction.{Fraction}
 use Rattle.market_model.specs.declared.limits.Row.{Row}
-use Rattle.market_model.specs.Dispatch.{Dispatch, dispatch_with}
+use Rattle.market_model.specs.Dispatch.{dispatch_with}
 use Rattle.market_model.specs.Valued.{passed_at}
 use Rattle.market_model.specs.PutIn.{dispatch_of}
 use Rattle.market_model.proofs.StopLemmas.{on_passed_weaker}
@@ -18,7 +18,7 @@ use Rattle.clear_loop.specs.Rounds.{AllKept}
 use Rattle.clear_loop.proofs.BrokenLemmas.{all_kept, worst_at}
 use Rattle.clear_loop.proofs.screen.screened_at.Given.{Over}
 use Rattle.clear_loop.proofs.screen.screened_at.Goals as goal
-use Rattle.clear_loop.proofs.screen.screened_at.Goals.{After-deref-2}
+use Rattle.clear_loop.proofs.screen.screened_at.Goals.{After-deref-2, In-None}
 
 pub returns-in_err-by_place-clause-cause : goal.returns-in_err-by_place-clause-cause
 returns-in_err-by_place-clause-cause g c =
@@ -46,3 +46,53 @@ worst_row_by_parts-requires-clause-flows g c =
     let value = g.N.Exact.value in
     let x = dispatch_with (map value c.args.dispatch.now) (map value c.args.reserve.now) in
     sym (length-map c.deref-2.result.now value) ∙ flow_count c.args.market.now x (map value c.deref-2.result.now) (flows_are g (goal.at.worst_row_by_parts-requires-clause-flows g c).After-deref-2)
+
+pub returns-in_err-row-clause-cause : goal.returns-in_err-row-clause-cause
+returns-in_err-row-clause-cause g c =
+    let value = g.N.Exact.value in
+    let m = c.args.market.now in
+    let fs = flows_are g (goal.at.returns-in_err-row-clause-cause g c).After-deref-2 in
+    let p = err_from_is_err_and c.from_residual-in_err-row.result c.from_residual-in_err-row.ensures.1 in
+    let given : c.from_residual-in_err-row.result ≡ Err (stop.Passed c.in_err-row.field-0.0) = p.1 ∙ ap Err p.2 in
+    rw given (inr (inl (subst (λ (ys : List Fraction). IsScreenRefusal m (carried_at m ys) g.N.Exact.bound (passed_at value c.in_err-row.field-0.0)) fs c.in_err-row.ensures.cause)))
+
+pub returns-in-Some-clause-screened : goal.returns-in-Some-clause-screened
+returns-in-Some-clause-screened g c =
+    let value = g.N.Exact.value in
+    let m = c.args.market.now in
+    let x = dispatch_with (map value c.args.dispatch.now) (map value c.args.reserve.now) in
+    let f = carried_at m (map value c.deref-2.result.now) in
+    let taken = c.args.taken.now in
+    let worst = subst (λ (o : Option Row). MatchOption o (AllKeep m taken f) (IsWorstBy m taken f)) c.in-Some.is c.in_ok-row.ensures.worst in
+    (worst.0, worst_at m c.lines-lines.ensures.market taken x (map value c.deref-2.result.now) (flows_are g (goal.at.returns-in-Some-clause-screened g c).After-deref-2) worst.0 c.in-Some.row worst.1)
+
+-- where no limit is broken
+none_broken : (g : Over) (c : In-None g) → AllKept c.args.market.now c.args.taken.now (dispatch_with (map g.N.Exact.value c.args.dispatch.now) (map g.N.Exact.value c.args.reserve.now))
+none_broken g c =
+    let value = g.N.Exact.value in
+    let m = c.args.market.now in
+    let x = dispatch_with (map value c.args.dispatch.now) (map value c.args.reserve.now) in
+    let f = carried_at m (map value c.deref-2.result.now) in
+    let taken = c.args.taken.now in
+    all_kept m c.lines-lines.ensures.market taken x (map value c.deref-2.result.now) (flows_are g (goal.at.In-None g c).After-deref-2)
+    (subst (λ (o : Option Row). MatchOption o (AllKeep m taken f) (IsWorstBy m taken f)) c.in-None.is c.in_ok-row.ensures.worst)
+
+pub returns-in-Some-2-clause-screened : goal.returns-in-Some-2-clause-screened
+returns-in-Some-2-clause-screened g c =
+    let m = c.args.market.now in
+    let x = dispatch_with (map g.N.Exact.value c.args.dispatch.now) (map g.N.Exact.value c.args.reserve.now) in (
+      none_broken g (goal.at.returns-in-Some-2-clause-screened g c).In-None,
+      subst (λ (o : Option ℕ). MatchOption o (AllKeepRooms m x) (IsWorstRoom m x)) c.in-Some-2.is c.in_ok-unit-in-None.ensures.worst,
+    )
+
+pub returns-in-None-2-clause-screened : goal.returns-in-None-2-clause-screened
+returns-in-None-2-clause-screened g c =
+    let m = c.args.market.now in
+    let x = dispatch_with (map g.N.Exact.value c.args.dispatch.now) (map g.N.Exact.value c.args.reserve.now) in
+    let at = goal.at.returns-in-None-2-clause-screened g c in (
+      record {
+        limits = none_broken g at.In-None;
+        rooms = subst (λ (o : Option ℕ). MatchOption o (AllKeepRooms m x) (IsWorstRoom m x)) c.in-None-2.is c.in_ok-unit-in-None.ensures.worst;
+      },
+      ap (map g.N.Exact.value) (sym c.deref-2.ensures.value) ∙ flows_are g at.After-deref-2,
+    )
