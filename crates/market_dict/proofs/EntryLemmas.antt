@@ -1,16 +1,17 @@
 -- What blocks count in the rows of a dictionary, and the names of its variables.
-use Rattle.std.specs.Prelude.{◌≡◌, ◌≢◌, ℕ, ◌<◌, ◌+◌, ◌*◌, pos, length, AllPairs, Contains, Some}
+use Rattle.std.specs.Prelude.{◌≡◌, ℕ, ◌<◌, ◌+◌, ◌*◌, pos, length, Contains, Some}
 use Rattle.std.specs.List.{slice_get}
-use Rattle.std.proofs.Common.{arith, ap, ap₂, sym, ◌∙◌, get_or}
-use Rattle.std.proofs.lemmas.List.FromFn.{length-range_with_len, get_or-range_with_len}
+use Rattle.std.proofs.Common.{arith, ap, ap₂, sym, ◌∙◌}
 use Rattle.std.proofs.lemmas.Option.{slice_get_within, get_or_from_slice_get}
 use Rattle.fraction_theory.specs.Fraction.{Fraction, whole}
+use Rattle.fraction_theory.proofs.ListSums.{Contains-from_filter}
 use Rattle.market_model.specs.declared.participants.Block.{Block}
 use Rattle.market_model.specs.declared.participants.Parts.{Parts}
 use Rattle.market_model.specs.Dispatch.{places, signed_by_side, block_at}
 use Rattle.market_model.specs.declared.limits.Row.{Row}
 use Rattle.market_model.specs.LimitRows.{rows, unit_factor}
 use Rattle.market_model.specs.Market.{IsMarket}
+use Rattle.market_model.specs.Reserves.{offers_reserve, reserve_units}
 use Rattle.limit_rows.proofs.ApartLemmas.{names_apart}
 use Rattle.limit_rows.proofs.WalkLemmas.{rows_few}
 use Rattle.market_system.specs.MarketSystem.{row_name, over_name, block_sign, block_coefficient}
@@ -24,16 +25,9 @@ sign_entry m k block one entry at is e = e ∙ ap₂ (λ (b : Block) (x : Fracti
 pub row_entry_is : (m : Parts) (r : Row) (k : ℕ) (block : Block) → block ≡ block_at m k → signed_by_side block.side (unit_factor m r block.unit) ≡ block_coefficient m r k
 row_entry_is m r k block at = ap (λ (b : Block). signed_by_side b.side (unit_factor m r b.unit)) at
 
--- ---- the names of blocks and of the balance
-pub places_distinct : (n : ℕ) → AllPairs (λ x y. x ≢ y) (places n)
-places_distinct n i j d lt h e =
-    let long : length (places n) ≡ n = length-range_with_len 0 n in
-    let first : get_or (places n) i d ≡ 0 + i = get_or-range_with_len 0 n i d (Prim.omega (arith, lt, h, long)) in
-    let second : get_or (places n) j d ≡ 0 + j = get_or-range_with_len 0 n j d (Prim.omega (arith, h, long)) in
-    absurd (Prim.omega (arith, lt, first, second, e))
-
-pub place_absent : (n : ℕ) → ¬ (Contains (places n) n)
-place_absent n c = absurd (Prim.omega (arith, from_places n n c))
+-- the place of a unit that offers reserve
+pub unit_inside : (m : Parts) (u : ℕ) → Contains (reserve_units m) u → u < length m.units
+unit_inside m u c = from_places (length m.units) u (Contains-from_filter (offers_reserve m) (places (length m.units)) u c).0
 
 -- ---- the rows of a market
 -- all rows of a market are in its order

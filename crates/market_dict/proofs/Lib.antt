@@ -1,5 +1,14 @@
+pub mod ColumnLists
 pub mod EntryLemmas
+pub mod FlowLemmas
+pub mod HoldingLaws
+pub mod PosingLemmas
 pub mod ListedLemmas
 pub mod NameLists
+pub mod OfferLemmas
+pub mod OfferedPairs
 pub mod PutInLemmas
+pub mod ReadingLemmas
+pub mod RefusalLaws
+pub mod TakingLists
 pub mod TermLemmas

@@ -1,6 +1,6 @@
 -- Lists that are filled place by place.
 use Rattle.std.specs.Prelude.{◌≡◌, ℕ, ◌+◌, ◌<◌, ◌≤◌, List, [], ◌∷◌, ◌++◌, map, length, take, slice_index}
-use Rattle.std.proofs.Common.{suc, arith, ap, ap₂, sym, ◌∙◌, refl}
+use Rattle.std.proofs.Common.{suc, arith, ap, ap₂, sym, ◌∙◌, refl, append_assoc}
 use Rattle.std.proofs.lemmas.List.{map-append, take_more, take_all}
 use Rattle.std.specs.List.{Contains}
 use Rattle.market_model.specs.Dispatch.{places}
@@ -12,6 +12,12 @@ map-pushed value xs ys x y before here = map-append value xs (x ∷ []) ∙ ap�
 
 pub places_filled : {N Y : Type 0} (value : N → Y) (f : ℕ → Y) (xs : List N) (k : ℕ) (x : N) → map value xs ≡ map f (places k) → value x ≡ f k → map value (xs ++ x ∷ []) ≡ map f (places (k + 1))
 places_filled value f xs k x before here = map-pushed value xs (map f (places k)) x (f k) before here ∙ sym (ap (map f) (places_more k) ∙ map-append f (places k) (k ∷ []))
+
+-- the same behind other numbers
+pub filled_behind : {N Y : Type 0} (value : N → Y) (f : ℕ → Y) (ys : List Y) (xs : List N) (k : ℕ) (x : N) → map value xs ≡ ys ++ map f (places k) → value x ≡ f k → map value (xs ++ x ∷ []) ≡ ys ++ map f (places (k + 1))
+filled_behind {N} {Y} value f ys xs k x before here =
+    map-pushed value xs (ys ++ map f (places k)) x (f k) before here ∙ append_assoc ys (map f (places k)) (f k ∷ [])
+    ∙ ap (λ (zs : List Y). ys ++ zs) (sym (ap (map f) (places_more k) ∙ map-append f (places k) (k ∷ [])))
 
 -- the same over names, by rank
 pub names_filled : {N Y : Type 0} (value : N → Y) (f : ℕ → Y) (names : List ℕ) (xs : List N) (k : ℕ) (x : N) → k < length names → map value xs ≡ map f (take k names) → value x ≡ f (slice_index names k)

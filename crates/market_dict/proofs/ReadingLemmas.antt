@@ -31,23 +31,25 @@ use Rattle.simplex_core.specs.States.{state_of}
 use Rattle.simplex_core.proofs.StandLemmas.{choice_basic}
 use Rattle.simplex_theory.specs.Stuck.{multiplier, margin}
 use Rattle.market_model.specs.declared.answered.Dual.{Dual}
+use Rattle.market_model.specs.declared.answered.RoomDual.{RoomDual}
 use Rattle.market_model.specs.declared.participants.Parts.{Parts}
-use Rattle.market_model.specs.Dispatch.{places}
+use Rattle.market_model.specs.Dispatch.{places, unit_at}
 use Rattle.market_model.specs.declared.limits.Row.{Row}
 use Rattle.market_model.specs.LimitRows.{rows, row_id}
 use Rattle.market_model.specs.Market.{IsMarket}
-use Rattle.market_model.specs.Reserves.{no_reserve}
 use Rattle.market_model.specs.NamedSums.{IsRefusal}
-use Rattle.market_system.specs.MarketSystem.{name, block_columns, excess_columns, system_over, row_name, in_order, dual_by}
-use Rattle.market_dict.specs.EnergySystem.{row_variables, variables, variable_of, IsVariableOf}
+use Rattle.market_model.specs.Optimality.{Taken, all_of}
+use Rattle.market_system.specs.MarketSystem.{name, block_columns, excess_columns, offer_columns, energy_rows, reserve_rows, system_over, row_name, need_name, room_name, taken_in_order, dual_by, room_dual_by, variables, variable_of, IsVariableOf}
 use Rattle.market_system.specs.declared.variables.Variable.{Variable}
 use Rattle.market_system.specs.declared.variables.Variable.TheVariants as variable
+use Rattle.market_system.proofs.VariableLaws as law
 use Rattle.market_system.proofs.VariableLaws.{mapped, in_mapped, in_places}
-use Rattle.market_system.proofs.RowOrder.{in_order-from, row_place-below}
+use Rattle.market_system.proofs.RowOrder.{row_place-below}
 use Rattle.market_dict.specs.Holding.{HoldsMarket}
-use Rattle.market_dict.proofs.EnergyLists.{of_more, by_block, by_excess, by_row, limit_in, variable_is, is_variable, variable_at, variables_alone}
-use Rattle.market_dict.proofs.EntryLemmas.{all_ordered}
+use Rattle.market_dict.specs.Takings.{taken_of}
+use Rattle.market_dict.specs.declared.taking.Taking.{Taking}
 use Rattle.market_dict.proofs.HoldingLaws.{at_place}
+use Rattle.market_dict.proofs.TakingLists.{all_in_order, order_all}
 
 -- a number that was read, by rank
 pub cost_at : {N : Type 0} (value : N → Fraction) (cost : ℕ → Fraction) (xs : List N) (names : List ℕ) (k : ℕ) (x : N) → map value xs ≡ map cost names → k < length xs → x ≡ get_or xs k x → value x ≡ cost (slice_index names k)
@@ -58,25 +60,29 @@ cost_at value cost xs names k x same lt is =
     ∙ get_or-map cost names k 0 (whole (pos 0)) (Prim.omega (arith, lt, long))
 
 -- ---- the variables by rank
--- one whose name is before those of the columns of soft limits
-early : (m : Parts) (v : Variable) → IsVariableOf m (rows m) v → name m v < length m.blocks + 1 + length (rows m) → Contains (block_columns m ++ row_variables (rows m)) v
+-- those whose names are before the names of the columns of soft limits
+abbrev pub early_variables : Parts → List Variable
+early_variables m = block_columns m ++ energy_rows (all_of m)
+
+early : (m : Parts) (v : Variable) → IsVariableOf m (all_of m) v → name m v < length m.blocks + 1 + length (rows m) → Contains (early_variables m) v
 early m (variable.Block j) is lt =
-    Contains-append_left (block_columns m) (row_variables (rows m)) (variable.Block j) (in_mapped variable.Block (places (length m.blocks)) j (in_places (length m.blocks) j is))
-early m variable.Balance is lt = Contains-append_right (block_columns m) (row_variables (rows m)) variable.Balance (Contains-head variable.Balance (map variable.Limit (rows m)))
-early m (variable.Limit r) is lt = Contains-append_right (block_columns m) (row_variables (rows m)) (variable.Limit r) (limit_in m (rows m) r is)
+    Contains-append_left (block_columns m) (energy_rows (all_of m)) (variable.Block j) (in_mapped variable.Block (places (length m.blocks)) j (in_places (length m.blocks) j is))
+early m variable.Balance is lt = Contains-append_right (block_columns m) (energy_rows (all_of m)) variable.Balance (Contains-head variable.Balance (map variable.Limit (rows m)))
+early m (variable.Limit r) is lt =
+    Contains-append_right (block_columns m) (energy_rows (all_of m)) (variable.Limit r) (Contains-cons variable.Balance (map variable.Limit (rows m)) (variable.Limit r) (in_mapped variable.Limit (rows m) r is))
 early m (variable.Over r) is lt = absurd (Prim.omega (arith, lt))
 early m (variable.Under r) is lt = absurd (Prim.omega (arith, lt))
-early m (variable.Offer n) is lt = absurd is
-early m variable.Need is lt = absurd is
-early m (variable.Room u) is lt = absurd is
+early m (variable.Offer n) is lt = absurd (Prim.omega (arith, lt))
+early m variable.Need is lt = absurd (Prim.omega (arith, lt))
+early m (variable.Room u) is lt = absurd (Prim.omega (arith, lt))
 
-module _ (m : Parts) (g : List Row) (d : Dictionary) (market : IsMarket m) (alone : m.reserve ≡ no_reserve) (holds : HoldsMarket m g d) where
+module _ (m : Parts) (ts : List Taking) (d : Dictionary) (market : IsMarket m) (holds : HoldsMarket m ts d) where
   abbrev pub listed : List Variable
-  listed = variables m (in_order m g)
+  listed = variables m (taken_in_order m (taken_of ts))
 
   names_are : d.names ≡ map (name m) listed
   unfolding system_in system_over
-  names_are = holds.same.variables ∙ ap (map (name m)) (variables_alone m (in_order m g) alone)
+  names_are = holds.same.variables
 
   pub name_count : length d.names ≡ length listed
   name_count = ap length names_are ∙ length-map listed (name m)
@@ -87,32 +93,31 @@ module _ (m : Parts) (g : List Row) (d : Dictionary) (market : IsMarket m) (alon
   pub name_at_rank : (k : ℕ) → k < length d.names → slice_index d.names k ≡ name m (at_rank k)
   name_at_rank k lt = ap (λ (ws : List ℕ). slice_index ws k) names_are ∙ get_or-map (name m) listed k variable.Balance 0 (Prim.omega (arith, lt, name_count))
 
-  -- it is one over all rows of the market
-  pub rank_is : (k : ℕ) → k < length d.names → IsVariableOf m (rows m) (at_rank k)
+  -- it is one over all rows and rooms of the market
+  pub rank_is : (k : ℕ) → k < length d.names → IsVariableOf m (all_of m) (at_rank k)
   rank_is k lt =
-      of_more m (in_order m g) (rows m) (λ r c. (in_order-from m g r c).0) (at_rank k)
-      (variable_is m (in_order m g) (at_rank k) (at_place listed k variable.Balance (Prim.omega (arith, lt, name_count))))
+      order_all m ts (at_rank k) (law.variable_is m (taken_in_order m (taken_of ts)) (at_rank k) (at_place listed k variable.Balance (Prim.omega (arith, lt, name_count))))
 
-  pub rank_known : (k w : ℕ) → k < length d.names → w ≡ slice_index d.names k → w < length m.blocks + 1 + length (rows m) → Contains (map (name m) (block_columns m ++ row_variables (rows m))) w
+  pub rank_known : (k w : ℕ) → k < length d.names → w ≡ slice_index d.names k → w < length m.blocks + 1 + length (rows m) → Contains (map (name m) (early_variables m)) w
   rank_known k w lt at below =
       let is : w ≡ name m (at_rank k) = at ∙ name_at_rank k lt in
-      subst (Contains (map (name m) (block_columns m ++ row_variables (rows m)))) (sym is)
-      (in_mapped (name m) (block_columns m ++ row_variables (rows m)) (at_rank k) (early m (at_rank k) (rank_is k lt) (subst (λ (x : ℕ). x < length m.blocks + 1 + length (rows m)) is below)))
+      subst (Contains (map (name m) (early_variables m))) (sym is)
+      (in_mapped (name m) (early_variables m) (at_rank k) (early m (at_rank k) (rank_is k lt) (subst (λ (x : ℕ). x < length m.blocks + 1 + length (rows m)) is below)))
 
-  -- or a column of a soft limit, which costs nothing
+  -- or a column of a soft limit, or one of reserve
   pub rank_late : (k w : ℕ) → k < length d.names → w ≡ slice_index d.names k → length m.blocks + 1 + length (rows m) ≤ w → length m.blocks + 1 + length (rows m) ≤ name m (at_rank k)
   rank_late k w lt at behind = subst (λ (x : ℕ). length m.blocks + 1 + length (rows m) ≤ x) (at ∙ name_at_rank k lt) behind
 
-  rank_variable : (k : ℕ) → k < length d.names → variable_of m (rows m) (slice_index d.names k) ≡ at_rank k
-  rank_variable k lt = ap (variable_of m (rows m)) (name_at_rank k lt) ∙ variable_at m (rows m) (all_ordered m market) (at_rank k) (rank_is k lt)
+  rank_variable : (k : ℕ) → k < length d.names → variable_of m (all_of m) (slice_index d.names k) ≡ at_rank k
+  rank_variable k lt = ap (variable_of m (all_of m)) (name_at_rank k lt) ∙ law.variable_at m (all_of m) (all_in_order m market) (at_rank k) (rank_is k lt)
 
   -- as it was read
-  pub rank_read : (k w : ℕ) (read v : Variable) → k < length d.names → w ≡ slice_index d.names k → read ≡ variable_of m (rows m) w → read ≡ v → at_rank k ≡ v
-  rank_read k w read v lt at of is = sym (rank_variable k lt) ∙ ap (variable_of m (rows m)) (sym at) ∙ sym of ∙ is
+  pub rank_read : (k w : ℕ) (read v : Variable) → k < length d.names → w ≡ slice_index d.names k → read ≡ variable_of m (all_of m) w → read ≡ v → at_rank k ≡ v
+  rank_read k w read v lt at of is = sym (rank_variable k lt) ∙ ap (variable_of m (all_of m)) (sym at) ∙ sym of ∙ is
 
   -- so a limit of a rank is one of the market
-  pub rank_row : (k w : ℕ) (read : Variable) (r : Row) → k < length d.names → w ≡ slice_index d.names k → read ≡ variable_of m (rows m) w → read ≡ variable.Limit r → Contains (rows m) r
-  rank_row k w read r lt at of is = subst (IsVariableOf m (rows m)) (rank_read k w read (variable.Limit r) lt at of is) (rank_is k lt)
+  pub rank_row : (k w : ℕ) (read : Variable) (r : Row) → k < length d.names → w ≡ slice_index d.names k → read ≡ variable_of m (all_of m) w → read ≡ variable.Limit r → Contains (rows m) r
+  rank_row k w read r lt at of is = subst (IsVariableOf m (all_of m)) (rank_read k w read (variable.Limit r) lt at of is) (rank_is k lt)
 
   pub rank_inside : (k : ℕ) → k < length d.names → k < length listed
   rank_inside k lt = Prim.omega (arith, lt, name_count)
@@ -121,29 +126,118 @@ module _ (m : Parts) (g : List Row) (d : Dictionary) (market : IsMarket m) (alon
   pub rank_cost : {N : Type 0} (value : N → Fraction) (cost : ℕ → Fraction) (xs : List N) (k : ℕ) (x : N) (v : Variable) → map value xs ≡ map cost d.names → k < length xs → k < length d.names → x ≡ get_or xs k x → at_rank k ≡ v → value x ≡ cost (name m v)
   rank_cost value cost xs k x v same h lt at is = cost_at value cost xs d.names k x same h at ∙ ap cost (name_at_rank k lt ∙ ap (name m) is)
 
+  -- a name behind that of the need is that of a room, and one that is not is none
+  pub rank_room : (k w : ℕ) → k < length d.names → w ≡ slice_index d.names k → need_name m < w → (u : ℕ) × (at_rank k ≡ variable.Room u) × (w ≡ room_name m u)
+  rank_room k w lt at behind =
+      let is : w ≡ name m (at_rank k) = at ∙ name_at_rank k lt in
+      let r = room_behind m (at_rank k) (rank_is k lt) (subst (λ (x : ℕ). need_name m < x) is behind) in
+      (r.0, r.1, is ∙ ap (name m) r.1)
+    where
+      room_behind : (n : Parts) (v : Variable) → IsVariableOf n (all_of n) v → need_name n < name n v → (u : ℕ) × (v ≡ variable.Room u)
+      room_behind n (variable.Block j) h b = absurd (Prim.omega (arith, h, b))
+      room_behind n variable.Balance h b = absurd (Prim.omega (arith, b))
+      room_behind n (variable.Limit r) h b = absurd (Prim.omega (arith, row_place-below n r h, b))
+      room_behind n (variable.Over r) h b = absurd (Prim.omega (arith, row_place-below n r h.0, b))
+      room_behind n (variable.Under r) h b = absurd (Prim.omega (arith, row_place-below n r h.0, b))
+      room_behind n (variable.Offer i) h b = absurd (Prim.omega (arith, h, b))
+      room_behind n variable.Need h b = absurd (Prim.omega (arith, b))
+      room_behind n (variable.Room u) h b = (u, refl)
+
+  pub rank_no_room : (k w : ℕ) → k < length d.names → w ≡ slice_index d.names k → w ≤ need_name m → (u : ℕ) → at_rank k ≢ variable.Room u
+  rank_no_room k w lt at below u e = let is : w ≡ room_name m u = at ∙ name_at_rank k lt ∙ ap (name m) e in absurd (Prim.omega (arith, is, below))
+
 -- the variable of a name, by kind
 module _ (m : Parts) (market : IsMarket m) where
-  named_one : (v : Variable) → IsVariableOf m (rows m) v → (w : ℕ) → w ≡ name m v → v ≡ variable_of m (rows m) w
-  named_one v is w e = sym (ap (variable_of m (rows m)) e ∙ variable_at m (rows m) (all_ordered m market) v is)
+  named_one : (v : Variable) → IsVariableOf m (all_of m) v → (w : ℕ) → w ≡ name m v → v ≡ variable_of m (all_of m) w
+  named_one v is w e = sym (ap (variable_of m (all_of m)) e ∙ law.variable_at m (all_of m) (all_in_order m market) v is)
 
-  pub named_block : (w : ℕ) → w < length m.blocks → variable.Block w ≡ variable_of m (rows m) w
+  pub named_block : (w : ℕ) → w < length m.blocks → variable.Block w ≡ variable_of m (all_of m) w
   named_block w lt = named_one (variable.Block w) lt w refl
 
-  pub named_balance : (w : ℕ) → w ≡ length m.blocks → variable.Balance ≡ variable_of m (rows m) w
+  pub named_balance : (w : ℕ) → w ≡ length m.blocks → variable.Balance ≡ variable_of m (all_of m) w
   named_balance w e = named_one variable.Balance tt w e
 
-  pub named_limit : (w : ℕ) (r : Row) → Contains (rows m) r → w ≡ row_name m r → variable.Limit r ≡ variable_of m (rows m) w
+  pub named_limit : (w : ℕ) (r : Row) → Contains (rows m) r → w ≡ row_name m r → variable.Limit r ≡ variable_of m (all_of m) w
   named_limit w r c e = named_one (variable.Limit r) c w e
 
 -- a name before those of the columns of soft limits
-pub name_below : (m : Parts) (w : ℕ) → Contains (map (name m) (block_columns m ++ row_variables (rows m))) w → w < length m.blocks + 1 + length (rows m)
-name_below m w c = let v = mapped (name m) (block_columns m ++ row_variables (rows m)) w c in subst (λ (x : ℕ). x < length m.blocks + 1 + length (rows m)) v.2 (below v.0 v.1)
+pub name_below : (m : Parts) (w : ℕ) → Contains (map (name m) (early_variables m)) w → w < length m.blocks + 1 + length (rows m)
+name_below m w c = let v = mapped (name m) (early_variables m) w c in subst (λ (x : ℕ). x < length m.blocks + 1 + length (rows m)) v.2 (below v.0 v.1)
   where
-    below : (v : Variable) → Contains (block_columns m ++ row_variables (rows m)) v → name m v < length m.blocks + 1 + length (rows m)
-    below v k = elim (Contains-append_cases (block_columns m) (row_variables (rows m)) v k) [
-      | inl h ↦ by_block m (rows m) (λ (u : Variable). name m u < length m.blocks + 1 + length (rows m)) (λ j lt. Prim.omega (arith, lt)) v h
-      | inr h ↦ by_row m (rows m) (λ (u : Variable). name m u < length m.blocks + 1 + length (rows m)) (Prim.omega arith) (λ r q. Prim.omega (arith, row_place-below m r q)) v h
+    below : (v : Variable) → Contains (early_variables m) v → name m v < length m.blocks + 1 + length (rows m)
+    below v k = elim (Contains-append_cases (block_columns m) (energy_rows (all_of m)) v k) [
+      | inl h ↦ law.by_block m (all_of m) (λ (u : Variable). name m u < length m.blocks + 1 + length (rows m)) (λ j lt. Prim.omega (arith, lt)) v h
+      | inr h ↦ law.by_energy_row m (all_of m) (λ (u : Variable). name m u < length m.blocks + 1 + length (rows m)) (Prim.omega arith) (λ r q. Prim.omega (arith, row_place-below m r q)) v h
     ]
+
+-- ---- what is listed of variables in turn
+module _ {E : Type 0} (of : Variable → List E) where
+  abbrev pub listed_to : List Variable → ℕ → List E
+  listed_to vs k = flat_map of (take k vs)
+
+  listed_more : (vs : List Variable) (k : ℕ) → k < length vs → listed_to vs (k + 1) ≡ listed_to vs k ++ of (get_or vs k variable.Balance)
+  listed_more vs k lt =
+      let v : Variable = get_or vs k variable.Balance in
+      ap (flat_map of) (take_more vs k variable.Balance lt)
+      ∙ flat_map-append of (take k vs) (v ∷ [])
+      ∙ ap (λ (ds : List E). listed_to vs k ++ ds) (append-nil (of v))
+
+  -- with one rank more
+  pub listed_step : (vs : List Variable) (k : ℕ) (v : Variable) (old new es : List E) → k < length vs → get_or vs k variable.Balance ≡ v → old ≡ listed_to vs k → new ≡ old ++ es → es ≡ of v → new ≡ listed_to vs (k + 1)
+  listed_step vs k v old new es lt at before more is = more ∙ ap₂ (λ (ds fs : List E). ds ++ fs) before (is ∙ ap of (sym at)) ∙ sym (listed_more vs k lt)
+
+  none_listed : (vs : List Variable) → ((v : Variable) → Contains vs v → of v ≡ []) → flat_map of vs ≡ []
+  none_listed [] none = refl
+  none_listed (v ∷ vs) none =
+      flat_map-cons of v vs ∙ ap₂ (λ (ds es : List E). ds ++ es) (none v (Contains-head v vs)) (none_listed vs (λ u c. none u (Contains-cons v vs u c)))
+
+  -- of all variables: of limits where nothing else has any, or of rooms
+  module _ (m : Parts) (t : Taken) where
+    parts_listed : flat_map of (variables m t) ≡ flat_map of (block_columns m) ++ flat_map of (energy_rows t) ++ flat_map of (excess_columns m t.limits) ++ flat_map of (offer_columns m) ++ flat_map of (reserve_rows m t)
+    parts_listed =
+        flat_map-append of (block_columns m ++ energy_rows t ++ excess_columns m t.limits ++ offer_columns m) (reserve_rows m t)
+        ∙ ap (λ (ds : List E). ds ++ flat_map of (reserve_rows m t))
+        (flat_map-append of (block_columns m ++ energy_rows t ++ excess_columns m t.limits) (offer_columns m)
+        ∙ ap (λ (ds : List E). ds ++ flat_map of (offer_columns m))
+        (flat_map-append of (block_columns m ++ energy_rows t) (excess_columns m t.limits) ∙ ap (λ (ds : List E). ds ++ flat_map of (excess_columns m t.limits)) (flat_map-append of (block_columns m) (energy_rows t))))
+
+    module _ (block : (j : ℕ) → of (variable.Block j) ≡ []) (over : (r : Row) → of (variable.Over r) ≡ []) (under : (r : Row) → of (variable.Under r) ≡ []) (offer : (n : ℕ) → of (variable.Offer n) ≡ []) (balance : of variable.Balance ≡ [])
+        (need : of variable.Need ≡ []) where
+      no_blocks : flat_map of (block_columns m) ≡ []
+      no_blocks = none_listed (block_columns m) (law.by_block m t (λ (v : Variable). of v ≡ []) (λ j lt. block j))
+
+      no_excess : flat_map of (excess_columns m t.limits) ≡ []
+      no_excess = none_listed (excess_columns m t.limits) (law.by_excess m t (λ (v : Variable). of v ≡ []) (λ r c e. (over r, under r)))
+
+      no_offers : flat_map of (offer_columns m) ≡ []
+      no_offers = none_listed (offer_columns m) (law.by_offer m t (λ (v : Variable). of v ≡ []) (λ n lt. offer n))
+
+      pub limits_listed : (k : ℕ) → length (variables m t) ≤ k → ((u : ℕ) → of (variable.Room u) ≡ []) → listed_to (variables m t) k ≡ flat_map (λ r. of (variable.Limit r)) t.limits
+      limits_listed k h room =
+          let no_reserve : flat_map of (reserve_rows m t) ≡ [] = none_listed (reserve_rows m t) (law.by_reserve_row m t (λ (v : Variable). of v ≡ []) (λ e. need) (λ u c. room u)) in
+          let energy : flat_map of (energy_rows t) ≡ flat_map (λ r. of (variable.Limit r)) t.limits =
+          flat_map-cons of variable.Balance (map variable.Limit t.limits) ∙ ap₂ (λ (ds es : List E). ds ++ es) balance (flat_map-map of variable.Limit t.limits) in
+          ap (flat_map of) (take_all k (variables m t) h) ∙ parts_listed
+          ∙ ap₂ (λ (ds es : List E). ds ++ es)
+          (ap₂ (λ (ds es : List E). ds ++ es) (ap₂ (λ (ds es : List E). ds ++ es) (ap₂ (λ (ds es : List E). ds ++ es) no_blocks energy) no_excess ∙ append-nil _) no_offers ∙ append-nil _)
+          no_reserve
+          ∙ append-nil (flat_map (λ r. of (variable.Limit r)) t.limits)
+
+      pub rooms_listed : (k : ℕ) → length (variables m t) ≤ k → ((r : Row) → of (variable.Limit r) ≡ []) → listed_to (variables m t) k ≡ flat_map (λ u. of (variable.Room u)) t.rooms
+      rooms_listed k h limit =
+          let no_energy : flat_map of (energy_rows t) ≡ [] = none_listed (energy_rows t) (law.by_energy_row m t (λ (v : Variable). of v ≡ []) balance (λ r c. limit r)) in
+          let needs : List Variable = law.needs m.reserve.listed in
+          let reserve : flat_map of (reserve_rows m t) ≡ flat_map (λ u. of (variable.Room u)) t.rooms =
+          flat_map-append of needs (map variable.Room t.rooms)
+          ∙ ap₂ (λ (ds es : List E). ds ++ es) (none_listed needs (no_need m.reserve.listed)) (flat_map-map of variable.Room t.rooms) in
+          ap (flat_map of) (take_all k (variables m t) h) ∙ parts_listed
+          ∙ ap₂ (λ (ds es : List E). ds ++ es)
+          (ap₂ (λ (ds es : List E). ds ++ es) (ap₂ (λ (ds es : List E). ds ++ es) (ap₂ (λ (ds es : List E). ds ++ es) no_blocks no_energy) no_excess) no_offers)
+          reserve
+        where
+          no_need : (b : Bool) (v : Variable) → Contains (law.needs b) v → of v ≡ []
+          no_need true v c = elim (Contains-cases variable.Need [] v c) [ inl e ↦ subst (λ (u : Variable). of u ≡ []) e need | inr n ↦ absurd (Prim.omega (arith, n.1)) ]
+          no_need false v c = absurd (Prim.omega (arith, c.1))
 
 -- ---- the duals of variables by what a MW costs on each
 module _ (m : Parts) (cost : ℕ → Fraction) where
@@ -157,46 +251,43 @@ module _ (m : Parts) (cost : ℕ → Fraction) where
   dual_of variable.Need = []
   dual_of (variable.Room u) = []
 
-  -- those of the columns of soft limits are none
-  pub late_nothing : (v : Variable) → IsVariableOf m (rows m) v → length m.blocks + 1 + length (rows m) ≤ name m v → (dual_of v ≡ []) × (v ≢ variable.Balance)
+  -- those of the columns of soft limits and of reserve are none
+  pub late_nothing : (v : Variable) → IsVariableOf m (all_of m) v → length m.blocks + 1 + length (rows m) ≤ name m v → (dual_of v ≡ []) × (v ≢ variable.Balance)
   late_nothing (variable.Block j) is late = absurd (Prim.omega (arith, is, late))
   late_nothing variable.Balance is late = absurd (Prim.omega (arith, late))
   late_nothing (variable.Limit r) is late = absurd (Prim.omega (arith, row_place-below m r is, late))
   late_nothing (variable.Over r) is late = (refl, λ e. absurd Prim.cc)
   late_nothing (variable.Under r) is late = (refl, λ e. absurd Prim.cc)
-  late_nothing (variable.Offer n) is late = absurd is
-  late_nothing variable.Need is late = absurd is
-  late_nothing (variable.Room u) is late = absurd is
+  late_nothing (variable.Offer n) is late = (refl, λ e. absurd Prim.cc)
+  late_nothing variable.Need is late = (refl, λ e. absurd Prim.cc)
+  late_nothing (variable.Room u) is late = (refl, λ e. absurd Prim.cc)
 
-  abbrev pub duals_to : List Variable → ℕ → List (Dual Fraction)
-  duals_to vs k = flat_map dual_of (take k vs)
+  pub duals_all : (t : Taken) (k : ℕ) → length (variables m t) ≤ k → listed_to dual_of (variables m t) k ≡ flat_map (λ r. dual_of (variable.Limit r)) t.limits
+  duals_all t k h = limits_listed dual_of m t (λ j. refl) (λ r. refl) (λ r. refl) (λ n. refl) refl refl k h (λ u. refl)
 
-  duals_more : (vs : List Variable) (k : ℕ) → k < length vs → duals_to vs (k + 1) ≡ duals_to vs k ++ dual_of (get_or vs k variable.Balance)
-  duals_more vs k lt =
-      let v : Variable = get_or vs k variable.Balance in
-      ap (flat_map dual_of) (take_more vs k variable.Balance lt)
-      ∙ flat_map-append dual_of (take k vs) (v ∷ [])
-      ∙ ap (λ (ds : List (Dual Fraction)). duals_to vs k ++ ds) (append-nil (dual_of v))
+  -- the prices of rooms
+  abbrev pub room_dual_of : Variable → List (RoomDual Fraction)
+  room_dual_of (variable.Block j) = []
+  room_dual_of variable.Balance = []
+  room_dual_of (variable.Limit r) = []
+  room_dual_of (variable.Over r) = []
+  room_dual_of (variable.Under r) = []
+  room_dual_of (variable.Offer n) = []
+  room_dual_of variable.Need = []
+  room_dual_of (variable.Room u) = room_dual_by (unit_at m u).row (cost (room_name m u)) (sign_of (cost (room_name m u)))
 
-  -- with one rank more
-  pub limits_step : (vs : List Variable) (k : ℕ) (v : Variable) (old new es : List (Dual Fraction)) → k < length vs → get_or vs k variable.Balance ≡ v → old ≡ duals_to vs k → new ≡ old ++ es → es ≡ dual_of v → new ≡ duals_to vs (k + 1)
-  limits_step vs k v old new es lt at before more is = more ∙ ap₂ (λ (ds fs : List (Dual Fraction)). ds ++ fs) before (is ∙ ap dual_of (sym at)) ∙ sym (duals_more vs k lt)
+  pub no_room_dual : (v : Variable) → ((u : ℕ) → v ≢ variable.Room u) → room_dual_of v ≡ []
+  no_room_dual (variable.Block j) other = refl
+  no_room_dual variable.Balance other = refl
+  no_room_dual (variable.Limit r) other = refl
+  no_room_dual (variable.Over r) other = refl
+  no_room_dual (variable.Under r) other = refl
+  no_room_dual (variable.Offer n) other = refl
+  no_room_dual variable.Need other = refl
+  no_room_dual (variable.Room u) other = absurd (other u refl)
 
-  no_duals : (vs : List Variable) → ((v : Variable) → Contains vs v → dual_of v ≡ []) → flat_map dual_of vs ≡ []
-  no_duals [] none = refl
-  no_duals (v ∷ vs) none =
-      flat_map-cons dual_of v vs ∙ ap₂ (λ (ds es : List (Dual Fraction)). ds ++ es) (none v (Contains-head v vs)) (no_duals vs (λ u c. none u (Contains-cons v vs u c)))
-
-  pub duals_all : (rs : List Row) (k : ℕ) → length (variables m rs) ≤ k → duals_to (variables m rs) k ≡ flat_map (λ r. dual_of (variable.Limit r)) rs
-  duals_all rs k h =
-      ap (flat_map dual_of) (take_all k (variables m rs) h)
-      ∙ flat_map-append dual_of (block_columns m ++ row_variables rs) (excess_columns m rs)
-      ∙ ap (λ (ds : List (Dual Fraction)). flat_map dual_of (block_columns m ++ row_variables rs) ++ ds) (no_duals (excess_columns m rs) (by_excess m rs (λ (v : Variable). dual_of v ≡ []) (λ r c e. (refl, refl))))
-      ∙ append-nil (flat_map dual_of (block_columns m ++ row_variables rs))
-      ∙ flat_map-append dual_of (block_columns m) (row_variables rs)
-      ∙ ap (λ (ds : List (Dual Fraction)). ds ++ flat_map dual_of (row_variables rs)) (no_duals (block_columns m) (by_block m rs (λ (v : Variable). dual_of v ≡ []) (λ j lt. refl)))
-      ∙ flat_map-cons dual_of variable.Balance (map variable.Limit rs)
-      ∙ flat_map-map dual_of variable.Limit rs
+  pub room_duals_all : (t : Taken) (k : ℕ) → length (variables m t) ≤ k → listed_to room_dual_of (variables m t) k ≡ flat_map (λ u. room_dual_of (variable.Room u)) t.rooms
+  room_duals_all t k h = rooms_listed room_dual_of m t (λ j. refl) (λ r. refl) (λ r. refl) (λ n. refl) refl refl k h (λ r. refl)
 
   -- where the balance is among the first
   pub energy_step : {E : Type 0} (vs : List Variable) (k : ℕ) (v : Variable) → k < length vs → get_or vs k variable.Balance ≡ v → v ≢ variable.Balance → (Contains (take k vs) variable.Balance → E) → Contains (take (k + 1) vs) variable.Balance → E
@@ -206,8 +297,8 @@ module _ (m : Parts) (cost : ℕ → Fraction) where
         | inr h ↦ elim (Contains-cases (get_or vs k variable.Balance) [] variable.Balance h) [ inl e ↦ absurd (other (sym at ∙ e)) | inr n ↦ absurd (Prim.omega (arith, n.1)) ]
       ]
 
-  pub balance_all : (rs : List Row) (k : ℕ) → length (variables m rs) ≤ k → Contains (take k (variables m rs)) variable.Balance
-  balance_all rs k h = subst (λ (us : List Variable). Contains us variable.Balance) (sym (take_all k (variables m rs) h)) (is_variable m rs variable.Balance tt)
+  pub balance_all : (t : Taken) (k : ℕ) → length (variables m t) ≤ k → Contains (take k (variables m t)) variable.Balance
+  balance_all t k h = subst (λ (us : List Variable). Contains us variable.Balance) (sym (take_all k (variables m t) h)) (law.is_variable m t variable.Balance tt)
 
 -- ---- the multipliers of a stuck variable
 not_eqb : (a b : ℕ) → a ≢ b → a == b ≡ false

@@ -1,19 +1,49 @@
 //! The prices and bounds of offers of reserve, of its need and of rooms.
 
-ghost use Rattle.std.specs.Prelude.{◌≡◌, pos, ◌≤ℤ◌, List, [], ◌∷◌, ◌++◌, length, map, Contains, IfOk, IfErr};
+ghost use Rattle.std.specs.Prelude.{◌≡◌, ◌<◌, pos, ◌≤ℤ◌, [], ◌∷◌, ◌++◌, length, map, Contains, IfOk, IfErr};
+ghost use Rattle.fraction_theory.specs.Fraction.{whole};
+ghost use Rattle.market_data.specs.Participants.{IsDatum};
 ghost use Rattle.market_model.specs.NamedSums.{IsRefusedIn};
 ghost use Rattle.market_model.specs.Reserves.{reserve_units};
 ghost use Rattle.market_model.specs.Valued.{passed_at};
 ghost use Rattle.market_system.specs.declared.variables.Variable.TheVariants as variable;
+ghost use Rattle.market_model.specs.Dispatch.{unit_at};
 ghost use Rattle.market_system.specs.MarketSystem.{reserve_offered, objective_price, offer_columns, low, high};
 ghost use Rattle.market_dict.specs.PricesAndBounds.{AreBounds};
 ghost use Rattle.market_dict.specs.Refusals.{offered_terms};
 
 use exact_fraction::{Exact, Passed, exact_sum};
-use market_model::{Market, datum};
+use market_model::{Market, Reserve, ReserveOffer, datum};
 use plain_list::{List, Memory};
 use simplex_core::Bounds;
 use std::cmp::Ordering;
+
+/// The price of an offer, in 10^-6 per MWh.
+#[tactic(auto, using(market_data::proofs::Data::datum_read))]
+fn offer_price<N: Exact>(offer: &ReserveOffer) -> N
+    requires { IsDatum offer.now.price }
+    ensures { N.value result ≡ whole offer.now.price }
+{
+    datum(offer.price)
+}
+
+/// All that an offer has, in 10^-9 MW.
+#[tactic(auto, using(market_data::proofs::Data::datum_read))]
+fn offer_quantity<N: Exact>(offer: &ReserveOffer) -> N
+    requires { pos 0 ≤ℤ offer.now.quantity }
+    ensures { N.value result ≡ whole offer.now.quantity }
+{
+    datum(offer.quantity)
+}
+
+/// How much reserve is needed, in 10^-9 MW.
+#[tactic(auto, using(market_data::proofs::Data::datum_read))]
+fn need_of<N: Exact>(reserve: &Reserve) -> N
+    requires { pos 0 ≤ℤ reserve.now.need }
+    ensures { N.value result ≡ whole reserve.now.need }
+{
+    datum(reserve.need)
+}
 
 /// Adds what a MW of each offer is worth: the opposite of its price.
 pub(crate) fn push_offer_prices<N: Exact>(
@@ -23,7 +53,7 @@ pub(crate) fn push_offer_prices<N: Exact>(
     ensures { IfOk result (λ _. map N.value prices.new ≡ map N.value prices.old ++ map (objective_price market.now) (offer_columns market.now)) }
 {
     for offer in market.reserve().offers.slice() {
-        let price: N = datum(offer.price);
+        let price: N = offer_price(offer);
         prices.push(price.neg())?;
     }
     Ok(())
@@ -39,7 +69,7 @@ pub(crate) fn push_offer_bounds<N: Exact>(
 {
     let low: N = datum(0);
     for offer in market.reserve().offers.slice() {
-        let high = datum(offer.quantity);
+        let high = offer_quantity(offer);
         bounds.push(Bounds { low, high })?;
     }
     Ok(())
@@ -52,7 +82,7 @@ fn offered<N: Exact>(market: &Market) -> Result<N, Passed<N>>
 {
     let mut mw: N = datum(0);
     for offer in market.reserve().offers.slice() {
-        mw = exact_sum(mw, datum(offer.quantity))?;
+        mw = exact_sum(mw, offer_quantity(offer))?;
     }
     Ok(mw)
 }
@@ -62,13 +92,32 @@ pub(crate) fn need_bounds<N: Exact>(market: &Market) -> Result<Bounds<N>, Passed
     ensures bounds { IfOk result (λ bounds. AreBounds N.value market.now (variable.Need ∷ []) (bounds ∷ [])) }
     ensures cause { IfErr result (λ passed. IsRefusedIn (offered_terms market.now) N.bound (passed_at N.value passed)) }
 {
-    let need: N = datum(market.reserve().need);
+    let need: N = need_of(market.reserve());
     let offered = offered(market)?;
     let high = match offered.order(need) {
         Ordering::Less => need,
-        Ordering::Equal | Ordering::Greater => offered,
+        Ordering::Equal => offered,
+        Ordering::Greater => offered,
     };
     Ok(Bounds { low: need, high })
+}
+
+/// By how much a unit may raise its fixed part in all, in 10^-9 MW.
+#[tactic(auto, using(market_data::proofs::Data::datum_read))]
+fn room_up<N: Exact>(market: &Market, unit: usize) -> N
+    requires { unit < length market.now.units }
+    ensures { N.value result ≡ whole (unit_at market.now unit).up }
+{
+    datum(market.units().at(unit).up)
+}
+
+/// By how much it may lower it.
+#[tactic(auto, using(market_data::proofs::Data::datum_read))]
+fn room_down<N: Exact>(market: &Market, unit: usize) -> N
+    requires { unit < length market.now.units }
+    ensures { N.value result ≡ whole (unit_at market.now unit).down }
+{
+    datum(market.units().at(unit).down)
 }
 
 /// The bounds of what a unit uses of its room: by how much it may lower its fixed part, and raise it.
@@ -76,10 +125,10 @@ pub(crate) fn room_bounds<N: Exact>(market: &Market, unit: usize) -> Bounds<N>
     requires { Contains (reserve_units market.now) unit }
     ensures { AreBounds N.value market.now (variable.Room unit ∷ []) (result ∷ []) }
 {
-    let unit = market.units().at(unit);
-    let down: N = datum(unit.down);
+    let _lines = market.lines();
+    let down: N = room_down(market, unit);
     Bounds {
         low: down.neg(),
-        high: datum(unit.up),
+        high: room_up(market, unit),
     }
 }

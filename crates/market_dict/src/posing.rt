@@ -230,7 +230,7 @@ fn take_limit_bounds<N: Exact>(
     Ok(())
 }
 
-/// The same with one limit or room more: its bounds, and the prices and bounds of the columns of a soft limit.
+/// Takes a limit or a room into prices and bounds: its bounds, and the prices and bounds of the columns of a soft limit.
 pub fn take_bounds<N: Exact>(
     market: &Market,
     posing: &mut PricesAndBounds<N>,

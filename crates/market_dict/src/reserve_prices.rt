@@ -65,6 +65,7 @@ pub(crate) fn room_prices<N: Exact>(
     ensures { (ts : List Taking) (cost : ℕ → Fraction) → HoldsMarket market.now ts dict.now → map N.value costs.now ≡ map cost dict.now.names
         → IfOk result (λ rooms. map (room_dual_at N.value) rooms ≡ (duals_by_cost market.now (taken_of ts) cost).rooms) }
 {
+    let _lines = market.lines();
     let need = need_name(market);
     let mut rooms = List::new(alloc);
     for rank in 0..costs.len() {

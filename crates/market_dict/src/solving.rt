@@ -1,4 +1,4 @@
-//! From a posed dictionary of a market to a best dispatch for the limits taken, or to duals that show that none is feasible.
+//! From a posed dictionary of a market to a best dispatch for the limits and rooms taken, or to duals that show that none is feasible.
 
 ghost use Rattle.std.specs.Prelude.{List, IfOk, IfErr};
 ghost use Rattle.linear_dict.specs.Dictionaries.{system_in};

@@ -1,16 +1,15 @@
 use Rattle.std.proofs.Common.{◌≡◌, ◌<◌, ◌∙◌, ◌+◌, ℕ, ap, sym, subst, arith, length}
-use Rattle.market_model.specs.LimitRows.{rows}
-use Rattle.market_system.specs.MarketSystem.{name}
-use Rattle.market_dict.specs.EnergySystem.{IsVariableOf}
-use Rattle.market_system.specs.declared.variables.Variable.TheVariants.{Over, Under}
-use Rattle.market_dict.proofs.EntryLemmas.{name_at_place, over_small}
+use Rattle.market_model.specs.Optimality.{all_of}
+use Rattle.market_system.specs.MarketSystem.{name, IsVariableOf}
+use Rattle.market_system.specs.declared.variables.Variable.TheVariants.{Over, Under, Room}
+use Rattle.market_dict.proofs.EntryLemmas.{name_at_place, over_small, unit_inside}
 use Rattle.limit_rows.proofs.WalkLemmas.{rows_few}
 use Rattle.market_dict.proofs.names.name_of.Goals as goal
 
 pub overflow_cast-result : goal.overflow_cast-result
 overflow_cast-result c =
     let m = c.args.market.now in
-    let inside : c.in-Block.place < length m.blocks = subst (IsVariableOf m (rows m)) c.in-Block.is c.requires in
+    let inside : c.in-Block.place < length m.blocks = subst (IsVariableOf m (all_of m)) c.in-Block.is c.requires in
     omega (arith, inside, c.lines-lines.ensures.market.block_count)
 
 pub overflow_add-result-in-Limit : goal.overflow_add-result-in-Limit
@@ -39,17 +38,69 @@ returns-in-Limit c =
 pub overflow_cast-result-in-Over : goal.overflow_cast-result-in-Over
 overflow_cast-result-in-Over c =
     let m = c.args.market.now in
-    let here : IsVariableOf m (rows m) (Over c.in-Over.row) = subst (IsVariableOf m (rows m)) c.in-Over.is c.requires in
+    let here : IsVariableOf m (all_of m) (Over c.in-Over.row) = subst (IsVariableOf m (all_of m)) c.in-Over.is c.requires in
     omega (arith, over_small m c.lines-lines.ensures.market c.in-Over.row here.0, c.over_name.ensures)
 
 pub overflow_add-result-in-Under : goal.overflow_add-result-in-Under
 overflow_add-result-in-Under c =
     let m = c.args.market.now in
-    let here : IsVariableOf m (rows m) (Under c.in-Under.row) = subst (IsVariableOf m (rows m)) c.in-Under.is c.requires in
+    let here : IsVariableOf m (all_of m) (Under c.in-Under.row) = subst (IsVariableOf m (all_of m)) c.in-Under.is c.requires in
     omega (arith, over_small m c.lines-lines.ensures.market c.in-Under.row here.0, c.over_name-in-Under.ensures)
 
 pub overflow_cast-result-in-Under : goal.overflow_cast-result-in-Under
 overflow_cast-result-in-Under c =
     let m = c.args.market.now in
-    let here : IsVariableOf m (rows m) (Under c.in-Under.row) = subst (IsVariableOf m (rows m)) c.in-Under.is c.requires in
+    let here : IsVariableOf m (all_of m) (Under c.in-Under.row) = subst (IsVariableOf m (all_of m)) c.in-Under.is c.requires in
     omega (arith, over_small m c.lines-lines.ensures.market c.in-Under.row here.0, c.over_name-in-Under.ensures)
+
+pub overflow_mul-result : goal.overflow_mul-result
+overflow_mul-result c = omega (arith, rows_few c.args.market.now c.lines-lines.ensures.market, c.count.ensures)
+
+pub overflow_add-result-in-Offer-2 : goal.overflow_add-result-in-Offer-2
+overflow_add-result-in-Offer-2 c =
+    let m = c.args.market.now in
+    let market = c.lines-lines.ensures.market in
+    let blocks : c.len-blocks.result ≡ length m.blocks = c.len-blocks.ensures ∙ ap length c.blocks-2.ensures.list in
+    omega (arith, rows_few m market, market.block_count, blocks, c.count.ensures)
+
+pub overflow_add-result-in-Offer-3 : goal.overflow_add-result-in-Offer-3
+overflow_add-result-in-Offer-3 c =
+    let m = c.args.market.now in
+    let market = c.lines-lines.ensures.market in
+    let inside : c.in-Offer.place < length m.reserve.offers = subst (IsVariableOf m (all_of m)) c.in-Offer.is c.requires in
+    let blocks : c.len-blocks.result ≡ length m.blocks = c.len-blocks.ensures ∙ ap length c.blocks-2.ensures.list in
+    omega (arith, inside, rows_few m market, market.block_count, market.reserve.count, blocks, c.count.ensures)
+
+pub overflow_cast-result-in-Offer : goal.overflow_cast-result-in-Offer
+overflow_cast-result-in-Offer c =
+    let m = c.args.market.now in
+    let market = c.lines-lines.ensures.market in
+    let inside : c.in-Offer.place < length m.reserve.offers = subst (IsVariableOf m (all_of m)) c.in-Offer.is c.requires in
+    let blocks : c.len-blocks.result ≡ length m.blocks = c.len-blocks.ensures ∙ ap length c.blocks-2.ensures.list in
+    omega (arith, inside, rows_few m market, market.block_count, market.reserve.count, blocks, c.count.ensures)
+
+pub overflow_cast-result-in-Need : goal.overflow_cast-result-in-Need
+overflow_cast-result-in-Need c =
+    let m = c.args.market.now in
+    let market = c.lines-lines.ensures.market in
+    omega (arith, rows_few m market, market.block_count, market.reserve.count, c.need_name.ensures)
+
+pub overflow_add-result-in-Room : goal.overflow_add-result-in-Room
+overflow_add-result-in-Room c =
+    let m = c.args.market.now in
+    let market = c.lines-lines.ensures.market in
+    omega (arith, rows_few m market, market.block_count, market.reserve.count, c.need_name-in-Room.ensures)
+
+pub overflow_add-result-in-Room-2 : goal.overflow_add-result-in-Room-2
+overflow_add-result-in-Room-2 c =
+    let m = c.args.market.now in
+    let market = c.lines-lines.ensures.market in
+    let here : IsVariableOf m (all_of m) (Room c.in-Room.unit) = subst (IsVariableOf m (all_of m)) c.in-Room.is c.requires in
+    omega (arith, unit_inside m c.in-Room.unit here, rows_few m market, market.block_count, market.unit_count, market.reserve.count, c.need_name-in-Room.ensures)
+
+pub overflow_cast-result-in-Room : goal.overflow_cast-result-in-Room
+overflow_cast-result-in-Room c =
+    let m = c.args.market.now in
+    let market = c.lines-lines.ensures.market in
+    let here : IsVariableOf m (all_of m) (Room c.in-Room.unit) = subst (IsVariableOf m (all_of m)) c.in-Room.is c.requires in
+    omega (arith, unit_inside m c.in-Room.unit here, rows_few m market, market.block_count, market.unit_count, market.reserve.count, c.need_name-in-Room.ensures)

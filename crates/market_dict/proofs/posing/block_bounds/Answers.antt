@@ -6,7 +6,7 @@ use Rattle.market_model.specs.Dispatch.{places, quantity, zero}
 use Rattle.simplex_core.specs.declared.bounds.Bounds.{Bounds}
 use Rattle.market_dict.proofs.ListedLemmas.{places_filled}
 use Rattle.market_dict.proofs.TermLemmas.{quantity_read}
-use Rattle.market_dict.proofs.ColumnLists.{mapped_none}
+use Rattle.market_dict.proofs.ColumnLists.{mapped_blocks}
 use Rattle.market_system.specs.MarketSystem.{low as low_of, high as high_of}
 use Rattle.market_dict.proofs.posing.block_bounds.Goals as goal
 
@@ -41,7 +41,7 @@ returns-clause-lows g c =
     let low = λ (b : Bounds g.row.N.Denot). g.N.Exact.value b.low in
     let blocks = c.slice-block-items.ensures ∙ c.blocks-2.ensures.list in
     let all : c.loop-block.block-index ≡ length m.blocks = omega (arith, ap length blocks) in
-    subst (λ (n : ℕ). map low c.loop-block.bounds ≡ map (λ j. zero) (places n)) all c.loop-block.invariant.lows ∙ sym (mapped_none m (low_of m))
+    subst (λ (n : ℕ). map low c.loop-block.bounds ≡ map (λ j. zero) (places n)) all c.loop-block.invariant.lows ∙ sym (mapped_blocks m (low_of m))
 
 pub returns-clause-highs : goal.returns-clause-highs
 returns-clause-highs g c =
@@ -49,4 +49,4 @@ returns-clause-highs g c =
     let high = λ (b : Bounds g.row.N.Denot). g.N.Exact.value b.high in
     let blocks = c.slice-block-items.ensures ∙ c.blocks-2.ensures.list in
     let all : c.loop-block.block-index ≡ length m.blocks = omega (arith, ap length blocks) in
-    subst (λ (n : ℕ). map high c.loop-block.bounds ≡ map (quantity m) (places n)) all c.loop-block.invariant.highs ∙ sym (mapped_none m (high_of m))
+    subst (λ (n : ℕ). map high c.loop-block.bounds ≡ map (quantity m) (places n)) all c.loop-block.invariant.highs ∙ sym (mapped_blocks m (high_of m))

@@ -6,7 +6,7 @@ use Rattle.market_model.specs.Dispatch.{places}
 use Rattle.market_model.specs.Optimality.{block_value}
 use Rattle.market_dict.proofs.ListedLemmas.{places_filled}
 use Rattle.market_dict.proofs.TermLemmas.{priced}
-use Rattle.market_dict.proofs.ColumnLists.{mapped_none}
+use Rattle.market_dict.proofs.ColumnLists.{mapped_blocks}
 use Rattle.market_system.specs.MarketSystem.{objective_price}
 use Rattle.market_dict.proofs.posing.block_prices.Goals as goal
 
@@ -25,4 +25,4 @@ returns g c =
     let m = c.args.market.now in
     let blocks = c.slice-block-items.ensures ∙ c.blocks-2.ensures.list in
     let all : c.loop-block.block-index ≡ length m.blocks = omega (arith, ap length blocks) in
-    subst (λ (n : ℕ). map g.N.Exact.value c.loop-block.prices ≡ map (block_value m) (places n)) all c.loop-block.invariant ∙ sym (mapped_none m (objective_price m))
+    subst (λ (n : ℕ). map g.N.Exact.value c.loop-block.prices ≡ map (block_value m) (places n)) all c.loop-block.invariant ∙ sym (mapped_blocks m (objective_price m))
