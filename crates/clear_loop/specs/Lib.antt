@@ -1,4 +1,3 @@
-pub mod Bounding
 pub mod Clearing
 pub mod Faults
 pub mod Keeping

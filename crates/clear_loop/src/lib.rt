@@ -4,7 +4,6 @@
 #![tactic(auto)]
 
 mod answering;
-mod bounding;
 mod clearer;
 mod fault;
 mod hand;
