@@ -21,7 +21,7 @@ use plain_list::Memory;
 use std::alloc::Global;
 use std::marker::Model;
 
-/// Clears markets of one frame, one after another: those that come of one market by edits of its prices, quantities, loads and limits. Each
+/// Clears markets of one frame, one after another: those that come of one market by edits of its prices, quantities, loads, limits and need. Each
 /// clear starts from the limits and rooms that the one before it took, with its dictionary, at the prices and bounds of the market handed in.
 #[derive(Drop)]
 pub struct Clearer<N: Exact> {

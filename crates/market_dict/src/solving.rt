@@ -27,8 +27,8 @@ pub enum Found<N: Exact> {
         dispatch: List<N>,
         reserve: List<N>,
     },
-    /// No dispatch of the market is feasible: these duals show it. Their bound is at most the margin, in 10^-9 MW, which is below 0, and
-    /// in a market of energy alone it is just that.
+    /// No dispatch of the market is feasible: these duals show it. Their bound is at most the margin, in 10^-9 MW, and in a market
+    /// of energy alone it is just that.
     Nothing {
         dict: Dict<N>,
         duals: Duals<N>,
