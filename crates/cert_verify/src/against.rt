@@ -22,7 +22,7 @@ use crate::duals::{missing_row, negative_price, slack_price};
 use crate::limits::broken_limit;
 use crate::naming::named_rows;
 use crate::unpriced::unpriced_row;
-use cert_sums::{carried_flows, farkas_bound, injections, unit_price};
+use cert_sums::{NamedRoom, carried_flows, farkas_bound, injections, unit_price};
 use exact_fraction::Exact;
 use market_model::{Dual, List, Market, Memory, Stop, balance, datum};
 use std::alloc::Global;
@@ -158,7 +158,8 @@ fn wrong_bound<N: Exact>(
         Ok(named) => named,
         Err(Memory) => return Err(Stop::Memory),
     };
-    let bound = farkas_bound(alloc, market, energy, named.slice(), datum(0), &[])?;
+    let rooms: List<NamedRoom<N>> = List::new(alloc);
+    let bound = farkas_bound(alloc, market, energy, named.slice(), datum(0), rooms.slice())?;
     Ok(bound_told(bound))
 }
 
