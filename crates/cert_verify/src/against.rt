@@ -159,7 +159,14 @@ fn wrong_bound<N: Exact>(
         Err(Memory) => return Err(Stop::Memory),
     };
     let rooms: List<NamedRoom<N>> = List::new(alloc);
-    let bound = farkas_bound(alloc, market, energy, named.slice(), datum(0), rooms.slice())?;
+    let bound = farkas_bound(
+        alloc,
+        market,
+        energy,
+        named.slice(),
+        datum(0),
+        rooms.slice(),
+    )?;
     Ok(bound_told(bound))
 }
 

@@ -31,7 +31,9 @@ use Rattle.market_model.specs.declared.stops.Stop.{Stop}
 use Rattle.market_model.specs.declared.stops.Stop.TheVariants as stop
 use Rattle.market_dict.proofs.RefusalLaws.{pair_range, posing_range}
 use Rattle.market_dict.proofs.TakingLists.{limits-append}
+use Rattle.clear_loop.specs.Bounding.{IsBoundRefusal}
 use Rattle.clear_loop.specs.Rounds.{IsLookRefusal, KeepsAll, StopsInRange}
+use Rattle.clear_loop.proofs.BoundLemmas.{bound_range}
 use Rattle.clear_loop.proofs.SolvedLemmas.{look_range, money_range, price_range}
 
 module _ {N : Type 0} (value : N → Fraction) (bound : ℕ) (m : Parts) where
@@ -65,6 +67,11 @@ module _ {N : Type 0} (value : N → Fraction) (bound : ℕ) (m : Parts) where
   pub earlier_stop : (t g : List Row) (s : Stop N) → Growth m t g → StopsInRange value bound m g s → StopsInRange value bound m t s
   earlier_stop t g (stop.Passed p) grown range = record { over = range.over; reached = growth_again m t g range.over.limits grown range.reached; pair = range.pair }
   earlier_stop t g stop.Memory grown range = tt
+
+  -- where the bound of duals is made that show that nothing is feasible
+  pub bound_stop : (ts : List Taking) (d : Duals Fraction) (margin : Fraction) (s : Stop N) → IsMarket m → IsStuckBy m ts d margin → StopsBy value (IsBoundRefusal m d bound) s → StopsInRange value bound m (limits_of ts) s
+  bound_stop ts d margin (stop.Passed p) market stuck a = bound_range m ts d margin stuck market bound (passed_at value p) a
+  bound_stop ts d margin stop.Memory market stuck a = tt
 
   module _ (ts : List Taking) (x : Dispatch) (d : Duals Fraction) (market : IsMarket m) (solved : IsSolvedBy m ts x d) where
     -- where a dispatch is looked at

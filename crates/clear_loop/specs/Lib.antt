@@ -1,3 +1,4 @@
+pub mod Bounding
 pub mod Clearing
 pub mod Faults
 pub mod Keeping

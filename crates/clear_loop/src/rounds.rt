@@ -1,11 +1,13 @@
 //! The rounds of a clear: each solves the market over the limits and rooms in hand, and takes the limit or room that is passed by the most,
 //! where one is.
 
-ghost use Rattle.std.specs.Prelude.{◌≡◌, false, List, length, map, IfOk, IfErr};
+ghost use Rattle.std.specs.Prelude.{◌≡◌, List, length, map, IfOk, IfErr};
 ghost use Rattle.market_model.specs.Dispatch.{dispatch_with};
+ghost use Rattle.market_model.specs.Infeasibility.{IsFarkas};
+ghost use Rattle.market_model.specs.Valued.{duals_at, farkas_at};
 ghost use Rattle.market_system.specs.Growth.{Growth};
 ghost use Rattle.limit_screen.specs.Flows.{flows_at};
-ghost use Rattle.market_dict.specs.Findings.{IsFound};
+ghost use Rattle.market_dict.specs.Findings.{IsFound, IsStuckBy};
 ghost use Rattle.market_dict.specs.PricesAndBounds.{ArePricesAndBounds};
 ghost use Rattle.market_dict.specs.Takings.{limits_of};
 ghost use Rattle.market_dict.specs.declared.solving.Found.TheVariants as found;
@@ -14,13 +16,14 @@ ghost use Rattle.clear_loop.specs.Keeping.{AreListed};
 ghost use Rattle.clear_loop.specs.Rounds.{KeepsAll, HoldsStart, IsEnded, IsInHand, IsRound, StopsInRange};
 
 use crate::answering::answer_of;
+use crate::bounding::farkas_bound;
 use crate::hand::{Hand, Taken, with_taking};
 use crate::screen::{Screened, screened_at};
 use dual_restart::Warm;
 use exact_fraction::Exact;
 use linear_dict::Dict;
 use market_dict::{Found, PricesAndBounds, duals, solve};
-use market_model::{Answer, Farkas, Market, Stop};
+use market_model::{Answer, Duals, Farkas, Market, Stop};
 use plain_list::List;
 use std::alloc::Global;
 
@@ -55,6 +58,26 @@ fn solved<N: Exact>(
     let bounds = posing.bounds(alloc)?;
     let posed = warm.repose(posing.prices.slice(), bounds.slice())?;
     solve(alloc, market, posed)
+}
+
+/// The bound of the duals of a variable that is stuck: what it leaves of the bound that it violates, in a market of energy alone. Where
+/// reserve is cleared it is made of the duals.
+fn bound_of<N: Exact>(
+    alloc: Global,
+    market: &Market,
+    duals: &Duals<N>,
+    margin: N,
+) -> Result<N, Stop<N>>
+    requires { (ts : List Taking) × IsStuckBy market.now ts (duals_at N.value duals.now) (N.value margin) }
+    ensures farkas { IfOk result (λ bound. IsFarkas market.now (farkas_at N.value (record { duals = duals.now; bound = bound }))) }
+    ensures cause { (ts : List Taking) → IsStuckBy market.now ts (duals_at N.value duals.now) (N.value margin) → IfErr result (StopsInRange N.value N.bound market.now (limits_of ts)) }
+{
+    let _lines = market.lines();
+    if market.reserve().listed {
+        farkas_bound(alloc, market, duals)
+    } else {
+        Ok(margin)
+    }
 }
 
 /// The end with an answer, of a best dispatch that keeps all limits and rooms.
@@ -118,10 +141,9 @@ fn after_best<N: Exact>(
     }
 }
 
-/// One round. Where nothing is feasible, what the stuck variable leaves of its bound is the bound of its duals, in a market of energy alone.
+/// One round.
 fn one_round<N: Exact>(alloc: Global, market: &Market, hand: Hand<N>) -> Result<Round<N>, Stop<N>>
-    requires hand { IsInHand N.value market.now hand }
-    requires energy_alone { market.now.reserve.listed ≡ false }
+    requires { IsInHand N.value market.now hand }
     ensures round { IfOk result (IsRound N.value market.now hand.taken.takings) }
     ensures cause { IfErr result (StopsInRange N.value N.bound market.now (limits_of hand.taken.takings)) }
 {
@@ -137,14 +159,14 @@ fn one_round<N: Exact>(alloc: Global, market: &Market, hand: Hand<N>) -> Result<
             dict,
             duals,
             margin,
-        } => Ok(Round::Done(Ended {
-            dict,
-            taken,
-            answer: Err(Farkas {
-                duals,
-                bound: margin,
-            }),
-        })),
+        } => {
+            let bound = bound_of(alloc, market, &duals, margin)?;
+            Ok(Round::Done(Ended {
+                dict,
+                taken,
+                answer: Err(Farkas { duals, bound }),
+            }))
+        }
     }
 }
 
@@ -155,8 +177,7 @@ pub(crate) fn all_rounds<N: Exact>(
     market: &Market,
     first: Hand<N>,
 ) -> Result<Ended<N>, Stop<N>>
-    requires hand { IsInHand N.value market.now first }
-    requires energy_alone { market.now.reserve.listed ≡ false }
+    requires { IsInHand N.value market.now first }
     ensures ended { IfOk result (IsEnded N.value market.now) }
     ensures taken { IfOk result (λ ended. Growth market.now (limits_of first.taken.takings) (limits_of ended.taken.takings)) }
     ensures cause { IfErr result (StopsInRange N.value N.bound market.now (limits_of first.taken.takings)) }

@@ -10,7 +10,7 @@ use Rattle.clear_loop.proofs.StopLemmas.{earlier_stop}
 use Rattle.clear_loop.proofs.rounds.all_rounds.Goals as goal
 
 pub loop-next-init : goal.loop-next-init
-loop-next-init g c = (c.requires.hand, growth_none c.args.market.now (limits_of c.args.first.taken.takings))
+loop-next-init g c = (c.requires, growth_none c.args.market.now (limits_of c.args.first.taken.takings))
 
 pub returns-in_err-next-clause-cause : goal.returns-in_err-next-clause-cause
 returns-in_err-next-clause-cause g c =
