@@ -2,9 +2,12 @@ pub mod AnswerLemmas
 pub mod BoundLemmas
 pub mod BrokenLemmas
 pub mod CountLemmas
+pub mod FarkasSums
 pub mod FrameLemmas
 pub mod HandLemmas
 pub mod MarginLemmas
+pub mod MostChoices
+pub mod MostPairs
 pub mod PosingLemmas
 pub mod SolvedLemmas
 pub mod StartLemmas

@@ -21,7 +21,7 @@ use settlement::{settle_flows, welfare};
 use std::alloc::Global;
 
 /// The price at each bus.
-fn bus_prices<N: Exact>(
+pub(crate) fn bus_prices<N: Exact>(
     alloc: Global,
     market: &Market,
     duals: &Duals<N>,

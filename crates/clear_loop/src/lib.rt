@@ -5,6 +5,7 @@
 
 mod answering;
 mod bounding;
+mod bounding_reserve;
 mod clearer;
 mod fault;
 mod hand;
@@ -12,6 +13,7 @@ pub mod laws;
 mod merit;
 mod rounds;
 mod screen;
+mod worths;
 
 pub use clearer::Clearer;
 pub use fault::{ClearFault, outcome};

@@ -1,0 +1,10 @@
+use Rattle.std.proofs.Common.{rules, ◌≡◌, ◌∙◌, sym}
+use Rattle.fraction_theory.specs.declared.Sign.TheVariants.{Zero}
+use Rattle.fraction_theory.proofs.SignLaws.{sign_of_is}
+use Rattle.clear_loop.proofs.FarkasSums.{nothing_made}
+use Rattle.clear_loop.proofs.bounding.with_side.Goals as goal
+
+pub returns-then-eq-clause-sum : goal.returns-then-eq-clause-sum
+returns-then-eq-clause-sum g c =
+    let zero : c.sign.result ≡ Zero = search rules in
+    nothing_made (g.N.Exact.value c.args.sum) (g.N.Exact.value c.args.price) _ (sign_of_is (g.N.Exact.value c.args.price) Zero (sym zero ∙ c.sign.ensures))
