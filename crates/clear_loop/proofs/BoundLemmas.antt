@@ -24,7 +24,7 @@ use Rattle.market_system.specs.WorkingPairs.{IsRangeOf}
 use Rattle.market_system.proofs.GrowthLaws.{growth_none}
 use Rattle.market_system.proofs.PairCases.{law_of_the_pairs}
 use Rattle.market_dict.specs.Findings.{IsStuckBy}
-use Rattle.market_dict.specs.Refusals.{of_sum, of_bound}
+use Rattle.market_dict.specs.Refusals.{of_sum}
 use Rattle.market_dict.specs.Takings.{limits_of, taken_of}
 use Rattle.market_dict.specs.declared.taking.Taking.{Taking}
 use Rattle.market_dict.proofs.RefusalLaws.{posing_range}

@@ -2,7 +2,7 @@
 use Rattle.std.specs.Prelude.{◌≡◌, ◌⊎◌, ℕ, ◌+◌, ◌<◌, ◌≤◌, pos, Bool, true, false, cond, List, [], ◌∷◌, ◌++◌, map, filter, length, take, Contains, if◌then◌else◌, refl}
 use Rattle.std.specs.List.{flat_map}
 use Rattle.std.proofs.Common.{zero as none, suc, inl, inr, arith, ap, ap₂, sym, subst, subst₂, ◌∙◌, append_assoc, get_or}
-use Rattle.std.proofs.lemmas.List.{append-nil, take_all}
+use Rattle.std.proofs.lemmas.List.{take_all}
 use Rattle.std.proofs.lemmas.Grind.{flat_map-append}
 use Rattle.fraction_theory.specs.Fraction.{Fraction, whole, neg_ℚ, ◌+ℚ◌, ◌-ℚ◌, ◌*ℚ◌}
 use Rattle.fraction_theory.specs.Signs.{sign_of, where_above, part_above}
@@ -227,10 +227,6 @@ module _ (m : Parts) (d : Duals Fraction) where
       limit_refused (in_lower c) = lower_refused c
 
   -- ---- the need
-  pub no_need : (sum : Fraction) → m.reserve.listed ≡ false → sum ≡ total (left_terms m d) → sum ≡ total (left_terms m d ++ need_terms m d)
-  no_need sum unlisted e =
-      e ∙ ap total (sym (append-nil (left_terms m d)) ∙ ap (λ (b : Bool). left_terms m d ++ (if b then Product d.reserve (neg_ℚ (reserve_need m)) ∷ [] else [])) (sym unlisted))
-
   abbrev room_term : ℕ → Term
   room_term u = Product (room_price m d u) (room m u)
 

@@ -25,10 +25,9 @@ use Rattle.market_model.specs.Dispatch.{empty, places, zero}
 use Rattle.market_model.specs.LimitRows.{flow, is_soft, limit, most_excess, most_flow}
 use Rattle.market_model.specs.Optimality.{Taken}
 use Rattle.market_system.specs.declared.variables.Variable.TheVariants.{Block, Limit, Over, Under}
-use Rattle.market_system.specs.MarketSystem.{block_coefficient, least_added, most_added, name, over_name, row_name, system_over, under_name}
+use Rattle.market_system.specs.MarketSystem.{block_coefficient, least_added, most_added, over_name, row_name, system_over, under_name}
 use Rattle.market_system.proofs.RowOrder.{AreInOrder, increasing-from_pairs, same_row-itself}
 use Rattle.market_system.proofs.VariableLaws as law
-use Rattle.market_system.proofs.VariableLaws.{over_in, under_in}
 use Rattle.market_dict.proofs.NameLists.{ascending_same}
 
 -- ---- the choice whose rows are basic, with the other variables at these bounds

@@ -2,8 +2,9 @@
 //! balance, of what is left of the limits, and of reserve.
 
 ghost use Rattle.std.specs.Prelude.{◌≡◌, length, map, Contains, IfOk, IfErr};
-ghost use Rattle.fraction_theory.specs.Fraction.{◌+ℚ◌, ◌-ℚ◌, ◌*ℚ◌};
+ghost use Rattle.fraction_theory.specs.Fraction.{Fraction, ◌+ℚ◌, ◌-ℚ◌, ◌*ℚ◌};
 ghost use Rattle.fraction_theory.specs.Sums.{total};
+ghost use Rattle.market_model.specs.declared.answered.Duals.{Duals as DualsOf};
 ghost use Rattle.market_model.specs.Dispatch.{balance, empty, places};
 ghost use Rattle.market_model.specs.Infeasibility.{farkas_bound, limit_terms};
 ghost use Rattle.market_model.specs.LimitRows.{rows};
@@ -52,7 +53,7 @@ fn with_limit<N: Exact>(
 ) -> Result<N, Passed<N>>
     requires row { Contains (rows market.now) row }
     requires flows { map N.value flows.now ≡ flows_at market.now (empty market.now) }
-    ensures sum { (d : _) → up_of market.now d row ≡ N.value dual.now.up → down_of market.now d row ≡ N.value dual.now.down → IfOk result (λ more. N.value more ≡ N.value sum +ℚ total (limit_terms market.now d row)) }
+    ensures sum { (d : DualsOf Fraction) → up_of market.now d row ≡ N.value dual.now.up → down_of market.now d row ≡ N.value dual.now.down → IfOk result (λ more. N.value more ≡ N.value sum +ℚ total (limit_terms market.now d row)) }
     ensures cause { IfErr result (λ passed. IsLimitRefusal market.now row (N.value dual.now.up) (N.value dual.now.down) (N.value sum) N.bound (passed_at N.value passed)) }
 {
     let _lines = market.lines();

@@ -1,6 +1,6 @@
 //! What a MW of a unit is worth at duals, and the most that blocks make of that.
 
-ghost use Rattle.std.specs.Prelude.{◌≡◌, ◌⊎◌, ◌<◌, ◌++◌, true, length, map, Contains, IfOk, IfErr};
+ghost use Rattle.std.specs.Prelude.{◌≡◌, ◌⊎◌, ◌<◌, ◌++◌, true, length, map, IfOk, IfErr};
 ghost use Rattle.fraction_theory.specs.Fraction.{◌+ℚ◌, ◌-ℚ◌, ◌*ℚ◌};
 ghost use Rattle.fraction_theory.specs.Signs.{part_above};
 ghost use Rattle.fraction_theory.specs.Sums.{total};
