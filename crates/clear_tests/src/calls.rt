@@ -164,8 +164,7 @@ fn worst_by_excess<N: Exact + Debug>(alloc: Global) -> Result<bool, Fail> {
 }
 
 /// Whether the limit of 45 after the outage is taken alone.
-fn takes_alone<N: Exact + Debug>(alloc: Global, market: &Market) -> Result<bool, Fail>
-{
+fn takes_alone<N: Exact + Debug>(alloc: Global, market: &Market) -> Result<bool, Fail> {
     let mut clearer: Clearer<N> = Clearer::new(market);
     let answer = clearer.clear(alloc, market)?;
     Ok(has_taken(&clearer, 1) && is_answer(&answer, &[45, 15], &[0, 20, 20], &[10, 30, 30]))

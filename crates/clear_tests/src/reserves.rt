@@ -13,6 +13,7 @@ use market_model::{
 };
 use offer_book::Edit;
 use std::alloc::Global;
+use std::cmp::Ordering;
 use std::test::Fail;
 
 const BUSES: [Bus; 1] = [Bus {
@@ -90,21 +91,33 @@ fn need(mw: i64) -> Edit
     Edit::Need { mw }
 }
 
+/// Whether a number is this one.
+fn is<N: Exact>(number: N, wanted: i32) -> bool {
+    number.order(N::of_parts(i64::from(wanted), 1)) == Ordering::Equal
+}
+
 /// Whether the room of the first unit has this price, and no other room has one.
 fn is_room<N: Exact>(rooms: &[RoomDual<N>], price: i32) -> bool {
     match rooms {
         [] => price == 0,
-        [room] => room.unit == 1 && are(&[room.price], &[price], 1),
+        [room] => room.unit == 1 && is(room.price, price),
         _ => false,
     }
 }
 
 /// Whether the first unit makes all, so much reserve is accepted of the two offers, and these are the prices of energy and of reserve, and
 /// of the first unit's room.
-fn is_shared<N: Exact>(answer: &Answer<N>, mw: &[i32], prices: &[i32], room: i32) -> bool {
+fn is_shared<N: Exact>(
+    answer: &Answer<N>,
+    mw: &[i32],
+    energy: i32,
+    reserve: i32,
+    room: i32,
+) -> bool {
     are(answer.dispatch.slice(), &[60, 0], 1)
         && are(answer.reserve.slice(), mw, 1)
-        && are(&[answer.duals.energy, answer.duals.reserve], prices, 1)
+        && is(answer.duals.energy, energy)
+        && is(answer.duals.reserve, reserve)
         && is_room(answer.duals.rooms.slice(), room)
 }
 
@@ -113,20 +126,22 @@ fn shares<N: Exact>(
     session: &mut Session<N>,
     alloc: Global,
     mw: &[i32],
-    prices: &[i32],
+    energy: i32,
+    reserve: i32,
     room: i32,
 ) -> Result<bool, Memory> {
     match session.clear(alloc)? {
-        Outcome::Cleared(answer) => Ok(is_shared(&answer, mw, prices, room)),
+        Outcome::Cleared(answer) => Ok(is_shared(&answer, mw, energy, reserve, room)),
         _ => Ok(false),
     }
 }
 
 /// Whether duals show by the price of reserve alone that 10 more is needed than is offered.
 fn is_short<N: Exact>(farkas: &Farkas<N>) -> bool {
-    are(&[farkas.duals.energy, farkas.duals.reserve], &[0, 1], 1)
+    is(farkas.duals.energy, 0)
+        && is(farkas.duals.reserve, 1)
         && is_room(farkas.duals.rooms.slice(), 0)
-        && are(&[farkas.bound], &[-10], 1)
+        && is(farkas.bound, -10)
 }
 
 /// Whether a clear comes to that.
@@ -140,11 +155,11 @@ fn falls_short<N: Exact>(session: &mut Session<N>, alloc: Global) -> Result<bool
 /// The need is raised from 30 until the room of the first unit binds, where a MW of it is worth 3 for either use, let down again, and raised
 /// beyond all that is offered.
 fn shares_room<N: Exact>(session: &mut Session<N>, alloc: Global) -> Result<bool, Memory> {
-    let slack = shares(session, alloc, &[30, 0], &[10, 2], 0)?;
+    let slack = shares(session, alloc, &[30, 0], 10, 2, 0)?;
     let raised = session.edit(&need(60)).is_ok();
-    let bound = shares(session, alloc, &[40, 20], &[13, 5], 3)?;
+    let bound = shares(session, alloc, &[40, 20], 13, 5, 3)?;
     let lowered = session.edit(&need(30)).is_ok();
-    let again = shares(session, alloc, &[30, 0], &[10, 2], 0)?;
+    let again = shares(session, alloc, &[30, 0], 10, 2, 0)?;
     let beyond = session.edit(&need(110)).is_ok();
     let short = falls_short(session, alloc)?;
     Ok(slack && raised && bound && lowered && again && beyond && short)
