@@ -3,3 +3,5 @@ pub mod LimitReading
 pub mod OutcomeReading
 pub mod ReportLemmas
 pub mod ReportReading
+pub mod ReserveLemmas
+pub mod ReserveReading

@@ -1,19 +1,18 @@
 -- A report has one reading.
-use Rattle.std.specs.Prelude.{◌≡◌, ◌≢◌, ◌⊎◌, ◌<◌, All, AllPairs, [], length, map}
+use Rattle.std.specs.Prelude.{◌≡◌, ◌≢◌, ◌⊎◌, ◌<◌, All, AllPairs, false, length, map}
 use Rattle.fraction_theory.specs.Fraction.{Fraction}
-use Rattle.fraction_theory.specs.Order.{◌≤ℚ◌}
+use Rattle.fraction_theory.specs.Order.{◌≤ℚ◌, ◌<ℚ◌}
 use Rattle.market_model.specs.declared.participants.Parts.{Parts}
 use Rattle.market_model.specs.declared.answered.Answer.{Answer}
 use Rattle.market_model.specs.declared.answered.Duals.{Duals}
+use Rattle.market_model.specs.declared.answered.RoomDual.{RoomDual}
 use Rattle.market_model.specs.declared.answered.Outcome.{Outcome}
 use Rattle.market_model.specs.declared.answered.Outcome.TheVariants as outcome
 use Rattle.market_model.specs.Dispatch.{places, zero}
 use Rattle.market_model.specs.Fitting.{FitsMarket}
 use Rattle.market_model.specs.LimitRows.{lost_unit}
 use Rattle.market_model.specs.Optimality.{unit_price}
-use Rattle.market_model.specs.Reserves.{no_reserve}
 use Rattle.market_model.specs.RightAnswers.{IsRightBy}
-use Rattle.market_model.specs.Valued.{energy_duals}
 use Rattle.report_text.specs.Reports.{report_text}
 
 -- each outage of a unit is of a unit of the market, and none is lost twice, as in every market
@@ -25,26 +24,27 @@ pub record LosesUnitsOnce (m : Parts) : Type 0 where
 abbrev pub MakesOwnPrices : Parts → Answer Fraction → Type 0
 MakesOwnPrices m a = a.money.own ≡ map (λ k. unit_price m a.duals (lost_unit m k)) (places (length m.unit_outages))
 
--- duals of energy alone
-abbrev pub AreOfEnergy : Duals Fraction → Type 0
-AreOfEnergy d = d ≡ energy_duals d.energy d.limits
+-- Duals of which a report leaves nothing out: each price of a room is above 0, since it is silent of one that is not, and the price of reserve
+-- is 0 where reserve is not listed.
+pub record DualsFitReport (m : Parts) (d : Duals Fraction) : Type 0 where
+  pub rooms : All (λ (e : RoomDual Fraction). zero <ℚ e.price) d.rooms
+  pub unlisted : m.reserve.listed ≡ false → d.reserve ≡ zero
 
 -- An entry for each part of the market and a rent for each limit with duals, and each bus price made from the one price of energy. No flow
 -- exceeds its limit by less than 0: a report is silent where it does not exceed it. Each own price has the line of a unit of its own, or is
--- what the duals make it. Nothing of reserve is told.
+-- what the duals make it. What is accepted of offers of reserve is what these are paid for. Its duals fit.
 pub record FitsReport (m : Parts) (a : Answer Fraction) : Type 0 where
   pub fits : FitsMarket m a
   pub energy : All (λ p. p.energy ≡ a.duals.energy) a.prices
   pub over : All (λ r. zero ≤ℚ r.over) a.money.rents
   pub own : LosesUnitsOnce m ⊎ MakesOwnPrices m a
-  pub energy_alone : AreOfEnergy a.duals
-  pub no_reserve : a.reserve ≡ []
-  pub no_reserve_pay : a.money.reserve ≡ []
+  pub reserve : map (λ p. p.mw) a.money.reserve ≡ a.reserve
+  pub duals : DualsFitReport m a.duals
 
--- an answer in an outcome does, and Farkas duals are of energy alone
+-- an answer in an outcome does, and Farkas duals do
 abbrev pub OutcomeFitsReport : Parts → Outcome Fraction → Type 0
 OutcomeFitsReport m (outcome.Cleared a) = FitsReport m a
-OutcomeFitsReport m (outcome.Infeasible f) = AreOfEnergy f.duals
+OutcomeFitsReport m (outcome.Infeasible f) = DualsFitReport m f.duals
 OutcomeFitsReport m (outcome.Range p) = Unit {0}
 
 -- two outcomes that fit a market and have one report are one
@@ -55,6 +55,6 @@ ReportsApart = (m : Parts) (a b : Outcome Fraction) → OutcomeFitsReport m a �
 abbrev pub IsRightIn : Parts → Outcome Fraction → Type 0
 IsRightIn m o = IsRightBy (λ p. Unit {0}) m o
 
--- two outcomes of a market of energy alone that are right in this sense and have one report are one
+-- two outcomes of a market that are right in this sense and have one report are one
 abbrev pub RightReportsApart : Type 0
-RightReportsApart = (m : Parts) (a b : Outcome Fraction) → m.reserve ≡ no_reserve → IsRightIn m a → IsRightIn m b → report_text m a ≡ report_text m b → a ≡ b
+RightReportsApart = (m : Parts) (a b : Outcome Fraction) → IsRightIn m a → IsRightIn m b → report_text m a ≡ report_text m b → a ≡ b

@@ -8,6 +8,7 @@ ghost use Rattle.market_model.specs.Valued.{price_at, unit_pay_at, load_at, answ
 ghost use Rattle.market_model.specs.Fitting.{FitsMarket};
 
 use crate::limits::rent_lines;
+use crate::reserve::{need_line, offer_lines, room_lines};
 use exact_fraction::Exact;
 use line_text::Text;
 use market_model::{
@@ -194,10 +195,13 @@ pub fn cleared<N: Exact>(
 {
     let mut text = Text::new(alloc);
     head_lines(&mut text, answer)?;
+    need_line(&mut text, market.reserve(), answer.duals.reserve)?;
     bus_lines(&mut text, market, answer)?;
     block_lines(&mut text, market, answer)?;
     rent_lines(&mut text, answer)?;
+    room_lines(&mut text, &answer.duals.rooms, PRICE_PLACES)?;
     unit_lines(&mut text, market, answer)?;
+    offer_lines(&mut text, market, answer)?;
     load_lines(&mut text, market, answer)?;
     text.named(b"surplus ", answer.money.surplus, MONEY_PLACES)?;
     text.word(b"\n")?;

@@ -7,6 +7,7 @@ ghost use Rattle.market_model.specs.Valued.{farkas_at, passed_at, outcome_at};
 
 use crate::answer::cleared;
 use crate::limits::limit_lines;
+use crate::reserve::{reserve_line, room_lines};
 use exact_fraction::{Exact, Op, Passed};
 use line_text::Text;
 use market_model::{Farkas, MW_PLACES, Market, Memory, Outcome};
@@ -31,14 +32,20 @@ fn energy_line<N: Exact>(text: &mut Text, energy: N) -> Result<(), Memory>
 }
 
 /// The report of a market in which no dispatch is feasible.
-fn infeasible<N: Exact>(alloc: Global, farkas: &Farkas<N>) -> Result<Vec<u8>, Memory>
-    ensures { IfOk result (λ bytes. bytes.items ≡ infeasible_text (farkas_at N.value farkas.now)) }
+fn infeasible<N: Exact>(
+    alloc: Global,
+    market: &Market,
+    farkas: &Farkas<N>,
+) -> Result<Vec<u8>, Memory>
+    ensures { IfOk result (λ bytes. bytes.items ≡ infeasible_text market.now (farkas_at N.value farkas.now)) }
 {
     let mut text = Text::new(alloc);
     text.word(b"infeasible\n")?;
     bound_line(&mut text, farkas.bound)?;
     energy_line(&mut text, farkas.duals.energy)?;
+    reserve_line(&mut text, market.reserve(), farkas.duals.reserve)?;
     limit_lines(&mut text, &farkas.duals.limits)?;
+    room_lines(&mut text, &farkas.duals.rooms, 0)?;
     Ok(text.into_bytes())
 }
 
@@ -77,7 +84,7 @@ pub fn report<N: Exact>(
 {
     match outcome {
         Outcome::Cleared(answer) => cleared(alloc, market, answer),
-        Outcome::Infeasible(farkas) => infeasible(alloc, farkas),
+        Outcome::Infeasible(farkas) => infeasible(alloc, market, farkas),
         Outcome::Range(passed) => range(alloc, passed),
     }
 }
