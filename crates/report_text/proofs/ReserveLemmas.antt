@@ -22,15 +22,14 @@ module _ (r : Reserve) (price : Fraction) (t : List ℕ) where
   unfolding plain_reserve_text
   plain_unlisted e = sym (append-nil t) ∙ ap (λ (line : List ℕ). t ++ line) (sym (told r.listed false _ e))
 
-  pub need_grown : (u₀ u₁ u₂ : List ℕ) → r.listed ≡ true → u₀ ≡ t ++ codes "reserve price " ++ written price_places price → u₁ ≡ u₀ ++ codes " need " → u₂ ≡ u₁ ++ decimal_text mw_places r.need
-      → u₂ ++ codes "\n" ≡ t ++ need_text r price
+  pub need_grown : (u v : List ℕ) → r.listed ≡ true → u ≡ t ++ codes "reserve price " ++ written price_places price → v ≡ u ++ codes " need " ++ decimal_text mw_places r.need → v ++ codes "\n" ≡ t ++ need_text r price
   unfolding need_text
-  need_grown u₀ u₁ u₂ e e₀ e₁ e₂ =
-      grown (codes "reserve price ") (written price_places price) (codes " need ") (decimal_text mw_places r.need) (codes "\n") u₀ u₁ u₂ e₀ e₁ e₂
+  need_grown u v e g h =
+      grown (codes "reserve price ") (written price_places price) (codes " need ") (decimal_text mw_places r.need) (codes "\n") u v g h
       ∙ ap (λ (line : List ℕ). t ++ line) (sym (told r.listed true _ e))
     where
-      grown : (a x b y n u₀ u₁ u₂ : List ℕ) → u₀ ≡ t ++ a ++ x → u₁ ≡ u₀ ++ b → u₂ ≡ u₁ ++ y → u₂ ++ n ≡ t ++ (a ++ x ++ b ++ y ++ n)
-      grown a x b y n u₀ u₁ u₂ e₀ e₁ e₂ = Prim.rw (e₂, e₁, e₀) Prim.simp append_assoc
+      grown : (a x b y n u v : List ℕ) → u ≡ t ++ a ++ x → v ≡ u ++ b ++ y → v ++ n ≡ t ++ (a ++ x ++ b ++ y ++ n)
+      grown a x b y n u v g h = Prim.rw (h, g) Prim.simp append_assoc
 
   pub plain_grown : (u : List ℕ) → r.listed ≡ true → u ≡ t ++ codes "reserve dual " ++ written 0 price → u ++ codes "\n" ≡ t ++ plain_reserve_text r price
   unfolding plain_reserve_text

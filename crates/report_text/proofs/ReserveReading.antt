@@ -119,7 +119,7 @@ module _ (k : ℕ) where
   pub rooms_follow : (ds : List (RoomDual Fraction)) → All IsPriced ds → (us : List ℕ) → EndsLimits us → EndsLimits (lines_of_rooms k ds ++ us)
   rooms_follow [] p us h = h
   rooms_follow (d ∷ ds) p us h =
-      let letter : 111 ≢ 105 = λ e. Prim.omega (arith, e) in
+      let letter : 111 ≢ 105 = λ (e : 111 ≡ 105). Prim.omega (arith, e) in
       subst EndsLimits (sym (append_assoc (room_text k d) (lines_of_rooms k ds) us ∙ room_opened d (p 0 d (Prim.omega arith)) (lines_of_rooms k ds ++ us))) letter
 
 -- ---- offers

@@ -1,6 +1,8 @@
 //! The lines of reserve.
 
-ghost use Rattle.std.specs.Prelude.{◌≡◌, ◌≤◌, ◌++◌, map, IfOk};
+ghost use Rattle.std.specs.Prelude.{◌≡◌, ◌≤◌, ◌++◌, codes, map, IfOk};
+ghost use Rattle.line_text.specs.Decimals.{decimal_text};
+ghost use Rattle.market_data.specs.Scales.{mw_places};
 ghost use Rattle.market_model.specs.Fitting.{FitsMarket};
 ghost use Rattle.market_model.specs.Valued.{answer_at, reserve_pay_at, room_dual_at};
 ghost use Rattle.fraction_theory.specs.declared.Sign.TheVariants.{Above};
@@ -15,6 +17,15 @@ use market_model::{
     RoomDual,
 };
 
+/// How much reserve is needed.
+#[tactic(auto, using(std::proofs::Common::append_assoc))]
+fn need_words(text: &mut Text, reserve: &Reserve) -> Result<(), Memory>
+    ensures { IfOk result (λ _. text.new ≡ text.old ++ codes " need " ++ decimal_text mw_places reserve.now.need) }
+{
+    text.word(b" need ")?;
+    text.decimal(i128::from(reserve.need), MW_PLACES)
+}
+
 /// The price of reserve and how much is needed, where reserve is listed.
 pub fn need_line<N: Exact>(text: &mut Text, reserve: &Reserve, price: N) -> Result<(), Memory>
     ensures { IfOk result (λ _. text.new ≡ text.old ++ need_text reserve.now (N.value price)) }
@@ -23,8 +34,7 @@ pub fn need_line<N: Exact>(text: &mut Text, reserve: &Reserve, price: N) -> Resu
         return Ok(());
     }
     text.named(b"reserve price ", price, PRICE_PLACES)?;
-    text.word(b" need ")?;
-    text.decimal(i128::from(reserve.need), MW_PLACES)?;
+    need_words(text, reserve)?;
     text.word(b"\n")
 }
 
