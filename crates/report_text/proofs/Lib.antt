@@ -1,4 +1,5 @@
 pub mod Amounts
+pub mod EnergyReports
 pub mod LimitReading
 pub mod OutcomeReading
 pub mod ReportLemmas

@@ -42,12 +42,12 @@ as_lines a b c n xs ys ps ls rs us = Prim.simp append_assoc
 
 -- the lines of the duals, and what comes after them
 abbrev dual_lines : Parts → Farkas Fraction → List ℕ → List ℕ
-dual_lines m f us = plain_reserve_text m.reserve f.duals.reserve ++ (flat_map limit_text f.duals.limits ++ (lines_of_rooms 0 f.duals.rooms ++ us))
+dual_lines m f us = plain_reserve_text m.reserve.listed f.duals.reserve ++ (flat_map limit_text f.duals.limits ++ (lines_of_rooms 0 f.duals.rooms ++ us))
 
 told : (m : Parts) (f : Farkas Fraction) (us : List ℕ) → infeasible_text m f ++ us ≡ (codes "infeasible\nbound " ++ written mw_places f.bound ++ 10 ∷ codes "energy " ++ written 0 f.duals.energy ++ 10 ∷ []) ++ dual_lines m f us
 unfolding infeasible_text bound_text plain_energy_text
 told m f us =
-    as_lines (codes "infeasible\n") (codes "bound ") (codes "energy ") (codes "\n") (written mw_places f.bound) (written 0 f.duals.energy) (plain_reserve_text m.reserve f.duals.reserve) (flat_map limit_text f.duals.limits) (lines_of_rooms 0 f.duals.rooms) us
+    as_lines (codes "infeasible\n") (codes "bound ") (codes "energy ") (codes "\n") (written mw_places f.bound) (written 0 f.duals.energy) (plain_reserve_text m.reserve.listed f.duals.reserve) (flat_map limit_text f.duals.limits) (lines_of_rooms 0 f.duals.rooms) us
 
 same_farkas : (f g : Farkas Fraction) → f.duals ≡ g.duals → f.bound ≡ g.bound → f ≡ g
 same_farkas f g p q =
@@ -58,7 +58,7 @@ farkas_apart : (m : Parts) (f g : Farkas Fraction) → DualsFitReport m f.duals 
 farkas_apart m f g p q us vs ends follows e =
     let t = two_apart (codes "infeasible\nbound ") mw_places 0 10 (codes "energy ") f.bound g.bound f.duals.energy g.duals.energy (dual_lines m f us) (dual_lines m g vs) (Prim.omega arith)
     (sym (told m f us) ∙ e ∙ told m g vs) in
-    let price = prices_apart m.reserve f.duals.reserve g.duals.reserve p.unlisted q.unlisted _ _ t.2 in
+    let price = prices_apart m.reserve.listed f.duals.reserve g.duals.reserve p.unlisted q.unlisted _ _ t.2 in
     let limits = limits_apart f.duals.limits g.duals.limits (lines_of_rooms 0 f.duals.rooms ++ us) (lines_of_rooms 0 g.duals.rooms ++ vs)
     (rooms_follow 0 f.duals.rooms p.rooms us ends.0) (rooms_follow 0 g.duals.rooms q.rooms vs follows.0) price.1 in
     let rooms = rooms_apart 0 f.duals.rooms g.duals.rooms p.rooms q.rooms us vs ends.1 follows.1 limits.1 in

@@ -229,9 +229,9 @@ answers_apart m a b p q us vs e =
     let blocks = places (length m.blocks) in
     let units = places (length m.units) in
     let rooms_of = λ (x : Answer Fraction) (ts : List ℕ). lines_of_rooms price_places x.duals.rooms ++ last_lines m x ts in
-    let split = λ (x : Answer Fraction) (ts : List ℕ). in_order (head_text x.welfare x.duals.energy) (need_text m.reserve x.duals.reserve) (lines_of_buses m x) (lines_of_blocks m x) (lines_of_limits x) (lines_of_rooms price_places x.duals.rooms) (lines_of_units m x) (lines_of_offers m x) (lines_of_loads m x) (surplus_text x.money.surplus) ts in
+    let split = λ (x : Answer Fraction) (ts : List ℕ). in_order (head_text x.welfare x.duals.energy) (need_text m.reserve.listed m.reserve.need x.duals.reserve) (lines_of_buses m x) (lines_of_blocks m x) (lines_of_limits x) (lines_of_rooms price_places x.duals.rooms) (lines_of_units m x) (lines_of_offers m x) (lines_of_loads m x) (surplus_text x.money.surplus) ts in
     let head = head_apart a.welfare b.welfare a.duals.energy b.duals.energy _ _ (sym (split a us) ∙ e ∙ split b vs) in
-    let need = needs_apart m.reserve a.duals.reserve b.duals.reserve p.duals.unlisted q.duals.unlisted _ _ head.2 in
+    let need = needs_apart m.reserve.listed m.reserve.need a.duals.reserve b.duals.reserve p.duals.unlisted q.duals.unlisted _ _ head.2 in
     let prices = lines_apart (bus_line_at m a) (bus_line_at m b) (λ k. SamePrice (price_of a k) (price_of b k)) (λ k. bus_apart (bus_at m k).number (price_of a k) (price_of b k)) buses _ _ need.1 in
     let dispatch = lines_apart (block_line_at m a) (block_line_at m b) (λ k. mw_of a k ≡ mw_of b k)
     (λ k. block_apart (unit_at m (block_at m k).unit).row (block_at m k).side (block_number m k) (mw_of a k) (mw_of b k)) blocks _ _ prices.1 in

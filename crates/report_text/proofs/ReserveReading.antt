@@ -1,5 +1,5 @@
 -- The lines of reserve are of what they tell.
-use Rattle.std.specs.Prelude.{◌≡◌, ◌≢◌, ℕ, All, Bool, true, false, List, [], ◌∷◌, ◌++◌, codes, decimal, if◌then◌else◌, refl}
+use Rattle.std.specs.Prelude.{◌≡◌, ◌≢◌, ℕ, ℤ, All, Bool, true, false, List, [], ◌∷◌, ◌++◌, codes, decimal, if◌then◌else◌, refl}
 use Rattle.std.specs.List.{AllByRecursion, flat_map}
 use Rattle.std.proofs.Common.{arith, ap, sym, ◌∙◌, subst, append_assoc}
 use Rattle.std.proofs.lemmas.List.{append_cancel_left}
@@ -16,7 +16,6 @@ use Rattle.line_text.specs.Decimals.{decimal_text}
 use Rattle.market_data.specs.Scales.{money_places, mw_places, price_places}
 use Rattle.market_model.specs.declared.answered.ReservePay.{ReservePay}
 use Rattle.market_model.specs.declared.answered.RoomDual.{RoomDual}
-use Rattle.market_model.specs.declared.participants.Reserve.{Reserve}
 use Rattle.market_model.specs.Dispatch.{zero}
 use Rattle.report_text.specs.Reports.{need_text, plain_reserve_text, room_text, room_text_by, lines_of_rooms, offer_text}
 use Rattle.report_text.proofs.Amounts.{named_apart, number_apart, one_apart, two_apart}
@@ -24,42 +23,36 @@ use Rattle.report_text.proofs.LimitReading.{EndsLimits, lines_end}
 
 -- ---- the price of reserve
 -- it is told where reserve is listed, and is 0 where not
-module _ (r : Reserve) (x y : Fraction) (p : r.listed ≡ false → x ≡ zero) (q : r.listed ≡ false → y ≡ zero) (us vs : List ℕ) where
+module _ (listed : Bool) (need : ℤ) (x y : Fraction) (p : listed ≡ false → x ≡ zero) (q : listed ≡ false → y ≡ zero) (us vs : List ℕ) where
   abbrev need_words : List ℕ
-  need_words = codes "need " ++ decimal_text mw_places r.need ++ codes "\n"
+  need_words = codes "need " ++ decimal_text mw_places need ++ codes "\n"
 
   price_told : codes "reserve price " ++ (written price_places x ++ 32 ∷ (need_words ++ us)) ≡ codes "reserve price " ++ (written price_places y ++ 32 ∷ (need_words ++ vs)) → (x ≡ y) × (us ≡ vs)
   price_told e =
       let t = named_apart (codes "reserve price ") price_places 32 x y (need_words ++ us) (need_words ++ vs) (Prim.omega arith) e in
       (t.0, append_cancel_left need_words us vs t.1)
 
-  pub needs_apart : need_text r x ++ us ≡ need_text r y ++ vs → (x ≡ y) × (us ≡ vs)
+  pub needs_apart : need_text listed need x ++ us ≡ need_text listed need y ++ vs → (x ≡ y) × (us ≡ vs)
   unfolding need_text
-  needs_apart e = by_test r.listed refl e
+  needs_apart e = by_test listed refl e
     where
       line : Fraction → List ℕ
-      line z = codes "reserve price " ++ written price_places z ++ codes " need " ++ decimal_text mw_places r.need ++ codes "\n"
+      line z = codes "reserve price " ++ written price_places z ++ codes " need " ++ decimal_text mw_places need ++ codes "\n"
 
       in_order : (a xs c d n ts : List ℕ) → (a ++ xs ++ (32 ∷ c) ++ d ++ n) ++ ts ≡ a ++ (xs ++ 32 ∷ ((c ++ d ++ n) ++ ts))
       in_order a xs c d n ts = Prim.simp append_assoc
 
       opened : (z : Fraction) (ts : List ℕ) → line z ++ ts ≡ codes "reserve price " ++ (written price_places z ++ 32 ∷ (need_words ++ ts))
-      opened z ts = in_order (codes "reserve price ") (written price_places z) (codes "need ") (decimal_text mw_places r.need) (codes "\n") ts
+      opened z ts = in_order (codes "reserve price ") (written price_places z) (codes "need ") (decimal_text mw_places need) (codes "\n") ts
 
-      by_test : (b : Bool) → r.listed ≡ b → (if b then line x else []) ++ us ≡ (if b then line y else []) ++ vs → (x ≡ y) × (us ≡ vs)
+      by_test : (b : Bool) → listed ≡ b → (if b then line x else []) ++ us ≡ (if b then line y else []) ++ vs → (x ≡ y) × (us ≡ vs)
       by_test true h e = price_told (sym (opened x us) ∙ e ∙ opened y vs)
       by_test false h e = (p h ∙ sym (q h), e)
 
-  pub prices_apart : plain_reserve_text r x ++ us ≡ plain_reserve_text r y ++ vs → (x ≡ y) × (us ≡ vs)
-  unfolding plain_reserve_text
-  prices_apart e = by_test r.listed refl e
-    where
-      line : Fraction → List ℕ
-      line z = codes "reserve dual " ++ written 0 z ++ codes "\n"
-
-      by_test : (b : Bool) → r.listed ≡ b → (if b then line x else []) ++ us ≡ (if b then line y else []) ++ vs → (x ≡ y) × (us ≡ vs)
-      by_test true h e = one_apart (codes "reserve dual ") 0 x y us vs e
-      by_test false h e = (p h ∙ sym (q h), e)
+pub prices_apart : (listed : Bool) (x y : Fraction) → (listed ≡ false → x ≡ zero) → (listed ≡ false → y ≡ zero) → (us vs : List ℕ) → plain_reserve_text listed x ++ us ≡ plain_reserve_text listed y ++ vs → (x ≡ y) × (us ≡ vs)
+unfolding plain_reserve_text
+prices_apart true x y p q us vs e = one_apart (codes "reserve dual ") 0 x y us vs e
+prices_apart false x y p q us vs e = (p refl ∙ sym (q refl), e)
 
 -- ---- rooms
 -- the third letter is not that of `room`

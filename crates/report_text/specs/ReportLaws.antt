@@ -1,10 +1,12 @@
 -- A report has one reading.
-use Rattle.std.specs.Prelude.{◌≡◌, ◌≢◌, ◌⊎◌, ◌<◌, All, AllPairs, false, length, map}
+use Rattle.std.specs.Prelude.{◌≡◌, ◌≢◌, ◌⊎◌, ◌<◌, ℕ, All, AllPairs, List, ◌++◌, false, codes, length, map}
+use Rattle.std.specs.List.{flat_map}
 use Rattle.fraction_theory.specs.Fraction.{Fraction}
 use Rattle.fraction_theory.specs.Order.{◌≤ℚ◌, ◌<ℚ◌}
 use Rattle.market_model.specs.declared.participants.Parts.{Parts}
 use Rattle.market_model.specs.declared.answered.Answer.{Answer}
 use Rattle.market_model.specs.declared.answered.Duals.{Duals}
+use Rattle.market_model.specs.declared.answered.Farkas.{Farkas}
 use Rattle.market_model.specs.declared.answered.RoomDual.{RoomDual}
 use Rattle.market_model.specs.declared.answered.Outcome.{Outcome}
 use Rattle.market_model.specs.declared.answered.Outcome.TheVariants as outcome
@@ -12,8 +14,9 @@ use Rattle.market_model.specs.Dispatch.{places, zero}
 use Rattle.market_model.specs.Fitting.{FitsMarket}
 use Rattle.market_model.specs.LimitRows.{lost_unit}
 use Rattle.market_model.specs.Optimality.{unit_price}
+use Rattle.market_model.specs.Reserves.{no_reserve}
 use Rattle.market_model.specs.RightAnswers.{IsRightBy}
-use Rattle.report_text.specs.Reports.{report_text}
+use Rattle.report_text.specs.Reports.{head_text, surplus_text, lines_of_buses, lines_of_blocks, lines_of_limits, lines_of_units, lines_of_loads, limit_text, bound_text, plain_energy_text, report_text}
 
 -- each outage of a unit is of a unit of the market, and none is lost twice, as in every market
 pub record LosesUnitsOnce (m : Parts) : Type 0 where
@@ -58,3 +61,21 @@ IsRightIn m o = IsRightBy (λ p. Unit {0}) m o
 -- two outcomes of a market that are right in this sense and have one report are one
 abbrev pub RightReportsApart : Type 0
 RightReportsApart = (m : Parts) (a b : Outcome Fraction) → IsRightIn m a → IsRightIn m b → report_text m a ≡ report_text m b → a ≡ b
+
+-- ---- markets of energy alone
+-- the lines of an answer without those of reserve
+abbrev pub energy_lines : Parts → Answer Fraction → List ℕ
+energy_lines m a = head_text a.welfare a.duals.energy ++ lines_of_buses m a ++ lines_of_blocks m a ++ lines_of_limits a ++ lines_of_units m a ++ lines_of_loads m a ++ surplus_text a.money.surplus
+
+-- and those of duals that show that nothing is feasible
+abbrev pub plain_lines : Farkas Fraction → List ℕ
+plain_lines f = codes "infeasible\n" ++ bound_text f.bound ++ plain_energy_text f.duals.energy ++ flat_map limit_text f.duals.limits
+
+abbrev pub TellsEnergyAlone : Parts → Outcome Fraction → Type 0
+TellsEnergyAlone m (outcome.Cleared a) = report_text m (outcome.Cleared a) ≡ energy_lines m a
+TellsEnergyAlone m (outcome.Infeasible f) = report_text m (outcome.Infeasible f) ≡ plain_lines f
+TellsEnergyAlone m (outcome.Range p) = Unit {0}
+
+-- the report of a right outcome of a market of energy alone has no line of reserve
+abbrev pub LawOfEnergyAlone : Type 0
+LawOfEnergyAlone = (m : Parts) (o : Outcome Fraction) → m.reserve ≡ no_reserve → IsRightIn m o → TellsEnergyAlone m o

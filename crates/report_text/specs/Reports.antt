@@ -1,5 +1,5 @@
 -- The report of what a clear came to, line by line.
-use Rattle.std.specs.Prelude.{ℕ, ◌+◌, Bool, ◌&&◌, ◌==◌, List, [], ◌++◌, length, count_by, codes, slice_index_or, decimal, if◌then◌else◌, Option, Some, None}
+use Rattle.std.specs.Prelude.{ℕ, ◌+◌, ℤ, Bool, ◌&&◌, ◌==◌, List, [], ◌++◌, length, count_by, codes, slice_index_or, decimal, if◌then◌else◌, Option, Some, None}
 use Rattle.std.specs.List.{flat_map, zip}
 use Rattle.std.specs.Map.{lookup}
 use Rattle.fraction_theory.specs.Fraction.{Fraction}
@@ -16,7 +16,6 @@ use Rattle.market_model.specs.declared.participants.Side.{Side}
 use Rattle.market_model.specs.declared.participants.Side.TheVariants.{Sell, Buy}
 use Rattle.market_model.specs.declared.participants.Block.{Block}
 use Rattle.market_model.specs.declared.participants.Parts.{Parts}
-use Rattle.market_model.specs.declared.participants.Reserve.{Reserve}
 use Rattle.market_model.specs.declared.answered.Price.{Price}
 use Rattle.market_model.specs.declared.answered.UnitPay.{UnitPay}
 use Rattle.market_model.specs.declared.answered.ReservePay.{ReservePay}
@@ -93,8 +92,8 @@ unfoldable pub unit_text : ℕ → UnitPay Fraction → Option Fraction → List
 unit_text row pay own = codes "unit " ++ decimal row ++ codes " mw " ++ written mw_places pay.mw ++ codes " paid " ++ written money_places pay.paid ++ own_text own ++ codes "\n"
 
 -- the price of reserve and how much is needed, where reserve is listed
-unfoldable pub need_text : Reserve → Fraction → List ℕ
-need_text r price = if r.listed then codes "reserve price " ++ written price_places price ++ codes " need " ++ decimal_text mw_places r.need ++ codes "\n" else []
+unfoldable pub need_text : Bool → ℤ → Fraction → List ℕ
+need_text listed need price = if listed then codes "reserve price " ++ written price_places price ++ codes " need " ++ decimal_text mw_places need ++ codes "\n" else []
 
 -- the price of a unit's room, of k places, where it is above 0
 abbrev pub room_text_by : Sign → ℕ → RoomDual Fraction → List ℕ
@@ -170,7 +169,7 @@ lines_of_loads m a = flat_map (load_line_at m a) (places (length m.buses))
 unfoldable pub cleared_text : Parts → Answer Fraction → List ℕ
 cleared_text m a =
     head_text a.welfare a.duals.energy
-    ++ need_text m.reserve a.duals.reserve
+    ++ need_text m.reserve.listed m.reserve.need a.duals.reserve
     ++ lines_of_buses m a
     ++ lines_of_blocks m a
     ++ lines_of_limits a
@@ -193,8 +192,8 @@ unfoldable pub plain_energy_text : Fraction → List ℕ
 plain_energy_text energy = codes "energy " ++ written 0 energy ++ codes "\n"
 
 -- the price of reserve, which is a plain number, where reserve is listed
-unfoldable pub plain_reserve_text : Reserve → Fraction → List ℕ
-plain_reserve_text r price = if r.listed then codes "reserve dual " ++ written 0 price ++ codes "\n" else []
+unfoldable pub plain_reserve_text : Bool → Fraction → List ℕ
+plain_reserve_text listed price = if listed then codes "reserve dual " ++ written 0 price ++ codes "\n" else []
 
 -- the report of duals that show that nothing is feasible
 unfoldable pub infeasible_text : Parts → Farkas Fraction → List ℕ
@@ -202,7 +201,7 @@ infeasible_text m f =
     codes "infeasible\n"
     ++ bound_text f.bound
     ++ plain_energy_text f.duals.energy
-    ++ plain_reserve_text m.reserve f.duals.reserve
+    ++ plain_reserve_text m.reserve.listed f.duals.reserve
     ++ flat_map limit_text f.duals.limits
     ++ lines_of_rooms 0 f.duals.rooms
 

@@ -1,6 +1,7 @@
 //! The report of what a clear came to.
 
 ghost use Rattle.std.specs.Prelude.{◌≡◌, ◌++◌, IfOk};
+ghost use Rattle.market_model.specs.Changes.{with_need};
 ghost use Rattle.market_model.specs.Fitting.{FitsOutcome};
 ghost use Rattle.report_text.specs.Reports.{bound_text, plain_energy_text, infeasible_text, op_text, range_text, report_text};
 ghost use Rattle.market_model.specs.Valued.{farkas_at, passed_at, outcome_at};
@@ -43,7 +44,7 @@ fn infeasible<N: Exact>(
     text.word(b"infeasible\n")?;
     bound_line(&mut text, farkas.bound)?;
     energy_line(&mut text, farkas.duals.energy)?;
-    reserve_line(&mut text, market.reserve(), farkas.duals.reserve)?;
+    reserve_line(&mut text, market.reserve().listed, farkas.duals.reserve)?;
     limit_lines(&mut text, &farkas.duals.limits)?;
     room_lines(&mut text, &farkas.duals.rooms, 0)?;
     Ok(text.into_bytes())
@@ -73,6 +74,23 @@ fn range<N: Exact>(alloc: Global, passed: &Passed<N>) -> Result<Vec<u8>, Memory>
     Ok(text.into_bytes())
 }
 
+/// The report of what a clear came to of the market with this need of reserve, in 10^-9 MW, as an edit may have set it then.
+pub fn report_with_need<N: Exact>(
+    alloc: Global,
+    market: &Market,
+    need: i64,
+    outcome: &Outcome<N>,
+) -> Result<Vec<u8>, Memory>
+    requires { FitsOutcome market.now outcome.now }
+    ensures { IfOk result (λ bytes. bytes.items ≡ report_text (with_need market.now need) (outcome_at N.value outcome.now)) }
+{
+    match outcome {
+        Outcome::Cleared(answer) => cleared(alloc, market, need, answer),
+        Outcome::Infeasible(farkas) => infeasible(alloc, market, farkas),
+        Outcome::Range(passed) => range(alloc, passed),
+    }
+}
+
 /// The report of what a clear of the market came to.
 pub fn report<N: Exact>(
     alloc: Global,
@@ -82,9 +100,5 @@ pub fn report<N: Exact>(
     requires { FitsOutcome market.now outcome.now }
     ensures { IfOk result (λ bytes. bytes.items ≡ report_text market.now (outcome_at N.value outcome.now)) }
 {
-    match outcome {
-        Outcome::Cleared(answer) => cleared(alloc, market, answer),
-        Outcome::Infeasible(farkas) => infeasible(alloc, market, farkas),
-        Outcome::Range(passed) => range(alloc, passed),
-    }
+    report_with_need(alloc, market, market.reserve().need, outcome)
 }

@@ -13,36 +13,35 @@ use crate::limits::row_number;
 use exact_fraction::{Exact, Sign};
 use line_text::Text;
 use market_model::{
-    Answer, List, MONEY_PLACES, MW_PLACES, Market, Memory, PRICE_PLACES, Reserve, ReservePay,
-    RoomDual,
+    Answer, List, MONEY_PLACES, MW_PLACES, Market, Memory, PRICE_PLACES, ReservePay, RoomDual,
 };
 
 /// How much reserve is needed.
 #[tactic(auto, using(std::proofs::Common::append_assoc))]
-fn need_words(text: &mut Text, reserve: &Reserve) -> Result<(), Memory>
-    ensures { IfOk result (λ _. text.new ≡ text.old ++ codes " need " ++ decimal_text mw_places reserve.now.need) }
+fn need_words(text: &mut Text, need: i64) -> Result<(), Memory>
+    ensures { IfOk result (λ _. text.new ≡ text.old ++ codes " need " ++ decimal_text mw_places need) }
 {
     text.word(b" need ")?;
-    text.decimal(i128::from(reserve.need), MW_PLACES)
+    text.decimal(i128::from(need), MW_PLACES)
 }
 
 /// The price of reserve and how much is needed, where reserve is listed.
-pub fn need_line<N: Exact>(text: &mut Text, reserve: &Reserve, price: N) -> Result<(), Memory>
-    ensures { IfOk result (λ _. text.new ≡ text.old ++ need_text reserve.now (N.value price)) }
+pub fn need_line<N: Exact>(text: &mut Text, listed: bool, need: i64, price: N) -> Result<(), Memory>
+    ensures { IfOk result (λ _. text.new ≡ text.old ++ need_text listed need (N.value price)) }
 {
-    if !reserve.listed {
+    if !listed {
         return Ok(());
     }
     text.named(b"reserve price ", price, PRICE_PLACES)?;
-    need_words(text, reserve)?;
+    need_words(text, need)?;
     text.word(b"\n")
 }
 
 /// The price of reserve as a plain number, where reserve is listed.
-pub fn reserve_line<N: Exact>(text: &mut Text, reserve: &Reserve, price: N) -> Result<(), Memory>
-    ensures { IfOk result (λ _. text.new ≡ text.old ++ plain_reserve_text reserve.now (N.value price)) }
+pub fn reserve_line<N: Exact>(text: &mut Text, listed: bool, price: N) -> Result<(), Memory>
+    ensures { IfOk result (λ _. text.new ≡ text.old ++ plain_reserve_text listed (N.value price)) }
 {
-    if !reserve.listed {
+    if !listed {
         return Ok(());
     }
     text.named(b"reserve dual ", price, 0)?;
