@@ -46,7 +46,7 @@ module _ (m : Parts) (alone : m.reserve ≡ no_reserve) where
       cleared_less (head_text a.welfare a.duals.energy) (need_text m.reserve.listed m.reserve.need a.duals.reserve) (lines_of_buses m a) (lines_of_blocks m a) (lines_of_limits a) (lines_of_rooms price_places a.duals.rooms) (lines_of_units m a) (lines_of_offers m a) (lines_of_loads m a) (surplus_text a.money.surplus)
       (no_need m.reserve.listed m.reserve.need a.duals.reserve (not_listed m alone)) (no_rooms price_places a.duals proper) (no_offer_lines a)
 
-  infeasible_alone : (f : Farkas Fraction) → ProperDuals m f.duals → infeasible_text m f ≡ plain_lines f
+  infeasible_alone : (f : Farkas Fraction) → ProperDuals m f.duals → infeasible_text m.reserve.listed f ≡ plain_lines f
   unfolding infeasible_text
   infeasible_alone f proper =
       infeasible_less (codes "infeasible\n") (bound_text f.bound) (plain_energy_text f.duals.energy) (plain_reserve_text m.reserve.listed f.duals.reserve) (flat_map limit_text f.duals.limits) (lines_of_rooms 0 f.duals.rooms)

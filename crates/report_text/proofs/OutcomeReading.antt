@@ -1,5 +1,5 @@
 -- Equal reports are of equal outcomes, and what comes after them is then the same.
-use Rattle.std.specs.Prelude.{◌≡◌, ℕ, All, List, [], ◌∷◌, ◌++◌, codes, length, map, refl}
+use Rattle.std.specs.Prelude.{◌≡◌, Bool, ℕ, All, List, [], ◌∷◌, ◌++◌, codes, length, map, refl}
 use Rattle.std.specs.List.{flat_map}
 use Rattle.std.proofs.Common.{ap, sym, subst, ◌∙◌, arith, append_assoc, inr}
 use Rattle.std.proofs.lemmas.List.{append_cancel_left, ext_get_or}
@@ -41,23 +41,23 @@ as_lines : (a b c n xs ys ps ls rs us : List ℕ) → (a ++ (b ++ xs ++ n) ++ (c
 as_lines a b c n xs ys ps ls rs us = Prim.simp append_assoc
 
 -- the lines of the duals, and what comes after them
-abbrev dual_lines : Parts → Farkas Fraction → List ℕ → List ℕ
-dual_lines m f us = plain_reserve_text m.reserve.listed f.duals.reserve ++ (flat_map limit_text f.duals.limits ++ (lines_of_rooms 0 f.duals.rooms ++ us))
+abbrev dual_lines : Bool → Farkas Fraction → List ℕ → List ℕ
+dual_lines listed f us = plain_reserve_text listed f.duals.reserve ++ (flat_map limit_text f.duals.limits ++ (lines_of_rooms 0 f.duals.rooms ++ us))
 
-told : (m : Parts) (f : Farkas Fraction) (us : List ℕ) → infeasible_text m f ++ us ≡ (codes "infeasible\nbound " ++ written mw_places f.bound ++ 10 ∷ codes "energy " ++ written 0 f.duals.energy ++ 10 ∷ []) ++ dual_lines m f us
+told : (listed : Bool) (f : Farkas Fraction) (us : List ℕ) → infeasible_text listed f ++ us ≡ (codes "infeasible\nbound " ++ written mw_places f.bound ++ 10 ∷ codes "energy " ++ written 0 f.duals.energy ++ 10 ∷ []) ++ dual_lines listed f us
 unfolding infeasible_text bound_text plain_energy_text
-told m f us =
-    as_lines (codes "infeasible\n") (codes "bound ") (codes "energy ") (codes "\n") (written mw_places f.bound) (written 0 f.duals.energy) (plain_reserve_text m.reserve.listed f.duals.reserve) (flat_map limit_text f.duals.limits) (lines_of_rooms 0 f.duals.rooms) us
+told listed f us =
+    as_lines (codes "infeasible\n") (codes "bound ") (codes "energy ") (codes "\n") (written mw_places f.bound) (written 0 f.duals.energy) (plain_reserve_text listed f.duals.reserve) (flat_map limit_text f.duals.limits) (lines_of_rooms 0 f.duals.rooms) us
 
 same_farkas : (f g : Farkas Fraction) → f.duals ≡ g.duals → f.bound ≡ g.bound → f ≡ g
 same_farkas f g p q =
     let make : Duals Fraction → Fraction → Farkas Fraction = λ d b. record { duals = d; bound = b } in
     ap (λ d. make d f.bound) p ∙ ap (make g.duals) q
 
-farkas_apart : (m : Parts) (f g : Farkas Fraction) → DualsFitReport m f.duals → DualsFitReport m g.duals → (us vs : List ℕ) → EndsDuals us → EndsDuals vs → infeasible_text m f ++ us ≡ infeasible_text m g ++ vs → (f ≡ g) × (us ≡ vs)
+farkas_apart : (m : Parts) (f g : Farkas Fraction) → DualsFitReport m f.duals → DualsFitReport m g.duals → (us vs : List ℕ) → EndsDuals us → EndsDuals vs → infeasible_text m.reserve.listed f ++ us ≡ infeasible_text m.reserve.listed g ++ vs → (f ≡ g) × (us ≡ vs)
 farkas_apart m f g p q us vs ends follows e =
-    let t = two_apart (codes "infeasible\nbound ") mw_places 0 10 (codes "energy ") f.bound g.bound f.duals.energy g.duals.energy (dual_lines m f us) (dual_lines m g vs) (Prim.omega arith)
-    (sym (told m f us) ∙ e ∙ told m g vs) in
+    let t = two_apart (codes "infeasible\nbound ") mw_places 0 10 (codes "energy ") f.bound g.bound f.duals.energy g.duals.energy (dual_lines m.reserve.listed f us) (dual_lines m.reserve.listed g vs) (Prim.omega arith)
+    (sym (told m.reserve.listed f us) ∙ e ∙ told m.reserve.listed g vs) in
     let price = prices_apart m.reserve.listed f.duals.reserve g.duals.reserve p.unlisted q.unlisted _ _ t.2 in
     let limits = limits_apart f.duals.limits g.duals.limits (lines_of_rooms 0 f.duals.rooms ++ us) (lines_of_rooms 0 g.duals.rooms ++ vs)
     (rooms_follow 0 f.duals.rooms p.rooms us ends.0) (rooms_follow 0 g.duals.rooms q.rooms vs follows.0) price.1 in

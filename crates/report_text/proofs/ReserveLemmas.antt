@@ -6,6 +6,8 @@ use Rattle.fraction_theory.specs.Fraction.{Fraction}
 use Rattle.exact_fraction.specs.Written.{written}
 use Rattle.line_text.specs.Decimals.{decimal_text}
 use Rattle.market_data.specs.Scales.{mw_places, price_places}
+use Rattle.market_model.specs.declared.participants.Parts.{Parts}
+use Rattle.market_model.specs.Changes.{with_need}
 use Rattle.report_text.specs.Reports.{need_text, plain_reserve_text}
 
 -- a line that is told where a test holds
@@ -43,3 +45,7 @@ module _ (listed : Bool) (price : Fraction) (t : List ℕ) where
 pub report_grown : (h n b k r d u o l a x c t₀ t₁ t₂ t₃ t₄ t₅ t₆ t₇ t₈ t₉ t₁₀ t₁₁ : List ℕ) → t₀ ≡ [] → t₁ ≡ t₀ ++ h → t₂ ≡ t₁ ++ n → t₃ ≡ t₂ ++ b → t₄ ≡ t₃ ++ k → t₅ ≡ t₄ ++ r → t₆ ≡ t₅ ++ d → t₇ ≡ t₆ ++ u → t₈ ≡ t₇ ++ o → t₉ ≡ t₈ ++ l → t₁₀ ≡ t₉ ++ a ++ x → t₁₁ ≡ t₁₀ ++ c
     → t₁₁ ≡ h ++ n ++ b ++ k ++ r ++ d ++ u ++ o ++ l ++ (a ++ x ++ c)
 report_grown h n b k r d u o l a x c t₀ t₁ t₂ t₃ t₄ t₅ t₆ t₇ t₈ t₉ t₁₀ t₁₁ e₀ e₁ e₂ e₃ e₄ e₅ e₆ e₇ e₈ e₉ e₁₀ e₁₁ = Prim.rw (e₁₁, e₁₀, e₉, e₈, e₇, e₆, e₅, e₄, e₃, e₂, e₁, e₀) Prim.simp append_assoc
+
+-- a market with the need that it has
+pub need_kept : (m : Parts) (need : ℤ) → need ≡ m.reserve.need → with_need m need ≡ m
+need_kept m need e = λ i. record m { reserve = record m.reserve { need = e i } }

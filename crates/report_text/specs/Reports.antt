@@ -195,13 +195,13 @@ plain_energy_text energy = codes "energy " ++ written 0 energy ++ codes "\n"
 unfoldable pub plain_reserve_text : Bool → Fraction → List ℕ
 plain_reserve_text listed price = if listed then codes "reserve dual " ++ written 0 price ++ codes "\n" else []
 
--- the report of duals that show that nothing is feasible
-unfoldable pub infeasible_text : Parts → Farkas Fraction → List ℕ
-infeasible_text m f =
+-- the report of duals that show that nothing is feasible, and whether reserve is listed
+unfoldable pub infeasible_text : Bool → Farkas Fraction → List ℕ
+infeasible_text listed f =
     codes "infeasible\n"
     ++ bound_text f.bound
     ++ plain_energy_text f.duals.energy
-    ++ plain_reserve_text m.reserve.listed f.duals.reserve
+    ++ plain_reserve_text listed f.duals.reserve
     ++ flat_map limit_text f.duals.limits
     ++ lines_of_rooms 0 f.duals.rooms
 
@@ -218,5 +218,5 @@ range_text p = codes "range " ++ op_text p.op ++ parts_text p.left ++ codes " " 
 -- the report of what a clear came to
 abbrev pub report_text : Parts → Outcome Fraction → List ℕ
 report_text m (outcome.Cleared a) = cleared_text m a
-report_text m (outcome.Infeasible f) = infeasible_text m f
+report_text m (outcome.Infeasible f) = infeasible_text m.reserve.listed f
 report_text m (outcome.Range p) = range_text p

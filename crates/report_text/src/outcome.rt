@@ -11,7 +11,7 @@ use crate::limits::limit_lines;
 use crate::reserve::{reserve_line, room_lines};
 use exact_fraction::{Exact, Op, Passed};
 use line_text::Text;
-use market_model::{Farkas, MW_PLACES, Market, Memory, Outcome};
+use market_model::{Farkas, MW_PLACES, Market, Memory, Outcome, Reserve};
 use std::alloc::Global;
 
 /// The bound that shows that no dispatch is feasible.
@@ -38,7 +38,7 @@ fn infeasible<N: Exact>(
     market: &Market,
     farkas: &Farkas<N>,
 ) -> Result<Vec<u8>, Memory>
-    ensures { IfOk result (λ bytes. bytes.items ≡ infeasible_text market.now (farkas_at N.value farkas.now)) }
+    ensures { IfOk result (λ bytes. bytes.items ≡ infeasible_text market.now.reserve.listed (farkas_at N.value farkas.now)) }
 {
     let mut text = Text::new(alloc);
     text.word(b"infeasible\n")?;
@@ -91,6 +91,13 @@ pub fn report_with_need<N: Exact>(
     }
 }
 
+/// How much reserve is needed, in 10^-9 MW.
+fn need_of(reserve: &Reserve) -> i64
+    ensures { result ≡ reserve.now.need }
+{
+    reserve.need
+}
+
 /// The report of what a clear of the market came to.
 pub fn report<N: Exact>(
     alloc: Global,
@@ -100,5 +107,5 @@ pub fn report<N: Exact>(
     requires { FitsOutcome market.now outcome.now }
     ensures { IfOk result (λ bytes. bytes.items ≡ report_text market.now (outcome_at N.value outcome.now)) }
 {
-    report_with_need(alloc, market, market.reserve().need, outcome)
+    report_with_need(alloc, market, need_of(market.reserve()), outcome)
 }
