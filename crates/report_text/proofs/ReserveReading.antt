@@ -1,6 +1,6 @@
 -- The lines of reserve are of what they tell.
 use Rattle.std.specs.Prelude.{◌≡◌, ◌≢◌, ℕ, ℤ, All, Bool, true, false, List, [], ◌∷◌, ◌++◌, codes, decimal, if◌then◌else◌, refl}
-use Rattle.std.specs.List.{AllByRecursion, flat_map}
+use Rattle.std.specs.List.{AllByRecursion}
 use Rattle.std.proofs.Common.{arith, ap, sym, ◌∙◌, subst, append_assoc}
 use Rattle.std.proofs.lemmas.List.{append_cancel_left}
 use Rattle.std.proofs.lemmas.List.Elements.{All-tail}
@@ -108,12 +108,15 @@ module _ (k : ℕ) where
   pub rooms_apart : (ds es : List (RoomDual Fraction)) → All IsPriced ds → All IsPriced es → (us vs : List ℕ) → EndsRooms us → EndsRooms vs → lines_of_rooms k ds ++ us ≡ lines_of_rooms k es ++ vs → (ds ≡ es) × (us ≡ vs)
   rooms_apart ds es p q us vs g h e = lines_end (room_text k) IsPriced EndsRooms room_apart room_begins ds es (are_priced ds p) (are_priced es q) us vs g h e
 
+  -- the second letter of `room` is not that of `limit`
+  no_limit : 111 ≢ 105
+  no_limit e = Prim.omega (arith, e)
+
   -- no line of a limit follows where rooms do
   pub rooms_follow : (ds : List (RoomDual Fraction)) → All IsPriced ds → (us : List ℕ) → EndsLimits us → EndsLimits (lines_of_rooms k ds ++ us)
   rooms_follow [] p us h = h
   rooms_follow (d ∷ ds) p us h =
-      let letter : 111 ≢ 105 = λ (e : 111 ≡ 105). Prim.omega (arith, e) in
-      subst EndsLimits (sym (append_assoc (room_text k d) (lines_of_rooms k ds) us ∙ room_opened d (p 0 d (Prim.omega arith)) (lines_of_rooms k ds ++ us))) letter
+      subst EndsLimits (sym (append_assoc (room_text k d) (lines_of_rooms k ds) us ∙ room_opened d (p 0 d (Prim.omega arith)) (lines_of_rooms k ds ++ us))) no_limit
 
 -- ---- offers
 same_pay : (p q : ReservePay Fraction) → p.mw ≡ q.mw → p.paid ≡ q.paid → p ≡ q

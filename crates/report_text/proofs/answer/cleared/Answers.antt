@@ -1,4 +1,4 @@
-use Rattle.std.proofs.Common.{◌≡◌, ◌∙◌, ◌++◌, Bool, ℤ, ap, w64}
+use Rattle.std.proofs.Common.{◌∙◌, ◌++◌, Bool, ℤ, ap, w64}
 use Rattle.std.specs.Prelude.{codes}
 use Rattle.std.proofs.lemmas.Int.{to_z-of_z}
 use Rattle.exact_fraction.specs.Written.{written}
