@@ -109,14 +109,14 @@ module _ (k : ℕ) where
   rooms_apart ds es p q us vs g h e = lines_end (room_text k) IsPriced EndsRooms room_apart room_begins ds es (are_priced ds p) (are_priced es q) us vs g h e
 
   -- the second letter of `room` is not that of `limit`
-  no_limit : 111 ≢ 105
-  no_limit e = Prim.omega (arith, e)
+  no_limit : (c d : ℕ) → c ≡ 111 → d ≡ 105 → c ≢ d
+  no_limit c d p q e = Prim.omega (arith, p, q, e)
 
   -- no line of a limit follows where rooms do
   pub rooms_follow : (ds : List (RoomDual Fraction)) → All IsPriced ds → (us : List ℕ) → EndsLimits us → EndsLimits (lines_of_rooms k ds ++ us)
   rooms_follow [] p us h = h
   rooms_follow (d ∷ ds) p us h =
-      subst EndsLimits (sym (append_assoc (room_text k d) (lines_of_rooms k ds) us ∙ room_opened d (p 0 d (Prim.omega arith)) (lines_of_rooms k ds ++ us))) no_limit
+      subst EndsLimits (sym (append_assoc (room_text k d) (lines_of_rooms k ds) us ∙ room_opened d (p 0 d (Prim.omega arith)) (lines_of_rooms k ds ++ us))) (no_limit 111 105 refl refl)
 
 -- ---- offers
 same_pay : (p q : ReservePay Fraction) → p.mw ≡ q.mw → p.paid ≡ q.paid → p ≡ q
