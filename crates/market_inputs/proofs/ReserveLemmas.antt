@@ -1,5 +1,5 @@
 -- A market is of energy alone exactly where its table of reserves has no records.
-use Rattle.std.proofs.Common.{◌≡◌, ◌∙◌, ◌∷◌, [], ap, arith, refl, sym, suc, ℕ, true, false, List, length, Some, Result, Ok, Err}
+use Rattle.std.proofs.Common.{◌≡◌, ◌∙◌, ◌∷◌, [], ap, arith, refl, sym, suc, ℕ, Bool, true, false, List, length, Some, Result, Ok, Err}
 use Rattle.std.specs.Prelude.{◌↔◌, nat_lt}
 use Rattle.std.proofs.lemmas.Bool.{false≢true, lt-ltb}
 use Rattle.csv_table.specs.Table.{frame_of, table_of}
@@ -9,21 +9,21 @@ use Rattle.market_model.specs.Reserves.{no_reserve}
 use Rattle.record_reading.specs.Records.{Record}
 use Rattle.record_reading.specs.Steps.{and_then, or_as}
 use Rattle.record_reading.specs.declared.FrameFault.{FrameFault}
-use Rattle.offer_book.specs.declared.reserve_reading.Found.{Found}
 use Rattle.offer_book.specs.declared.reserve_reading.ReserveFault.{ReserveFault}
 use Rattle.offer_book.specs.declared.reserve_reading.ReserveFault.TheVariants as fault
 use Rattle.offer_book.specs.Reserving.{found_from, most_reserves, nothing_found, reserve_from, reserve_header, reserve_in, reserve_of_table}
 use Rattle.market_inputs.specs.Tables.{ListsNoReserve}
 
+-- what is made of something is listed or not, whatever it is made of
+made-listed : {A : Type 0} (f : Result A ReserveFault) (make : A → Reserve) (listed : Bool) → ((x : A) → (make x).listed ≡ listed) → (r : Reserve) → and_then f (λ x. Ok (make x)) ≡ Ok r → r.listed ≡ listed
+made-listed (Ok x) make listed each r made = let same : make x ≡ r = cc made in sym (ap (λ (reserve : Reserve). reserve.listed) same) ∙ each x
+made-listed (Err e) make listed each r made = absurd (cc made)
+
 module _ (units : UnitList) where
   -- reserve is listed exactly where there is a record
   listed-is : (rows : List Record) (r : Reserve) → reserve_in units rows ≡ Ok r → r.listed ≡ nat_lt 0 (length rows)
   unfolding reserve_in
-  listed-is rows r is = go (found_from units nothing_found 2 rows) is
-    where
-      go : (f : Result Found ReserveFault) → and_then f (λ found. Ok (reserve_from (length rows) found)) ≡ Ok r → r.listed ≡ nat_lt 0 (length rows)
-      go (Ok found) made = let same : reserve_from (length rows) found ≡ r = cc made in ap (λ (x : Reserve). x.listed) (sym same)
-      go (Err e) made = absurd (cc made)
+  listed-is rows r is = made-listed (found_from units nothing_found 2 rows) (reserve_from (length rows)) (nat_lt 0 (length rows)) (λ found. refl) r is
 
   -- no records make none
   none-made : (r : Reserve) → reserve_in units [] ≡ Ok r → r ≡ no_reserve
