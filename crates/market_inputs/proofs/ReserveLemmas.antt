@@ -2,7 +2,8 @@
 use Rattle.std.proofs.Common.{◌≡◌, ◌∙◌, ◌∷◌, [], ap, arith, refl, sym, suc, ℕ, Bool, true, false, List, length, Some, Result, Ok, Err}
 use Rattle.std.specs.Prelude.{◌↔◌, nat_lt}
 use Rattle.std.proofs.lemmas.Bool.{false≢true, lt-ltb}
-use Rattle.csv_table.specs.Table.{frame_of, table_of}
+use Rattle.csv.proofs.OnLiterals.{csv_on_literals}
+use Rattle.csv_table.specs.Table.{frame_of, header_line, table_of}
 use Rattle.market_data.specs.declared.participants.UnitList.{UnitList}
 use Rattle.market_model.specs.declared.participants.Reserve.{Reserve}
 use Rattle.market_model.specs.Reserves.{no_reserve}
@@ -42,3 +43,8 @@ module _ (units : UnitList) where
     pub none-listed : reserve_of_table units text ≡ Ok r → (r ≡ no_reserve) ↔ ListsNoReserve text
     unfolding reserve_of_table
     none-listed made = by_frame (frame_of reserve_header (Some most_reserves) (table_of text)) refl made
+
+-- the header alone, as a table that is not named stands for it, has no records
+pub header-lists-none : ListsNoReserve (header_line reserve_header)
+unfolding csv_on_literals frame_of table_of
+header-lists-none = refl

@@ -1,11 +1,11 @@
-use Rattle.std.proofs.Common.{◌≡◌, ◌∙◌, Ok, Err, rules, subst, sym}
+use Rattle.std.proofs.Common.{◌≡◌, Ok, Err, rules}
 use Rattle.market_model.specs.declared.participants.Parts.{Parts}
 use Rattle.market_tables.specs.Tables.{tables_lent}
 use Rattle.market_inputs.specs.declared.covering.Covered.{Covered}
 use Rattle.market_inputs.specs.Clearing.{AreCovered, AreLimitedParts, whole_of}
 use Rattle.market_inputs.specs.Files.{sized_tables}
 use Rattle.market_inputs.specs.Steps.{Is, Then}
-use Rattle.market_inputs.proofs.StepLemmas.{goes-on, made-then, stops}
+use Rattle.market_inputs.proofs.StepLemmas.{goes-on, stops}
 use Rattle.market_inputs.proofs.clearing.market_parts.Goals as goal
 
 pub returns-in_err-limited-clause-told : goal.returns-in_err-limited-clause-told
