@@ -1,5 +1,5 @@
 -- A market is of energy alone exactly where its table of reserves has no records.
-use Rattle.std.proofs.Common.{◌≡◌, ◌∙◌, ◌∷◌, [], ap, arith, refl, sym, suc, ℕ, Bool, true, false, List, length, Some, Result, Ok, Err}
+use Rattle.std.proofs.Common.{◌≡◌, ◌∙◌, ◌∷◌, [], ap, arith, refl, sym, suc, ℕ, Bool, true, List, length, Some, Result, Ok, Err}
 use Rattle.std.specs.Prelude.{◌↔◌, nat_lt}
 use Rattle.std.proofs.lemmas.Bool.{false≢true, lt-ltb}
 use Rattle.csv.proofs.OnLiterals.{csv_on_literals}
@@ -7,7 +7,7 @@ use Rattle.csv_table.specs.Table.{frame_of, header_line, table_of}
 use Rattle.market_data.specs.declared.participants.UnitList.{UnitList}
 use Rattle.market_model.specs.declared.participants.Reserve.{Reserve}
 use Rattle.market_model.specs.Reserves.{no_reserve}
-use Rattle.record_reading.specs.Records.{Record}
+use Rattle.record_reading.specs.Records.{Record, first_ragged}
 use Rattle.record_reading.specs.Steps.{and_then, or_as}
 use Rattle.record_reading.specs.declared.FrameFault.{FrameFault}
 use Rattle.offer_book.specs.declared.reserve_reading.ReserveFault.{ReserveFault}
@@ -46,5 +46,5 @@ module _ (units : UnitList) where
 
 -- the header alone, as a table that is not named stands for it, has no records
 pub header-lists-none : ListsNoReserve (header_line reserve_header)
-unfolding csv_on_literals frame_of table_of
+unfolding csv_on_literals first_ragged frame_of table_of
 header-lists-none = refl
