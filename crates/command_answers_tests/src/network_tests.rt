@@ -163,6 +163,7 @@ fn clears_five_buses(rt: HostRuntime) -> Result<(), Fail> {
         grid,
         unit_outages: b"unit,taker,share\n".as_slice(),
         offers: OFFERS,
+        reserves: b"kind,unit,mw,price\n".as_slice(),
         offsets: b"branch,mw\n".as_slice(),
         penalties: b"branch,limit,price,excess\n".as_slice(),
     };

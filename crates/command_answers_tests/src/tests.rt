@@ -56,6 +56,7 @@ fn tells_of_each_command(rt: HostRuntime) -> Result<(), Fail> {
         grid,
         unit_outages: b"unit,taker,share\n".as_slice(),
         offers: OFFERS,
+        reserves: b"kind,unit,mw,price\n".as_slice(),
         offsets: b"branch,mw\n".as_slice(),
         penalties: b"branch,limit,price,excess\n".as_slice(),
     };

@@ -152,6 +152,7 @@ impl Texts {
             grid,
             unit_outages: self.lost.as_bytes(),
             offers: self.offers.as_bytes(),
+            reserves: b"kind,unit,mw,price\n".as_slice(),
             offsets: b"branch,mw\n".as_slice(),
             penalties: self.penalties.as_bytes(),
         }
