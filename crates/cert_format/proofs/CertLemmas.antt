@@ -7,7 +7,6 @@ use Rattle.std.proofs.lemmas.List.Elements.{All-cons, All-nil}
 use Rattle.market_model.specs.Valued.{answer_at, dual_at, farkas_at, room_dual_at}
 use Rattle.std.proofs.lemmas.Str.{IsUtf8-from_is_utf8, is_utf8-from_IsUtf8}
 use Rattle.fraction_theory.specs.Fraction.{Fraction}
-use Rattle.exact_fraction.specs.Written.{parts_text}
 use Rattle.market_data.specs.Scales.{place_count}
 use Rattle.market_data.specs.declared.scales.FactorPlaces.{FactorPlaces}
 use Rattle.market_data.specs.declared.scales.FactorPlaces.TheVariants.{Six, Nine}
@@ -28,7 +27,7 @@ use Rattle.cert_format.specs.declared.certificate.ClearedReserve.{ClearedReserve
 use Rattle.cert_format.specs.declared.certificate.Key.TheVariants as key
 use Rattle.cert_format.specs.declared.certificate.ReserveDuals.{ReserveDuals}
 use Rattle.cert_format.specs.declared.forms.Version.TheVariants as version
-use Rattle.cert_format.specs.Certificates.{CertFits, ClearedReserveFits, DualFits, Fits, NamesFit, NumbersFit, ReserveDualsFit, RoomFits, RowFits, RowsAreDistinct, cert_against, cert_at, cert_of, cleared_reserve_at, limits_of, most_part, reserve_duals_at, rooms_among, rooms_of}
+use Rattle.cert_format.specs.Certificates.{CertFits, ClearedReserveFits, DualFits, Fits, NamesFit, NumbersFit, ReserveDualsFit, RoomFits, RowFits, RowsAreDistinct, cert_against, cert_at, cert_of, most_part, reserve_duals_at, rooms_among}
 use Rattle.cert_format.specs.Grammar.{cert_in, cert_read, each, farkas_in, limit_in, optimal_in, places_named}
 use Rattle.cert_format.specs.Written.{cert_data, cert_text, cleared_reserve_data, ending, fraction_data, limit_data, reserve_duals_data, with_unit, with_version}
 use Rattle.cert_format.proofs.NumberTexts.{float-fractions, flat-fractions, fraction-back, fractions-again, fractions-back, key_utf8, plain-fractions}

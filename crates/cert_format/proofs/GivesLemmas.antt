@@ -26,12 +26,6 @@ fails-within k o f seen further fault.Memory h = tt
 fails-within {A} {B} k None f seen further (fault.Key j) h = same_fault A B k j h
 fails-within k (Some y) f seen further (fault.Key j) h = cc
 
--- a part that is there
-pub gives-some : {A X : Type 0} (k : Key) (o : Option A) (seen : X → A) (e : CertFault) → Gives seen (Err e) (need k o (λ y. Ok y)) → Gives (option_map seen) (Err e) (need k (option_map (λ r. Some r) o) (λ y. Ok y))
-gives-some k o seen fault.Memory h = tt
-gives-some {A} k None seen (fault.Key j) h = same_fault A (Option A) k j h
-gives-some k (Some y) seen (fault.Key j) h = cc
-
 -- whether there is none is the same under a view
 pub none-of : {A B : Type 0} (o : Option A) (f : A → B) (p : Option B) (b : Bool) → option_map f o ≡ p → is_some o ≡ b → is_none p ≡ not b
 none-of None f p b e is = ap is_none (sym e) ∙ ap not is

@@ -1,5 +1,5 @@
 -- Fractions in the text of a certificate.
-use Rattle.std.specs.Prelude.{◌≡◌, ℕ, ◌≤◌, List, [], ◌∷◌, map, true, false, All, Option, Some, IsUtf8}
+use Rattle.std.specs.Prelude.{◌≡◌, ℕ, ◌≤◌, List, [], ◌∷◌, map, true, false, All, Some, IsUtf8}
 use Rattle.std.proofs.Common.{suc, arith, refl}
 use Rattle.fraction_theory.specs.Fraction.{Fraction}
 use Rattle.exact_fraction.specs.Written.{parts_text}

@@ -1,5 +1,5 @@
 -- What is written of reserve is read as it.
-use Rattle.std.specs.Prelude.{◌≡◌, ℕ, ◌<◌, ◌≤◌, ◌^◌, List, [], ◌∷◌, map, codes, false, All, Option, Some}
+use Rattle.std.specs.Prelude.{◌≡◌, ◌<◌, ◌≤◌, ◌^◌, List, [], ◌∷◌, map, codes, false, All, Some}
 use Rattle.std.proofs.Common.{suc, arith, refl}
 use Rattle.std.proofs.lemmas.Bool.{lt-ltb}
 use Rattle.fraction_theory.specs.Fraction.{Fraction}
