@@ -203,7 +203,14 @@ fn answer_text<N: Exact>(
 {
     let part = answer_part(alloc, listed, answer)?;
     let duals = &answer.duals;
-    optimal_text(alloc, &answer.dispatch, duals.energy, &duals.limits, places, part)
+    optimal_text(
+        alloc,
+        &answer.dispatch,
+        duals.energy,
+        &duals.limits,
+        places,
+        part,
+    )
 }
 
 /// The text of the certificate of duals that show that no dispatch is feasible.

@@ -95,7 +95,7 @@ fn wrong_slack<N: Exact>(
     requires quantities { length quantities.now ≡ length market.now.reserve.offers }
     ensures first { N.value accepted ≡ reserve market.now (dispatch_with (map N.value blocks.now) (map N.value quantities.now))
         → IfOk result (λ first. first ≡ first_of (need_slack_reason market.now (dispatch_with (map N.value blocks.now) (map N.value quantities.now)) (N.value price)
-            ∷ room_slack_reason market.now (dispatch_with (map N.value blocks.now) (map N.value quantities.now)) (map (room_dual_at N.value) rooms.now) ∷ [])) }
+        ∷ room_slack_reason market.now (dispatch_with (map N.value blocks.now) (map N.value quantities.now)) (map (room_dual_at N.value) rooms.now) ∷ [])) }
     ensures cause { IfErr result (λ passed. IsRefusedAmong (ReserveSum market.now (dispatch_with (map N.value blocks.now) (map N.value quantities.now))) N.bound (passed_at N.value passed)) }
 {
     if let Some(reason) = slack_need(market, price, accepted) {
@@ -238,7 +238,9 @@ pub(crate) fn against_optimal<N: Exact>(
     if let Some(reason) = wrong_flow(alloc, market, blocks, quantities, limits, price, rooms)? {
         return Ok(Some(reason));
     }
-    wrong_support(alloc, market, blocks, quantities, energy, limits, price, rooms)
+    wrong_support(
+        alloc, market, blocks, quantities, energy, limits, price, rooms,
+    )
 }
 
 /// Whether a bound is not below 0.

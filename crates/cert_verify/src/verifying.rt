@@ -57,7 +57,14 @@ fn against_dispatch<N: Exact>(
             let quantities = cleared.quantities.slice();
             let rooms = duals.rooms.slice();
             against_optimal(
-                alloc, market, blocks, quantities, energy, limits, duals.price, rooms,
+                alloc,
+                market,
+                blocks,
+                quantities,
+                energy,
+                limits,
+                duals.price,
+                rooms,
             )
         }
     }
