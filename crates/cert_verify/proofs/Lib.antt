@@ -4,4 +4,5 @@ pub mod NamingLemmas
 pub mod PlacesLemmas
 pub mod RowLemmas
 pub mod TestLemmas
+pub mod UnitLemmas
 pub mod VerdictLemmas

@@ -13,7 +13,7 @@ use crate::{Reason, Verdict, VerifyStop};
 use cert_format::{Cert, ClearedReserve, ReserveDuals};
 use exact_fraction::Exact;
 use market_data::FactorPlaces;
-use market_model::{Dual, Market, Stop, datum};
+use market_model::{Dual, List, Market, RoomDual, Stop, datum};
 use std::alloc::Global;
 
 /// What is told where this is the first reason, or there is none.
@@ -51,7 +51,20 @@ fn against_dispatch<N: Exact>(
     ensures cause { IfErr result (StopsBy N.value (IsOptimalStop market.now (dispatched (map N.value blocks.now) (option_map (cleared_reserve_at N.value) reserve.now)) (named_duals (N.value energy) (map (dual_at N.value) limits.now) (option_map (λ r. r.duals) (option_map (cleared_reserve_at N.value) reserve.now))) N.bound)) }
 {
     match reserve {
-        None => against_optimal(alloc, market, blocks, &[], energy, limits, datum(0), &[]),
+        None => {
+            let quantities: List<N> = List::new(alloc);
+            let rooms: List<RoomDual<N>> = List::new(alloc);
+            against_optimal(
+                alloc,
+                market,
+                blocks,
+                quantities.slice(),
+                energy,
+                limits,
+                datum(0),
+                rooms.slice(),
+            )
+        }
         Some(cleared) => {
             let duals = &cleared.duals;
             let quantities = cleared.quantities.slice();
@@ -83,7 +96,10 @@ fn against_duals<N: Exact>(
     ensures cause { IfErr result (StopsBy N.value (IsFarkasStop market.now (named_duals (N.value energy) (map (dual_at N.value) limits.now) (option_map (reserve_duals_at N.value) reserve.now)) N.bound)) }
 {
     match reserve {
-        None => against_farkas(alloc, market, energy, limits, datum(0), &[]),
+        None => {
+            let rooms: List<RoomDual<N>> = List::new(alloc);
+            against_farkas(alloc, market, energy, limits, datum(0), rooms.slice())
+        }
         Some(duals) => {
             let rooms = duals.rooms.slice();
             against_farkas(alloc, market, energy, limits, duals.price, rooms)
