@@ -2,8 +2,8 @@
 
 ghost use Rattle.std.specs.Prelude.{◌≡◌, ◌∷◌, ◌++◌, [], List, length, map, not, IfOk, IfErr};
 ghost use Rattle.fraction_theory.specs.Fraction.{Fraction};
-ghost use Rattle.exact_fraction.specs.declared.Passed.{Passed};
 ghost use Rattle.market_model.specs.declared.answered.Duals.{Duals};
+ghost use Rattle.market_model.specs.declared.stops.Stop.TheVariants as stop;
 ghost use Rattle.market_model.specs.Dispatch.{dispatch_with, places, zero};
 ghost use Rattle.market_model.specs.Optimality.{energy_worth};
 ghost use Rattle.market_model.specs.Reserves.{reserve};
@@ -155,7 +155,7 @@ fn named_parts<N: Exact>(
     requires { NamesNoRowTwice (map (dual_at N.value) limits.now) }
     ensures rows { (energy price : Fraction) → IfOk result (λ p. AreNamed N.value market.now (all_duals energy (map (dual_at N.value) limits.now) price (map (room_dual_at N.value) rooms.now)) p.0) }
     ensures rooms { (energy price : Fraction) → IfOk result (λ p. AreNamedRooms N.value market.now (all_duals energy (map (dual_at N.value) limits.now) price (map (room_dual_at N.value) rooms.now)) p.1) }
-    ensures cause { (Q : Passed Fraction → Type 0) → IfErr result (StopsBy N.value Q) }
+    ensures cause { IfErr result (λ why. why ≡ stop.Memory) }
 {
     let rows = match named_rows(alloc, market, limits) {
         Ok(rows) => rows,
