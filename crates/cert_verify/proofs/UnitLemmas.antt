@@ -15,6 +15,10 @@ use Rattle.cert_verify.specs.Reasons.{of_first}
 use Rattle.cert_verify.proofs.FindLemmas.{found_behind, none_more}
 use Rattle.cert_verify.proofs.TestLemmas.{any_of, in_places, neither}
 
+pub left_false : (a b : Bool) → a ≡ false → (a && b) ≡ false
+left_false true b e = absurd (true≢false e)
+left_false false b e = refl
+
 module _ (p q : ℕ → Bool) where
   kept_more : (k : ℕ) → filter q (places (k + 1)) ≡ filter q (places k) ++ cond (q k) (k ∷ []) []
   kept_more k = ap (filter q) (places_more k) ∙ filter-append q (places k) (k ∷ [])
