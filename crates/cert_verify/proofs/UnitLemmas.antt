@@ -1,16 +1,20 @@
 -- Units that offer reserve, one after another.
-use Rattle.std.specs.Prelude.{◌≡◌, ℕ, ◌+◌, ◌<◌, ◌&&◌, ◌||◌, Bool, true, false, cond, List, [], ◌∷◌, ◌++◌, filter, Some, None, refl}
+use Rattle.std.specs.Prelude.{◌≡◌, ℕ, ◌+◌, ◌<◌, ◌&&◌, ◌||◌, Bool, true, false, cond, List, [], ◌∷◌, ◌++◌, filter, Option, Some, None, refl}
 use Rattle.std.specs.List.{find, list_any}
-use Rattle.std.proofs.Common.{ap, append-nil, ◌∙◌}
+use Rattle.std.proofs.Common.{ap, append-nil, subst, ◌∙◌}
 use Rattle.std.proofs.lemmas.Bool.{true≢false}
 use Rattle.std.proofs.lemmas.List.Elements.{filter-append}
 use Rattle.std.proofs.lemmas.List.Folds.{list_any-append}
+use Rattle.fraction_theory.specs.Fraction.{Fraction}
 use Rattle.fraction_theory.proofs.ListSums.{Contains-filter}
+use Rattle.market_model.specs.declared.answered.RoomDual.{RoomDual}
 use Rattle.market_model.specs.Dispatch.{places}
+use Rattle.market_model.specs.Optimality.{names_room, room_price_in}
 use Rattle.market_model.proofs.MorePlaces.{places_more}
 use Rattle.market_model.proofs.SumSteps.{places_at}
 use Rattle.cert_verify.specs.declared.verdicts.Reason.{Reason}
 use Rattle.cert_verify.specs.declared.verdicts.Reason.TheVariants as reason
+use Rattle.cert_verify.specs.Naming.{IsPriceOf}
 use Rattle.cert_verify.specs.Reasons.{of_first}
 use Rattle.cert_verify.proofs.FindLemmas.{found_behind, none_more}
 use Rattle.cert_verify.proofs.TestLemmas.{any_of, in_places, neither}
@@ -54,3 +58,29 @@ module _ (p q : ℕ → Bool) where
   pub none_passed : (k : ℕ) → find p (filter q (places k)) ≡ None → q k ≡ false → find p (filter q (places (k + 1))) ≡ None
   none_passed k none t =
       ap (find p) (kept_more k) ∙ ap (λ (b : Bool). find p (filter q (places k) ++ cond b (k ∷ []) [])) t ∙ ap (find p) (append-nil (filter q (places k))) ∙ none
+
+  -- those of both tests, with one place more
+  both_more : (k : ℕ) → filter p (filter q (places (k + 1))) ≡ filter p (filter q (places k)) ++ filter p (cond (q k) (k ∷ []) [])
+  both_more k = ap (filter p) (kept_more k) ∙ filter-append p (filter q (places k)) (cond (q k) (k ∷ []) [])
+
+  pub both_kept : (k : ℕ) → q k ≡ true → p k ≡ true → filter p (filter q (places (k + 1))) ≡ filter p (filter q (places k)) ++ k ∷ []
+  both_kept k kept t =
+      both_more k ∙ ap (λ (b : Bool). filter p (filter q (places k)) ++ filter p (cond b (k ∷ []) [])) kept ∙ ap (λ (b : Bool). filter p (filter q (places k)) ++ cond b (k ∷ []) []) t
+
+  pub one_not : (k : ℕ) → q k ≡ true → p k ≡ false → filter p (filter q (places (k + 1))) ≡ filter p (filter q (places k))
+  one_not k kept t =
+      both_more k ∙ ap (λ (b : Bool). filter p (filter q (places k)) ++ filter p (cond b (k ∷ []) [])) kept ∙ ap (λ (b : Bool). filter p (filter q (places k)) ++ cond b (k ∷ []) []) t
+      ∙ append-nil (filter p (filter q (places k)))
+
+  pub not_kept : (k : ℕ) → q k ≡ false → filter p (filter q (places (k + 1))) ≡ filter p (filter q (places k))
+  not_kept k t = both_more k ∙ ap (λ (b : Bool). filter p (filter q (places k)) ++ filter p (cond b (k ∷ []) [])) t ∙ append-nil (filter p (filter q (places k)))
+
+-- the price that was looked for
+module _ {N : Type 0} (value : N → Fraction) (ds : List (RoomDual Fraction)) (row : ℕ) where
+  pub price_there : (o : Option N) (price : N) → IsPriceOf value ds row o → o ≡ Some price → (names_room ds row ≡ true) × (value price ≡ room_price_in ds row)
+  price_there None price h e = cc
+  price_there (Some p) price h e = let same : p ≡ price = cc in subst (λ (z : N). (names_room ds row ≡ true) × (value z ≡ room_price_in ds row)) same h
+
+  pub price_absent : (o : Option N) → IsPriceOf value ds row o → o ≡ None → names_room ds row ≡ false
+  price_absent None h e = h
+  price_absent (Some p) h e = cc
