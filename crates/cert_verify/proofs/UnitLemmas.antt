@@ -1,7 +1,7 @@
 -- Units that offer reserve, one after another.
 use Rattle.std.specs.Prelude.{◌≡◌, ℕ, ◌+◌, ◌<◌, ◌&&◌, ◌||◌, Bool, true, false, cond, List, [], ◌∷◌, ◌++◌, filter, Option, Some, None, refl}
 use Rattle.std.specs.List.{find, list_any}
-use Rattle.std.proofs.Common.{ap, append-nil, subst, ◌∙◌}
+use Rattle.std.proofs.Common.{ap, append-nil, subst, sym, ◌∙◌}
 use Rattle.std.proofs.lemmas.Bool.{true≢false}
 use Rattle.std.proofs.lemmas.List.Elements.{filter-append}
 use Rattle.std.proofs.lemmas.List.Folds.{list_any-append}
@@ -84,3 +84,6 @@ module _ {N : Type 0} (value : N → Fraction) (ds : List (RoomDual Fraction)) (
   pub price_absent : (o : Option N) → IsPriceOf value ds row o → o ≡ None → names_room ds row ≡ false
   price_absent None h e = h
   price_absent (Some p) h e = cc
+
+pub price_read : {N : Type 0} (value : N → Fraction) (ds es : List (RoomDual Fraction)) (row other : ℕ) (o : Option N) → ds ≡ es → other ≡ row → IsPriceOf value es other o → IsPriceOf value ds row o
+price_read value ds es row other o is same h = subst (λ (xs : List (RoomDual Fraction)). IsPriceOf value xs row o) (sym is) (subst (λ (n : ℕ). IsPriceOf value es n o) same h)
