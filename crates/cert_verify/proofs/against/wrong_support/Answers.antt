@@ -1,6 +1,6 @@
-use Rattle.std.proofs.Common.{rules, Err, inr, ◌≡◌, ◌∙◌, [], ◌∷◌, List, ap, map, length, refl, sym, subst}
+use Rattle.std.proofs.Common.{inr, ◌≡◌, ◌∙◌, [], ◌∷◌, List, ap, map, length, refl, sym, subst}
 use Rattle.std.specs.Option.{option_or}
-use Rattle.market_model.specs.declared.stops.Stop.TheVariants as why
+use Rattle.std.proofs.lemmas.Result.{err_from_is_err_and}
 use Rattle.market_model.specs.Dispatch.{dispatch_with}
 use Rattle.market_model.specs.Optimality.{energy_worth}
 use Rattle.market_model.specs.Valued.{dual_at, room_dual_at}
@@ -28,8 +28,8 @@ returns-in_err-worths-clause-cause g c =
     let d = all_duals (value c.args.energy) (map (dual_at value) c.args.limits.now) (value c.args.price) (map (room_dual_at value) c.args.rooms.now) in
     let rows = subst (λ (xs : List (NamedRow g.row.N.Denot)). AreNamed value m d xs) (sym c.slice.ensures) (c.in_ok-rows.ensures.rows (value c.args.energy) (value c.args.price)) in
     let rooms = subst (λ (xs : List (NamedRoom g.row.N.Denot)). AreNamedRooms value m d xs) (sym c.slice-2.ensures) (c.in_ok-rows.ensures.rooms (value c.args.energy) (value c.args.price)) in
-    let given : c.from_residual-in_err-worths.result ≡ Err c.in_err-worths.field-0.0 = search rules in
-    rw given (c.in_err-worths.ensures.cause d refl rows rooms)
+    let p = err_from_is_err_and c.from_residual-in_err-worths.result c.from_residual-in_err-worths.ensures.1 in
+    rw (p.1, p.2) (c.in_err-worths.ensures.cause d refl rows rooms)
 
 pub unsupported_block-requires-clause-worths : goal.unsupported_block-requires-clause-worths
 unsupported_block-requires-clause-worths g c =
@@ -58,8 +58,8 @@ returns-in_err-unsupported_offer-clause-cause g c =
     let value = g.N.Exact.value in
     let d = all_duals (value c.args.energy) (map (dual_at value) c.args.limits.now) (value c.args.price) (map (room_dual_at value) c.args.rooms.now) in
     let named = subst (λ (xs : List (NamedRoom g.row.N.Denot)). AreNamedRooms value m d xs) (sym c.slice-4.ensures) (c.in_ok-rows.ensures.rooms (value c.args.energy) (value c.args.price)) in
-    let given : c.from_residual-in_err-unsupported_offer.result ≡ Err (why.Passed c.in_err-unsupported_offer.field-0.0) = search rules in
-    rw given (inr (c.in_err-unsupported_offer.ensures.cause d refl named))
+    let p = err_from_is_err_and c.from_residual-in_err-unsupported_offer.result c.from_residual-in_err-unsupported_offer.ensures.1 in
+    rw (p.1, p.2) (inr (c.in_err-unsupported_offer.ensures.cause d refl named))
 
 pub returns-clause-first : goal.returns-clause-first
 returns-clause-first g c =
