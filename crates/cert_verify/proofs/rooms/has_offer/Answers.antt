@@ -26,6 +26,6 @@ loop-at-preserved c =
     let inside : k < length m.units = omega (arith, c.loop-at-test.true, ap length units) in
     let row_is = ap (λ (us : List Unit). (slice_index_or us k (record { row = 0; bus = 0; fixed = pos 0; up = pos 0; down = pos 0 })).row) units in
     any_more (λ u. (unit_at m u).row == c.args.row) (offers_reserve m) k c.loop-at.invariant (elim c.else-unit-row.branch [
-      else-unit-row-via-then-unit-row+else-offers_reserve w ↦ not_both _ _ (λ _. sym w.offers_reserve.ensures ∙ w.if-offers_reserve.false)
-    | else-unit-row-via-else-unit-row w ↦ not_both _ _ (λ e. absurd (w.if-unit-row.false (row_is ∙ eqb-true _ _ e)))
+      | else-unit-row-via-then-unit-row+else-offers_reserve w ↦ not_both _ _ (λ _. sym w.offers_reserve.ensures ∙ w.if-offers_reserve.false)
+      | else-unit-row-via-else-unit-row w ↦ not_both _ _ (λ e. absurd (w.if-unit-row.false (row_is ∙ eqb-true _ _ e)))
     ])

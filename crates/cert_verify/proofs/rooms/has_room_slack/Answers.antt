@@ -47,10 +47,10 @@ loop-at-preserved g c =
     let up = ap (λ (us : List Unit). whole (slice_index_or us k (record { row = 0; bus = 0; fixed = pos 0; up = pos 0; down = pos 0 })).up) units in
     let test = λ (u : ℕ). ((unit_at m u).row == c.args.dual.now.unit) && is_slack (value c.args.dual.now.price) (room_used m x u) (room m u) in
     any_more test (offers_reserve m) k c.loop-at.invariant (elim c.if-unit-dual.branch [
-      then-unit-dual+then-offers_reserve+in_ok-used+else-is_slack w ↦ left_false _ _ (not_both _ _ (λ _.
+      | then-unit-dual+then-offers_reserve+in_ok-used+else-is_slack w ↦ left_false _ _ (not_both _ _ (λ _.
           sym (ap₂ (λ (used all : Fraction). is_slack (value c.args.dual.now.price) used all) w.in_ok-used.ensures.used (w.room_of.ensures ∙ up)) ∙ sym w.is_slack.ensures ∙ w.if-is_slack.false))
-    | else-unit-dual w ↦ elim w.else-unit-dual.branch [
-        else-unit-dual-via-then-unit-dual+else-offers_reserve w' ↦ not_both _ _ (λ _. sym w'.offers_reserve.ensures ∙ w'.if-offers_reserve.false)
-      | else-unit-dual-via-else-unit-dual w' ↦ left_false _ _ (left_false _ _ (false_from_ne_true _ (λ e. w'.if-unit-dual.false (row_is ∙ eqb-true _ _ e))))
+      | else-unit-dual w ↦ elim w.else-unit-dual.branch [
+        | else-unit-dual-via-then-unit-dual+else-offers_reserve w' ↦ not_both _ _ (λ _. sym w'.offers_reserve.ensures ∙ w'.if-offers_reserve.false)
+        | else-unit-dual-via-else-unit-dual w' ↦ left_false _ _ (left_false _ _ (false_from_ne_true _ (λ e. w'.if-unit-dual.false (row_is ∙ eqb-true _ _ e))))
       ]
     ])

@@ -10,5 +10,5 @@ use Rattle.cert_verify.proofs.rooms.has_room_slack.Given as goal
 abbrev pub invariant-loop-at : goal.invariant-loop-at
 invariant-loop-at g l =
     list_any (λ u. ((unit_at l.market u).row == l.dual.unit)
-        && is_slack (g.N.Exact.value l.dual.price) (room_used l.market (dispatch_with (map g.N.Exact.value l.blocks) (map g.N.Exact.value l.quantities)) u) (room l.market u))
+    && is_slack (g.N.Exact.value l.dual.price) (room_used l.market (dispatch_with (map g.N.Exact.value l.blocks) (map g.N.Exact.value l.quantities)) u) (room l.market u))
     (filter (offers_reserve l.market) (places l.at)) ≡ false

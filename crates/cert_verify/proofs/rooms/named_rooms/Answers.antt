@@ -23,18 +23,18 @@ loop-at-preserved g c = λ d is.
     let offers = offers_reserve m in
     let before = filter named (filter offers (places k)) in
     elim c.if-offers_reserve.branch [
-      then-offers_reserve+in-Some+in_ok-push w ↦
+      | then-offers_reserve+in-Some+in_ok-push w ↦
           let kept = sym c.offers_reserve.ensures ∙ w.if-offers_reserve.true in
           let there = price_there value d.rooms (unit_at m k).row w.price_of.result w.in-Some.price (price_read value d.rooms (map (room_dual_at value) c.args.rooms.now) (unit_at m k).row _ w.price_of.result is row_is w.price_of.ensures) w.in-Some.is in
           let price = there.1 ∙ sym (ap (λ (b : Bool). if b then room_price_in d.rooms (unit_at m k).row else zero) kept) in
           ap (map (room_priced_at value)) (w.named-is ∙ w.in_ok-push.ensures) ∙ map-append (room_priced_at value) c.loop-at.named (record { unit = k; price = w.in-Some.price } ∷ [])
           ∙ ap₂ (λ (xs : List PricedRoom) (y : PricedRoom). xs ++ y ∷ []) (c.loop-at.invariant d is) (ap (λ (t : Fraction). record { unit = k; price = t }) price)
           ∙ sym (map-append (room_priced_by m d) before (k ∷ [])) ∙ ap (map (room_priced_by m d)) (sym (both_kept named offers k kept there.0))
-    | then-offers_reserve+in_default w ↦
+      | then-offers_reserve+in_default w ↦
           let kept = sym c.offers_reserve.ensures ∙ w.if-offers_reserve.true in
           let absent = price_absent value d.rooms (unit_at m k).row w.price_of.result (price_read value d.rooms (map (room_dual_at value) c.args.rooms.now) (unit_at m k).row _ w.price_of.result is row_is w.price_of.ensures) w.in_default.is in
           ap (map (room_priced_at value)) w.named-is ∙ c.loop-at.invariant d is ∙ ap (map (room_priced_by m d)) (sym (one_not named offers k kept absent))
-    | else-offers_reserve w ↦
+      | else-offers_reserve w ↦
           ap (map (room_priced_at value)) w.named-is ∙ c.loop-at.invariant d is ∙ ap (map (room_priced_by m d)) (sym (not_kept named offers k (sym c.offers_reserve.ensures ∙ w.if-offers_reserve.false)))
     ]
 

@@ -40,7 +40,7 @@ loop-at-preserved g c =
     let units = c.slice-unit-items.ensures ∙ c.units.ensures.list in
     let up = ap (λ (us : List Unit). whole (slice_index_or us k (record { row = 0; bus = 0; fixed = pos 0; up = pos 0; down = pos 0 })).up) units in
     elim c.if-offers_reserve.branch [
-      then-offers_reserve+in_ok-used+else-is_below w ↦ none_kept (is_overfull m x) (offers_reserve m) k c.loop-at.invariant
+      | then-offers_reserve+in_ok-used+else-is_below w ↦ none_kept (is_overfull m x) (offers_reserve m) k c.loop-at.invariant
           (sym (ap₂ is_below (w.room_of.ensures ∙ up) w.in_ok-used.ensures.used) ∙ sym w.is_below.ensures ∙ w.if-is_below.false)
-    | else-offers_reserve w ↦ none_passed (is_overfull m x) (offers_reserve m) k c.loop-at.invariant (sym c.offers_reserve.ensures ∙ w.if-offers_reserve.false)
+      | else-offers_reserve w ↦ none_passed (is_overfull m x) (offers_reserve m) k c.loop-at.invariant (sym c.offers_reserve.ensures ∙ w.if-offers_reserve.false)
     ]
