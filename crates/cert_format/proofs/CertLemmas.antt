@@ -1,19 +1,20 @@
 -- The value of a certificate is in the grammar, and gives the certificate again.
-use Rattle.std.specs.Prelude.{◌≡◌, ℕ, ◌<◌, ◌≤◌, ◌^◌, List, [], ◌∷◌, map, Bool, true, false, codes, All, Option, Some, None, option_map, Result, Ok, Err, IfOk, IsOk, OnOk, IsUtf8, unsigned_abs}
+use Rattle.std.specs.Prelude.{◌≡◌, ℕ, ◌<◌, ◌≤◌, ◌^◌, List, [], ◌∷◌, map, Bool, true, false, codes, All, Option, Some, None, IfSome, option_map, Result, Ok, Err, IfOk, IsOk, OnOk, IsUtf8, unsigned_abs}
 use Rattle.std.specs.Str.{is_utf8}
 use Rattle.std.proofs.Common.{zero, suc, arith, ap, get_or, ◌∙◌, refl, subst}
 use Rattle.std.proofs.lemmas.Bool.{lt-ltb, or_from}
 use Rattle.std.proofs.lemmas.List.Elements.{All-cons, All-nil}
-use Rattle.market_model.specs.Valued.{dual_at}
+use Rattle.market_model.specs.Valued.{answer_at, dual_at, farkas_at, room_dual_at}
 use Rattle.std.proofs.lemmas.Str.{IsUtf8-from_is_utf8, is_utf8-from_IsUtf8}
 use Rattle.fraction_theory.specs.Fraction.{Fraction}
-use Rattle.exact_fraction.specs.Written.{parts_text}
 use Rattle.market_data.specs.Scales.{place_count}
 use Rattle.market_data.specs.declared.scales.FactorPlaces.{FactorPlaces}
 use Rattle.market_data.specs.declared.scales.FactorPlaces.TheVariants.{Six, Nine}
+use Rattle.market_model.specs.declared.answered.Answer.{Answer}
 use Rattle.market_model.specs.declared.answered.Dual.{Dual}
+use Rattle.market_model.specs.declared.answered.Farkas.{Farkas}
+use Rattle.market_model.specs.declared.answered.RoomDual.{RoomDual}
 use Rattle.json.specs.Tree as tree
-use Rattle.json.proofs.Printed.Utf8.{IsUtf8-are_ascii, are_ascii}
 use Rattle.serde_json.specs.Data.{Data, Members, no_members, member}
 use Rattle.serde_json.specs.Read.{max_depth, of_items, of_json, read}
 use Rattle.serde_json.specs.View.{items_of}
@@ -22,24 +23,19 @@ use Rattle.serde_json.proofs.Numbers.{number_of-decimal}
 use Rattle.serde_json.proofs.OnLiterals.{serde_json_on_literals}
 use Rattle.cert_format.specs.declared.certificate.Cert.{Cert}
 use Rattle.cert_format.specs.declared.certificate.Cert.TheVariants as cert
+use Rattle.cert_format.specs.declared.certificate.ClearedReserve.{ClearedReserve}
 use Rattle.cert_format.specs.declared.certificate.Key.TheVariants as key
+use Rattle.cert_format.specs.declared.certificate.ReserveDuals.{ReserveDuals}
 use Rattle.cert_format.specs.declared.forms.Version.TheVariants as version
-use Rattle.cert_format.specs.Certificates.{CertFits, DualFits, Fits, NumbersFit, RowFits, RowsAreDistinct, cert_at, limits_of, most_part}
-use Rattle.cert_format.specs.FractionTexts.{fraction_of}
-use Rattle.cert_format.specs.Grammar.{cert_in, cert_read, each, farkas_in, fraction_in, limit_in, optimal_in, places_named}
-use Rattle.cert_format.specs.Written.{cert_data, cert_text, ending, fraction_data, limit_data, with_unit}
-use Rattle.cert_format.proofs.FractionLemmas.{fraction_of-read}
+use Rattle.cert_format.specs.Certificates.{CertFits, ClearedReserveFits, DualFits, Fits, NamesFit, NumbersFit, ReserveDualsFit, RoomFits, RowFits, RowsAreDistinct, cert_against, cert_at, cert_of, most_part, reserve_duals_at, rooms_among}
+use Rattle.cert_format.specs.Grammar.{cert_in, cert_read, each, farkas_in, limit_in, optimal_in, places_named}
+use Rattle.cert_format.specs.Written.{cert_data, cert_text, cleared_reserve_data, ending, fraction_data, limit_data, reserve_duals_data, with_unit, with_version}
+use Rattle.cert_format.proofs.NumberTexts.{float-fractions, flat-fractions, fraction-back, fractions-again, fractions-back, key_utf8, plain-fractions}
+use Rattle.cert_format.proofs.ReserveTexts.{UnitsFit, cleared-again, cleared-back, duals-again, duals-back, flat-cleared, flat-duals, float-cleared, float-duals, plain-cleared, plain-duals}
 use Rattle.cert_format.proofs.RowLemmas.{names-distinct, not_0}
 use Rattle.cert_format.proofs.TextLemmas.{IsPlain, ItemsArePlain, MembersArePlain, read-compact_text, utf8-data, utf8-parts_text}
 
 -- ---- what is written has no floats, and texts in UTF-8
-plain-blocks : (xs : List Fraction) → ItemsArePlain (items_of (map fraction_data xs))
-plain-blocks [] = tt
-plain-blocks (x ∷ xs) = (utf8-parts_text x, plain-blocks xs)
-
-key_utf8 : (cs : List ℕ) → are_ascii cs ≡ true → IsUtf8 cs
-key_utf8 cs h = IsUtf8-are_ascii cs h
-
 -- the member of a row that stands after the unit's
 abbrev up_of : Dual Fraction → Members
 up_of d = member (codes "up") (fraction_data d.up) no_members
@@ -72,17 +68,25 @@ count_small : (p : FactorPlaces) → place_count p < 2 ^ 64
 count_small Six = omega arith
 count_small Nine = omega arith
 
-plain-ending : (p : FactorPlaces) → MembersArePlain (ending p)
-plain-ending p = (key_utf8 (codes "places") refl, count_small p, (key_utf8 (codes "version") refl, omega arith, tt))
+plain-version : (reserve : Option Data) → IfSome reserve IsPlain → MembersArePlain (with_version reserve)
+plain-version None h = (key_utf8 (codes "version") refl, omega arith, tt)
+plain-version (Some reserve) h = (key_utf8 (codes "reserve") refl, h, (key_utf8 (codes "version") refl, omega arith, tt))
 
--- the rows of a certificate have 32 bits
-abbrev pub RowsFit : Cert Fraction → Type 0
-RowsFit c = All (λ d. RowFits d.row) (limits_of c)
+plain-ending : (p : FactorPlaces) (reserve : Option Data) → IfSome reserve IsPlain → MembersArePlain (ending p reserve)
+plain-ending p reserve h = (key_utf8 (codes "places") refl, count_small p, plain-version reserve h)
 
-pub plain-cert : (c : Cert Fraction) → RowsFit c → IsPlain (cert_data c)
-plain-cert (cert.Optimal blocks energy limits places) h = (
+plain-cleared-part : (reserve : Option (ClearedReserve Fraction)) → UnitsFit (rooms_among (option_map (λ r. r.duals) reserve)) → IfSome (option_map cleared_reserve_data reserve) IsPlain
+plain-cleared-part None h = tt
+plain-cleared-part (Some r) h = plain-cleared r h
+
+plain-duals-part : (reserve : Option (ReserveDuals Fraction)) → UnitsFit (rooms_among reserve) → IfSome (option_map reserve_duals_data reserve) IsPlain
+plain-duals-part None h = tt
+plain-duals-part (Some d) h = plain-duals d h
+
+pub plain-cert : (c : Cert Fraction) → NamesFit c → IsPlain (cert_data c)
+plain-cert (cert.Optimal blocks energy limits places reserve) h = (
   key_utf8 (codes "blocks") refl,
-  plain-blocks blocks,
+  plain-fractions blocks,
   (
     key_utf8 (codes "energy") refl,
     utf8-parts_text energy,
@@ -91,13 +95,13 @@ plain-cert (cert.Optimal blocks energy limits places) h = (
       key_utf8 (codes "optimal") refl,
       (
         key_utf8 (codes "limits") refl,
-        plain-limits limits h,
-        plain-ending places,
+        plain-limits limits h.limits,
+        plain-ending places (option_map cleared_reserve_data reserve) (plain-cleared-part reserve h.rooms),
       ),
     ),
   ),
 )
-plain-cert (cert.Farkas energy limits places) h = (
+plain-cert (cert.Farkas energy limits places reserve) h = (
   key_utf8 (codes "energy") refl,
   utf8-parts_text energy,
   (
@@ -105,15 +109,11 @@ plain-cert (cert.Farkas energy limits places) h = (
     key_utf8 (codes "farkas") refl,
     (
       key_utf8 (codes "limits") refl,
-      plain-limits limits h,
-      plain-ending places,
+      plain-limits limits h.limits,
+      plain-ending places (option_map reserve_duals_data reserve) (plain-duals-part reserve h.rooms),
     ),
   ),
 )
-
-float-blocks : (xs : List Fraction) → items_have_float (items_of (map fraction_data xs)) ≡ false
-float-blocks [] = refl
-float-blocks (x ∷ xs) = float-blocks xs
 
 float-unit : (unit : ℕ) (ms : Members) → members_have_float ms ≡ false → members_have_float (with_unit unit ms) ≡ false
 float-unit zero ms h = h
@@ -124,14 +124,12 @@ float-limits [] = refl
 float-limits (d ∷ ds) = or_from _ _ (float-unit d.row.unit (up_of d) refl) (float-limits ds)
 
 pub no-float : (c : Cert Fraction) → has_float (cert_data c) ≡ false
-no-float (cert.Optimal blocks energy limits places) = rw (float-blocks blocks, float-limits limits) refl
-no-float (cert.Farkas energy limits places) = rw (float-limits limits) refl
+no-float (cert.Optimal blocks energy limits places None) = rw (float-fractions blocks, float-limits limits) refl
+no-float (cert.Optimal blocks energy limits places (Some r)) = rw (float-fractions blocks, float-limits limits, float-cleared r) refl
+no-float (cert.Farkas energy limits places None) = rw (float-limits limits) refl
+no-float (cert.Farkas energy limits places (Some d)) = rw (float-limits limits, float-duals d) refl
 
 -- ---- nests four deep at most
-flat-blocks : (xs : List Fraction) → tree.items_depth (items_outline (items_of (map fraction_data xs))) ≤ 0
-flat-blocks [] = omega arith
-flat-blocks (x ∷ xs) = let h = flat-blocks xs in omega (arith, h)
-
 flat-unit : (unit : ℕ) (ms : Members) → tree.members_depth (members_outline ms) ≤ 0 → tree.members_depth (members_outline (with_unit unit ms)) ≤ 0
 flat-unit zero ms h = h
 flat-unit (suc unit) ms h = rw (not_0 unit) (omega (arith, h))
@@ -141,14 +139,12 @@ flat-limits [] = omega arith
 flat-limits (d ∷ ds) = let h = flat-limits ds in let k = flat-unit d.row.unit (up_of d) (omega arith) in omega (arith, h, k)
 
 flat-cert : (c : Cert Fraction) → tree.depth (outline (cert_data c)) ≤ max_depth
-flat-cert (cert.Optimal blocks energy limits places) = let h = flat-blocks blocks in let k = flat-limits limits in omega (arith, h, k)
-flat-cert (cert.Farkas energy limits places) = let k = flat-limits limits in omega (arith, k)
+flat-cert (cert.Optimal blocks energy limits places None) = let h = flat-fractions blocks in let k = flat-limits limits in omega (arith, h, k)
+flat-cert (cert.Optimal blocks energy limits places (Some r)) = let h = flat-fractions blocks in let k = flat-limits limits in let l = flat-cleared r in omega (arith, h, k, l)
+flat-cert (cert.Farkas energy limits places None) = let k = flat-limits limits in omega (arith, k)
+flat-cert (cert.Farkas energy limits places (Some d)) = let k = flat-limits limits in let l = flat-duals d in omega (arith, k, l)
 
 -- ---- and is read as the value that was written
-blocks-again : (xs : List Fraction) → of_items (items_outline (items_of (map fraction_data xs))) ≡ Some (items_of (map fraction_data xs))
-blocks-again [] = refl
-blocks-again (x ∷ xs) = rw (blocks-again xs) refl
-
 -- the duals of a limit by the unit that is lost
 module _ (branch outage : ℕ) (up down : Fraction) where
   abbrev pub after_unit : ℕ → Dual Fraction
@@ -166,28 +162,25 @@ limits-again : (ds : List (Dual Fraction)) → All (λ d. RowFits d.row) ds → 
 limits-again [] h = refl
 limits-again (d ∷ ds) h = rw (limit-again d (h 0 d (omega arith)), limits-again ds (λ k x lt. h (suc k) x (omega (arith, lt)))) refl
 
-cert-again : (c : Cert Fraction) → RowsFit c → of_json (outline (cert_data c)) ≡ Some (cert_data c)
+cert-again : (c : Cert Fraction) → NamesFit c → of_json (outline (cert_data c)) ≡ Some (cert_data c)
 unfolding serde_json_on_literals
-cert-again (cert.Optimal blocks energy limits places) h = rw (blocks-again blocks, limits-again limits h, number_of-decimal (place_count places) (count_small places), number_of-decimal 2 (omega arith)) refl
-cert-again (cert.Farkas energy limits places) h = rw (limits-again limits h, number_of-decimal (place_count places) (count_small places), number_of-decimal 2 (omega arith)) refl
+cert-again (cert.Optimal blocks energy limits places None) h =
+    rw (fractions-again blocks, limits-again limits h.limits, number_of-decimal (place_count places) (count_small places), number_of-decimal 2 (omega arith)) refl
+cert-again (cert.Optimal blocks energy limits places (Some r)) h =
+    rw (fractions-again blocks, limits-again limits h.limits, number_of-decimal (place_count places) (count_small places), cleared-again r h.rooms, number_of-decimal 3 (omega arith)) refl
+cert-again (cert.Farkas energy limits places None) h = rw (limits-again limits h.limits, number_of-decimal (place_count places) (count_small places), number_of-decimal 2 (omega arith)) refl
+cert-again (cert.Farkas energy limits places (Some d)) h =
+    rw (limits-again limits h.limits, number_of-decimal (place_count places) (count_small places), duals-again d h.rooms, number_of-decimal 3 (omega arith)) refl
 
-pub read-cert_text : (c : Cert Fraction) → RowsFit c → read (cert_text c) ≡ Some (cert_data c)
+pub read-cert_text : (c : Cert Fraction) → NamesFit c → read (cert_text c) ≡ Some (cert_data c)
 unfolding cert_text
 read-cert_text c h = read-compact_text (cert_data c) (plain-cert c h) (flat-cert c) (cert-again c h)
 
-pub utf8-cert_text : (c : Cert Fraction) → RowsFit c → IsUtf8 (cert_text c)
+pub utf8-cert_text : (c : Cert Fraction) → NamesFit c → IsUtf8 (cert_text c)
 unfolding cert_text
 utf8-cert_text c h = utf8-data (cert_data c) (plain-cert c h)
 
 -- ---- the value is in the grammar
-fraction-back : (most : ℕ) (x : Fraction) → Fits most x → fraction_of most (parts_text x) ≡ Some x
-fraction-back most x h = fraction_of-read most (parts_text x) x (record { spelling = refl; fits = h })
-
-blocks-back : (xs : List Fraction) → All (Fits most_part) xs → each (fraction_in most_part) (items_of (map fraction_data xs)) ≡ Some xs
-unfolding each
-blocks-back [] h = refl
-blocks-back (x ∷ xs) h = rw (fraction-back most_part x (h 0 x (omega arith)), blocks-back xs (λ k d lt. h (suc k) d (omega (arith, lt)))) refl
-
 unit-back : (branch outage : ℕ) (up down : Fraction) → branch < 2 ^ 32 → outage < 2 ^ 32 → Fits most_part up → Fits most_part down
     → (unit : ℕ) → unit < 2 ^ 32 → limit_in most_part version.Second (limit_data (after_unit branch outage up down unit)) ≡ Some (after_unit branch outage up down unit)
 unfolding serde_json_on_literals limit_in
@@ -202,24 +195,38 @@ unfolding each
 limits-back [] h = refl
 limits-back (d ∷ ds) h = rw (limit-back d (h 0 d (omega arith)), limits-back ds (λ k x lt. h (suc k) x (omega (arith, lt)))) refl
 
+-- limits of the third version are those of the second
+pub one-reader : ◌≡◌ {A = Data → Option (Dual Fraction)} (limit_in most_part version.Third) (limit_in most_part version.Second)
+unfolding limit_in
+one-reader = refl
+
+limits-back-3 : (ds : List (Dual Fraction)) → All (DualFits most_part) ds → each (limit_in most_part version.Third) (items_of (map limit_data ds)) ≡ Some ds
+limits-back-3 ds h = rw one-reader (limits-back ds h)
+
 pub places-back : (p : FactorPlaces) → places_named (place_count p) ≡ Some p
 places-back Six = refl
 places-back Nine = refl
 
 cert-back : (c : Cert Fraction) → CertFits c → cert_in most_part (cert_data c) ≡ Ok c
 unfolding serde_json_on_literals cert_in optimal_in farkas_in
-cert-back (cert.Optimal blocks energy limits places) h =
-    rw (fraction-back most_part energy h.numbers.1, blocks-back blocks h.numbers.0, limits-back limits h.numbers.2, names-distinct limits h.distinct, places-back places) refl
-cert-back (cert.Farkas energy limits places) h =
+cert-back (cert.Optimal blocks energy limits places None) h =
+    rw (fraction-back most_part energy h.numbers.1, fractions-back blocks h.numbers.0, limits-back limits h.numbers.2, names-distinct limits h.distinct, places-back places) refl
+cert-back (cert.Optimal blocks energy limits places (Some r)) h =
+    rw (fraction-back most_part energy h.numbers.1, fractions-back blocks h.numbers.0, limits-back-3 limits h.numbers.2, names-distinct limits h.distinct, places-back places, cleared-back r h.numbers.3) refl
+cert-back (cert.Farkas energy limits places None) h =
     rw (fraction-back most_part energy h.numbers.0, limits-back limits h.numbers.1, names-distinct limits h.distinct, places-back places) refl
+cert-back (cert.Farkas energy limits places (Some d)) h =
+    rw (fraction-back most_part energy h.numbers.0, limits-back-3 limits h.numbers.1, names-distinct limits h.distinct, places-back places, duals-back d h.numbers.2) refl
 
-rows-fit : (c : Cert Fraction) → CertFits c → RowsFit c
-rows-fit (cert.Optimal blocks energy limits places) h k d lt = (h.numbers.2 k d lt).row
-rows-fit (cert.Farkas energy limits places) h k d lt = (h.numbers.1 k d lt).row
+names-fit : (c : Cert Fraction) → CertFits c → NamesFit c
+names-fit (cert.Optimal blocks energy limits places None) h = record { limits = λ k d lt. (h.numbers.2 k d lt).row; rooms = All-nil (λ d. d.unit < 2 ^ 32) }
+names-fit (cert.Optimal blocks energy limits places (Some r)) h = record { limits = λ k d lt. (h.numbers.2 k d lt).row; rooms = λ k d lt. (h.numbers.3.duals.rooms k d lt).unit }
+names-fit (cert.Farkas energy limits places None) h = record { limits = λ k d lt. (h.numbers.1 k d lt).row; rooms = All-nil (λ d. d.unit < 2 ^ 32) }
+names-fit (cert.Farkas energy limits places (Some d)) h = record { limits = λ k d lt. (h.numbers.1 k d lt).row; rooms = λ k d lt. (h.numbers.2.rooms k d lt).unit }
 
 pub reads-back : (c : Cert Fraction) → CertFits c → cert_read (cert_text c) ≡ Ok c
 unfolding cert_read
-reads-back c h = rw (is_utf8-from_IsUtf8 (cert_text c) (utf8-cert_text c (rows-fit c h)), read-cert_text c (rows-fit c h)) (cert-back c h)
+reads-back c h = rw (is_utf8-from_IsUtf8 (cert_text c) (utf8-cert_text c (names-fit c h)), read-cert_text c (names-fit c h)) (cert-back c h)
 
 -- ---- bytes that are no text, or no JSON
 pub json-fault : (bytes : List ℕ) → (IsUtf8 bytes → read bytes ≡ None) → cert_read bytes ≡ Err key.Json
@@ -243,9 +250,31 @@ module _ (less most : ℕ) (small : less ≤ most) where
   dual-more : (d : Dual Fraction) → DualFits less d → DualFits most d
   dual-more d h = record { row = h.row; up = part-more d.up h.up; down = part-more d.down h.down }
 
+  room-more : (d : RoomDual Fraction) → RoomFits less d → RoomFits most d
+  room-more d h = record { unit = h.unit; price = part-more d.price h.price }
+
+  duals-more : (d : ReserveDuals Fraction) → ReserveDualsFit less d → ReserveDualsFit most d
+  duals-more d h = record { price = part-more d.price h.price; rooms = λ k r lt. room-more (get_or d.rooms k r) (h.rooms k r lt) }
+
+  cleared-more : (r : ClearedReserve Fraction) → ClearedReserveFits less r → ClearedReserveFits most r
+  cleared-more r h = record { quantities = λ k x lt. part-more (get_or r.quantities k x) (h.quantities k x lt); duals = duals-more r.duals h.duals }
+
+  if-some-more : {A : Type 0} (P Q : A → Type 0) → ((x : A) → P x → Q x) → (o : Option A) → IfSome o P → IfSome o Q
+  if-some-more P Q more None h = tt
+  if-some-more P Q more (Some x) h = more x h
+
   pub numbers-more : (c : Cert Fraction) → NumbersFit less c → NumbersFit most c
-  numbers-more (cert.Optimal blocks energy limits places) h = (λ k x lt. part-more (get_or blocks k x) (h.0 k x lt), part-more energy h.1, λ k d lt. dual-more (get_or limits k d) (h.2 k d lt))
-  numbers-more (cert.Farkas energy limits places) h = (part-more energy h.0, λ k d lt. dual-more (get_or limits k d) (h.1 k d lt))
+  numbers-more (cert.Optimal blocks energy limits places reserve) h = (
+    λ k x lt. part-more (get_or blocks k x) (h.0 k x lt),
+    part-more energy h.1,
+    λ k d lt. dual-more (get_or limits k d) (h.2 k d lt),
+    if-some-more (ClearedReserveFits less) (ClearedReserveFits most) cleared-more reserve h.3,
+  )
+  numbers-more (cert.Farkas energy limits places reserve) h = (
+    part-more energy h.0,
+    λ k d lt. dual-more (get_or limits k d) (h.1 k d lt),
+    if-some-more (ReserveDualsFit less) (ReserveDualsFit most) duals-more reserve h.2,
+  )
 
 module _ {N : Type 0} (value : N → Fraction) (bound : ℕ) (fits : (x : N) → (unsigned_abs (value x).num ≤ bound) × ((value x).den ≤ bound)) where
   within : (x : N) → Fits bound (value x)
@@ -261,20 +290,46 @@ module _ {N : Type 0} (value : N → Fraction) (bound : ℕ) (fits : (x : N) →
       All-cons (DualFits bound) (dual_at value d) (map (dual_at value) ds) (record { row = h 0 d (omega arith); up = within d.up; down = within d.down })
       (limits-fit ds (λ k x lt. h (suc k) x (omega (arith, lt))))
 
-  pub numbers-fit : (c : Cert N) → All (λ d. RowFits d.row) (limits_of c) → NumbersFit bound (cert_at value c)
-  numbers-fit (cert.Optimal blocks energy limits places) h = (blocks-fit blocks, within energy, limits-fit limits h)
-  numbers-fit (cert.Farkas energy limits places) h = (within energy, limits-fit limits h)
+  rooms-fit : (ds : List (RoomDual N)) → UnitsFit ds → All (RoomFits bound) (map (room_dual_at value) ds)
+  rooms-fit [] h = All-nil (RoomFits bound)
+  rooms-fit (d ∷ ds) h =
+      All-cons (RoomFits bound) (room_dual_at value d) (map (room_dual_at value) ds) (record { unit = h 0 d (omega arith); price = within d.price }) (rooms-fit ds (λ k x lt. h (suc k) x (omega (arith, lt))))
 
-  pub written-back : bound ≤ most_part → (c : Cert N) (bytes : List ℕ) → All (λ d. RowFits d.row) (limits_of c) → bytes ≡ cert_text (cert_at value c) → RowsAreDistinct (cert_at value c) → cert_read bytes ≡ Ok (cert_at value c)
+  duals-fit : (d : ReserveDuals N) → UnitsFit d.rooms → ReserveDualsFit bound (reserve_duals_at value d)
+  duals-fit d h = record { price = within d.price; rooms = rooms-fit d.rooms h }
+
+  pub numbers-fit : (c : Cert N) → NamesFit c → NumbersFit bound (cert_at value c)
+  numbers-fit (cert.Optimal blocks energy limits places None) h = (blocks-fit blocks, within energy, limits-fit limits h.limits, tt)
+  numbers-fit (cert.Optimal blocks energy limits places (Some r)) h =
+      (blocks-fit blocks, within energy, limits-fit limits h.limits, record { quantities = blocks-fit r.quantities; duals = duals-fit r.duals h.rooms })
+  numbers-fit (cert.Farkas energy limits places None) h = (within energy, limits-fit limits h.limits, tt)
+  numbers-fit (cert.Farkas energy limits places (Some d)) h = (within energy, limits-fit limits h.limits, duals-fit d h.rooms)
+
+  pub written-back : bound ≤ most_part → (c : Cert N) (bytes : List ℕ) → NamesFit c → bytes ≡ cert_text (cert_at value c) → RowsAreDistinct (cert_at value c) → cert_read bytes ≡ Ok (cert_at value c)
   written-back small c bytes h text once =
       ap cert_read text ∙ reads-back (cert_at value c) (record { numbers = numbers-more bound most_part small (cert_at value c) (numbers-fit c h); distinct = once })
 
 -- ---- what is written of an outcome
+-- the certificate of what a clear came to, with each number as the fraction that it stands for
+pub answer-at : {N : Type 0} (value : N → Fraction) (places : FactorPlaces) (listed : Bool) (a : Answer N) → cert_at value (cert_of places listed a) ≡ cert_of places listed (answer_at value a)
+answer-at value places true a = refl
+answer-at value places false a = refl
+
+pub farkas-at : {N : Type 0} (value : N → Fraction) (places : FactorPlaces) (listed : Bool) (f : Farkas N) → cert_at value (cert_against places listed f) ≡ cert_against places listed (farkas_at value f)
+farkas-at value places true f = refl
+farkas-at value places false f = refl
+
 -- what holds where one step ended well holds where the next one did, which ends well only then
 pub passed_on : {A B E F : Type 0} (r : Result A E) (s : Result B F) (P Q : Type 0) → OnOk r (IsOk s) → OnOk s P → (P → Q) → OnOk r Q
 passed_on (Ok a) (Ok b) P Q h k to = to k
 passed_on (Ok a) (Err f) P Q h k to = cc h
 passed_on (Err e) s P Q h k to = tt
+
+-- what is told of a text that was made of a certificate
+pub record IsTold {V E : Type 0} (items : V → List ℕ) (bound : ℕ) (c : Cert Fraction) (r : Result (Option V) E) : Type 0 where
+  pub text : IfOk r (λ made. option_map items made ≡ Some (cert_text c))
+  pub fits : OnOk r (NumbersFit bound c)
+  pub reads_back : (d : Cert Fraction) → Some c ≡ Some d → bound ≤ most_part → RowsAreDistinct d → IfOk r (λ made. option_map (λ v. cert_read (items v)) made ≡ Some (Ok d))
 
 module _ {V E : Type 0} (items : V → List ℕ) (bound : ℕ) (small : bound ≤ most_part) (c : Cert Fraction) (once : RowsAreDistinct c) where
   made_back : (r : Result (Option V) E) → IfOk r (λ made. option_map items made ≡ Some (cert_text c)) → OnOk r (NumbersFit bound c) → IfOk r (λ made. option_map (λ v. cert_read (items v)) made ≡ Some (Ok c))
@@ -290,3 +345,14 @@ module _ {V E : Type 0} (items : V → List ℕ) (bound : ℕ) (small : bound �
   cert_back d is r text fits =
       let same : d ≡ c = cc is in
       made_back r (subst (λ (e : Cert Fraction). IfOk r (λ made. option_map items made ≡ Some (cert_text e))) same text) (subst (λ (e : Cert Fraction). OnOk r (NumbersFit bound e)) same fits)
+
+module _ {N : Type 0} (value : N → Fraction) (bound : ℕ) (fits : (x : N) → (unsigned_abs (value x).num ≤ bound) × ((value x).den ≤ bound)) {V E F : Type 0} (items : V → List ℕ)
+    (c : Cert N) (d : Cert Fraction) (same : cert_at value c ≡ d) (written : Result V F) (r : Result (Option V) E) where
+  pub told-back : OnOk written (NamesFit c) → OnOk r (IsOk written) → IfOk r (λ made. option_map items made ≡ Some (cert_text (cert_at value c))) → IsTold items bound d r
+  told-back names made text =
+      let fit = passed_on r written _ (NumbersFit bound (cert_at value c)) made names (λ n. numbers-fit value bound fits c n) in
+      subst (λ (e : Cert Fraction). IsTold items bound e r) same (record {
+        text = text;
+        fits = fit;
+        reads_back = λ k is small once. cert_back items bound small k once (cert_at value c) is r text fit;
+      })

@@ -1,6 +1,6 @@
 -- A part that was read, and one that was not.
 use Rattle.std.proofs.Common.{◌≡◌, ◌∙◌, sym, ap}
-use Rattle.std.specs.Prelude.{Option, Some, None, Result, Ok, Err, Bool, not, is_none, is_some, option_map, IfOk}
+use Rattle.std.specs.Prelude.{Option, Some, None, Result, Ok, Err, Bool, not, is_none, is_some, option_and_then, option_map, IfOk}
 use Rattle.cert_format.specs.declared.certificate.CertFault.{CertFault}
 use Rattle.cert_format.specs.declared.certificate.CertFault.TheVariants as fault
 use Rattle.cert_format.specs.declared.certificate.Key.{Key}
@@ -19,6 +19,12 @@ pub fails-further : {A B X Y : Type 0} (k : Key) (o : Option A) (f : A → Resul
 fails-further k o f seen further fault.Memory h = tt
 fails-further {A} {B} k None f seen further (fault.Key j) h = same_fault A B k j h
 fails-further k (Some y) f seen further (fault.Key j) h = cc
+
+-- and so is the part of the text in which it is one step
+pub fails-within : {A B X Y : Type 0} (k : Key) (o : Option A) (f : A → Option B) (seen : X → A) (further : Y → B) (e : CertFault) → Gives seen (Err e) (need k o (λ y. Ok y)) → Gives further (Err e) (need k (option_and_then f o) (λ y. Ok y))
+fails-within k o f seen further fault.Memory h = tt
+fails-within {A} {B} k None f seen further (fault.Key j) h = same_fault A B k j h
+fails-within k (Some y) f seen further (fault.Key j) h = cc
 
 -- whether there is none is the same under a view
 pub none-of : {A B : Type 0} (o : Option A) (f : A → B) (p : Option B) (b : Bool) → option_map f o ≡ p → is_some o ≡ b → is_none p ≡ not b

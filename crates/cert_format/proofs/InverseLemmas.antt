@@ -1,24 +1,27 @@
 -- What is read fits.
-use Rattle.std.specs.Prelude.{◌≡◌, ℕ, ◌<◌, ◌^◌, List, [], ◌∷◌, Bool, true, false, codes, nat_lt, All, Option, Some, None, Result, Ok, option_and_then, is_some, is_none, if◌then◌else◌}
+use Rattle.std.specs.Prelude.{◌≡◌, ℕ, ◌<◌, ◌^◌, List, [], ◌∷◌, Bool, true, false, codes, nat_lt, All, Option, Some, None, IfSome, Result, Ok, option_and_then, option_map, is_some, is_none, if◌then◌else◌}
 use Rattle.std.proofs.Common.{arith, refl, subst, zero, suc}
 use Rattle.std.proofs.lemmas.Bool.{ltb-true}
 use Rattle.std.proofs.lemmas.List.Elements.{All-cons, All-nil}
-use Rattle.std.proofs.lemmas.Option.{cond_some, option_and_then_some}
+use Rattle.std.proofs.lemmas.Option.{cond_some, option_and_then_some, same_Some}
 use Rattle.fraction_theory.specs.Fraction.{Fraction}
 use Rattle.market_model.specs.declared.answered.Dual.{Dual}
+use Rattle.market_model.specs.declared.answered.RoomDual.{RoomDual}
 use Rattle.serde_json.specs.Data.{Data, Items, no_items, item}
 use Rattle.serde_json.specs.Find.{as_array, as_object, as_str, get}
 use Rattle.cert_format.specs.declared.certificate.Cert.{Cert}
 use Rattle.cert_format.specs.declared.certificate.Cert.TheVariants as cert
+use Rattle.cert_format.specs.declared.certificate.ClearedReserve.{ClearedReserve}
 use Rattle.cert_format.specs.declared.certificate.Key.{Key}
 use Rattle.cert_format.specs.declared.certificate.Key.TheVariants as key
+use Rattle.cert_format.specs.declared.certificate.ReserveDuals.{ReserveDuals}
 use Rattle.cert_format.specs.declared.forms.Kind.{Kind}
 use Rattle.cert_format.specs.declared.forms.Kind.TheVariants as kind
 use Rattle.cert_format.specs.declared.forms.Version.{Version}
 use Rattle.cert_format.specs.declared.forms.Version.TheVariants as version
-use Rattle.cert_format.specs.Certificates.{CertFits, DualFits, Fits, NamesNoRowTwice, RowsAreDistinct, most_part}
+use Rattle.cert_format.specs.Certificates.{CertFits, ClearedReserveFits, DualFits, Fits, NamesNoRowTwice, ReserveDualsFit, RoomFits, RowsAreDistinct, most_part}
 use Rattle.cert_format.specs.FractionTexts.{fraction_of}
-use Rattle.cert_format.specs.Grammar.{above_0, blocks_in, cert_in, cert_read, check, distinct, each, farkas_in, fraction_at, fraction_in, has_size, if_distinct, in_32, json_of, kind_in, limit_in, limits_in, member_count, members_with, need, number_at, of_kind, optimal_in, places_in, unit_at, unit_in, version_in}
+use Rattle.cert_format.specs.Grammar.{above_0, cert_in, cert_read, check, cleared_reserve_in, distinct, each, farkas_in, fraction_at, fraction_in, fractions_at, has_size, if_distinct, in_32, json_of, kind_in, limit_in, limits_in, member_count, members_with, need, number_at, of_kind, optimal_in, places_in, reserve_duals_in, reserve_in, room_in, rooms_at, unit_at, unit_in, version_in}
 use Rattle.cert_format.specs.Laws.{LawOfMigration}
 use Rattle.cert_format.proofs.CertLemmas.{reads-back}
 use Rattle.cert_format.proofs.FractionLemmas.{fraction_of-spells}
@@ -67,6 +70,7 @@ unit_at-fits d n h = by (is_none (get (codes "unit") d)) h
 unit_in-fits : (version : Version) (d : Data) (n : ℕ) → unit_in version d ≡ Some n → n < 2 ^ 32
 unit_in-fits version.First d n h = let here : 0 ≡ n = cc in omega (arith, here)
 unit_in-fits version.Second d n h = unit_at-fits d n h
+unit_in-fits version.Third d n h = unit_at-fits d n h
 
 limit_in-fits : (version : Version) (d : Data) (x : Dual Fraction) → limit_in most_part version d ≡ Some x → DualFits most_part x
 unfolding limit_in
@@ -97,8 +101,8 @@ each-all P read reads (item d ds) xs h =
     let is : x ∷ ys ≡ xs = cc in
     subst (All P) is (All-cons P x ys (reads d x e1) (each-all P read reads ds ys e2))))
 
-blocks_in-fit : (d : Data) (xs : List Fraction) → blocks_in most_part d ≡ Some xs → All (Fits most_part) xs
-blocks_in-fit d xs h = option_and_then_some (each (fraction_in most_part)) (option_and_then as_array (get (codes "blocks") d)) xs h (λ ds e f. each-all (Fits most_part) (fraction_in most_part) (fraction_in-fits most_part) ds xs f)
+fractions_at-fit : (name : List ℕ) (d : Data) (xs : List Fraction) → fractions_at most_part name d ≡ Some xs → All (Fits most_part) xs
+fractions_at-fit name d xs h = option_and_then_some (each (fraction_in most_part)) (option_and_then as_array (get name d)) xs h (λ ds e f. each-all (Fits most_part) (fraction_in most_part) (fraction_in-fits most_part) ds xs f)
 
 limits_in-fit : (version : Version) (d : Data) (xs : List (Dual Fraction)) → limits_in most_part version d ≡ Some xs → All (DualFits most_part) xs × NamesNoRowTwice xs
 limits_in-fit version d xs h =
@@ -107,27 +111,76 @@ limits_in-fit version d xs h =
     option_and_then_some (each (limit_in most_part version)) (option_and_then as_array (get (codes "limits") d)) ys e1 (λ ds e2 h2.
     (subst (All (DualFits most_part)) p.1 (each-all (DualFits most_part) (limit_in most_part version) (limit_in-fits version) ds ys h2), subst NamesNoRowTwice p.1 (distinct-names ys p.0))))
 
+-- ---- reserve
+room_in-fits : (d : Data) (x : RoomDual Fraction) → room_in most_part d ≡ Some x → RoomFits most_part x
+unfolding room_in
+room_in-fits d x h =
+    option_and_then_some _ (fraction_at most_part (codes "dual") d) x h (λ price e1 h1.
+    option_and_then_some _ (in_32 (number_at (codes "unit") d)) x h1 (λ unit e2 h2.
+    subst (RoomFits most_part) (cond_some (has_size 2 d) (record { unit = unit; price = price }) x h2).1 (record {
+      unit = in_32-fits (number_at (codes "unit") d) unit e2;
+      price = fraction_at-fits most_part (codes "dual") d price e1;
+    })))
+
+rooms_at-fit : (d : Data) (xs : List (RoomDual Fraction)) → rooms_at most_part d ≡ Some xs → All (RoomFits most_part) xs
+rooms_at-fit d xs h = option_and_then_some (each (room_in most_part)) (option_and_then as_array (get (codes "units") d)) xs h (λ ds e f. each-all (RoomFits most_part) (room_in most_part) room_in-fits ds xs f)
+
+duals_in-fit : (size : ℕ) (d : Data) (x : ReserveDuals Fraction) → reserve_duals_in size most_part d ≡ Some x → ReserveDualsFit most_part x
+unfolding reserve_duals_in
+duals_in-fit size d x h =
+    option_and_then_some _ (fraction_at most_part (codes "price") d) x h (λ price e1 h1.
+    option_and_then_some _ (rooms_at most_part d) x h1 (λ rooms e2 h2.
+    subst (ReserveDualsFit most_part) (cond_some (has_size size d) (record { price = price; rooms = rooms }) x h2).1 (record {
+      price = fraction_at-fits most_part (codes "price") d price e1;
+      rooms = rooms_at-fit d rooms e2;
+    })))
+
+cleared_in-fits : (d : Data) (x : ClearedReserve Fraction) → cleared_reserve_in most_part d ≡ Some x → ClearedReserveFits most_part x
+unfolding cleared_reserve_in
+cleared_in-fits d x h =
+    option_and_then_some _ (fractions_at most_part (codes "quantities") d) x h (λ quantities e1 h1.
+    option_and_then_some _ (reserve_duals_in 3 most_part d) x h1 (λ duals e2 h2.
+    subst (ClearedReserveFits most_part) (same_Some _ _ h2) (record {
+      quantities = fractions_at-fit (codes "quantities") d quantities e1;
+      duals = duals_in-fit 3 d duals e2;
+    })))
+
+reserve_in-fits : {A : Type 0} (P : A → Type 0) (read : Data → Option A) → ((d : Data) (x : A) → read d ≡ Some x → P x) → (version : Version) (d : Data) (o : Option A) → reserve_in read version d ≡ Some o → IfSome o P
+reserve_in-fits P read reads version.First d None h = tt
+reserve_in-fits P read reads version.First d (Some x) h = cc
+reserve_in-fits P read reads version.Second d None h = tt
+reserve_in-fits P read reads version.Second d (Some x) h = cc
+reserve_in-fits {A} P read reads version.Third d o h = by (option_and_then read (get (codes "reserve") d)) refl h
+  where
+    by : (found : Option A) → option_and_then read (get (codes "reserve") d) ≡ found → option_map (λ r. Some r) found ≡ Some o → IfSome o P
+    by None e is = cc
+    by (Some x) e is = subst (λ p. IfSome p P) (same_Some _ _ is) (option_and_then_some read (get (codes "reserve") d) x e (λ v f g. reads v x g))
+
 -- ---- certificates
 optimal_in-fits : (version : Version) (energy : Fraction) (d : Data) (c : Cert Fraction) → Fits most_part energy → optimal_in most_part version energy d ≡ Ok c → CertFits c
 unfolding optimal_in
 optimal_in-fits version energy d c fits h =
-    let blocks = needed key.Blocks (blocks_in most_part d) _ c h in
+    let blocks = needed key.Blocks (fractions_at most_part (codes "blocks") d) _ c h in
     let limits = needed key.Limits (limits_in most_part version d) _ c blocks.rest in
     let places = needed key.Places (places_in version d) _ c limits.rest in
-    let it = cert.Optimal blocks.value energy limits.value places.value in
-    let is : it ≡ c = ok_is it c (checked key.Extra (has_size (member_count version kind.Optimal) d) (Ok it) c places.rest) in
+    let reserve = needed key.Reserve (reserve_in (cleared_reserve_in most_part) version d) _ c places.rest in
+    let it = cert.Optimal blocks.value energy limits.value places.value reserve.value in
+    let is : it ≡ c = ok_is it c (checked key.Extra (has_size (member_count version kind.Optimal) d) (Ok it) c reserve.rest) in
     let fit = limits_in-fit version d limits.value limits.is in
-    subst CertFits is (record { numbers = (blocks_in-fit d blocks.value blocks.is, fits, fit.0); distinct = fit.1 })
+    let kept = reserve_in-fits (ClearedReserveFits most_part) (cleared_reserve_in most_part) cleared_in-fits version d reserve.value reserve.is in
+    subst CertFits is (record { numbers = (fractions_at-fit (codes "blocks") d blocks.value blocks.is, fits, fit.0, kept); distinct = fit.1 })
 
 farkas_in-fits : (version : Version) (energy : Fraction) (d : Data) (c : Cert Fraction) → Fits most_part energy → farkas_in most_part version energy d ≡ Ok c → CertFits c
 unfolding farkas_in
 farkas_in-fits version energy d c fits h =
     let limits = needed key.Limits (limits_in most_part version d) _ c (checked key.Blocks (is_none (get (codes "blocks") d)) _ c h) in
     let places = needed key.Places (places_in version d) _ c limits.rest in
-    let it = cert.Farkas energy limits.value places.value in
-    let is : it ≡ c = ok_is it c (checked key.Extra (has_size (member_count version kind.Farkas) d) (Ok it) c places.rest) in
+    let reserve = needed key.Reserve (reserve_in (reserve_duals_in 2 most_part) version d) _ c places.rest in
+    let it = cert.Farkas energy limits.value places.value reserve.value in
+    let is : it ≡ c = ok_is it c (checked key.Extra (has_size (member_count version kind.Farkas) d) (Ok it) c reserve.rest) in
     let fit = limits_in-fit version d limits.value limits.is in
-    subst CertFits is (record { numbers = (fits, fit.0); distinct = fit.1 })
+    let kept = reserve_in-fits (ReserveDualsFit most_part) (reserve_duals_in 2 most_part) (duals_in-fit 2) version d reserve.value reserve.is in
+    subst CertFits is (record { numbers = (fits, fit.0, kept); distinct = fit.1 })
 
 of_kind-fits : (version : Version) (energy : Fraction) (d : Data) (k : Kind) (c : Cert Fraction) → Fits most_part energy → of_kind most_part version energy d k ≡ Ok c → CertFits c
 of_kind-fits version energy d kind.Optimal c fits h = optimal_in-fits version energy d c fits h

@@ -5,7 +5,9 @@ pub mod GivesLemmas
 pub mod InverseLemmas
 pub mod ListLemmas
 pub mod NumberLemmas
+pub mod NumberTexts
 pub mod QuotientLemmas
+pub mod ReserveTexts
 pub mod RowLemmas
 pub mod SameLemmas
 pub mod TextLemmas

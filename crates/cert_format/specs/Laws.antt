@@ -1,8 +1,8 @@
 -- Laws of the texts of certificates.
-use Rattle.std.specs.Prelude.{◌≡◌, ◌↔◌, ℕ, List, All, Some, Ok}
+use Rattle.std.specs.Prelude.{◌≡◌, ◌↔◌, ℕ, List, Some, Ok}
 use Rattle.fraction_theory.specs.Fraction.{Fraction}
 use Rattle.cert_format.specs.declared.certificate.Cert.{Cert}
-use Rattle.cert_format.specs.Certificates.{CertFits, RowFits, limits_of}
+use Rattle.cert_format.specs.Certificates.{CertFits, NamesFit}
 use Rattle.cert_format.specs.FractionTexts.{Spells, fraction_of}
 use Rattle.cert_format.specs.Grammar.{cert_read}
 use Rattle.cert_format.specs.Written.{cert_text}
@@ -23,6 +23,6 @@ ReadsWhatFits = (bytes : List ℕ) (c : Cert Fraction) → cert_read bytes ≡ O
 abbrev pub LawOfMigration : Type 0
 LawOfMigration = (bytes : List ℕ) (c : Cert Fraction) → cert_read bytes ≡ Ok c → cert_read (cert_text c) ≡ Ok c
 
--- and a text that was written is left as it is by that, where it is read at all: numbers of rows have 32 bits, others may be too large
+-- and a text that was written is left as it is by that, where it is read at all: numbers of rows and units have 32 bits, others may be too large
 abbrev pub LawOfMigratedTexts : Type 0
-LawOfMigratedTexts = (c d : Cert Fraction) → All (λ e. RowFits e.row) (limits_of c) → cert_read (cert_text c) ≡ Ok d → cert_text d ≡ cert_text c
+LawOfMigratedTexts = (c d : Cert Fraction) → NamesFit c → cert_read (cert_text c) ≡ Ok d → cert_text d ≡ cert_text c

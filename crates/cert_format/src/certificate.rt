@@ -4,11 +4,27 @@ ghost use Rattle.std.specs.Prelude.{◌≡◌};
 ghost use Rattle.cert_format.specs.Certificates.{places_of};
 
 use market_data::FactorPlaces;
-use market_model::{Dual, List, Memory};
+use market_model::{Dual, List, Memory, RoomDual};
 use thiserror::Error;
 
+/// The price of reserve, and the prices of rooms by unit. They are in 10^-6 per MWh with a best dispatch, and plain numbers where they show
+/// that no dispatch is feasible.
+#[derive(Drop, Debug)]
+pub struct ReserveDuals<N> {
+    pub price: N,
+    pub rooms: List<RoomDual<N>>,
+}
+
+/// The accepted MW of each offer of reserve, in 10^-9, with the prices that support them.
+#[derive(Drop, Debug)]
+pub struct ClearedReserve<N> {
+    pub quantities: List<N>,
+    pub duals: ReserveDuals<N>,
+}
+
 /// What shows that a clear came to what it did. Quantities are in 10^-9 MW. The prices of an optimal dispatch are in 10^-6 per MWh;
-/// duals that show that no dispatch is feasible are plain numbers. Both tell how many places the factors of the market had.
+/// duals that show that no dispatch is feasible are plain numbers. Both tell how many places the factors of the market had. They have a part
+/// on reserve where the market lists it, and none where it is of energy alone.
 #[derive(Drop, Debug)]
 pub enum Cert<N> {
     /// A best dispatch, the accepted MW of each block, with the prices that support it.
@@ -17,12 +33,14 @@ pub enum Cert<N> {
         energy: N,
         limits: List<Dual<N>>,
         places: FactorPlaces,
+        reserve: Option<ClearedReserve<N>>,
     },
     /// Duals that show that no dispatch is feasible.
     Farkas {
         energy: N,
         limits: List<Dual<N>>,
         places: FactorPlaces,
+        reserve: Option<ReserveDuals<N>>,
     },
 }
 
@@ -49,6 +67,7 @@ pub enum Key {
     Blocks,
     Limits,
     Places,
+    Reserve,
     /// A member of another name.
     Extra,
 }

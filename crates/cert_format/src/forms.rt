@@ -15,6 +15,8 @@ pub(crate) enum Version {
     First,
     /// A member tells the places.
     Second,
+    /// And one more tells of reserve.
+    Third,
 }
 
 /// What a certificate shows.
@@ -30,6 +32,7 @@ pub(crate) fn version_in(value: &Value) -> Option<Version>
     match number_at(value, "version") {
         Some(1) => Some(Version::First),
         Some(2) => Some(Version::Second),
+        Some(3) => Some(Version::Third),
         _ => None,
     }
 }
@@ -50,7 +53,7 @@ pub(crate) fn places_in(version: Version, value: &Value) -> Option<FactorPlaces>
 {
     match version {
         Version::First => Some(FactorPlaces::Six),
-        Version::Second => match number_at(value, "places") {
+        Version::Second | Version::Third => match number_at(value, "places") {
             Some(6) => Some(FactorPlaces::Six),
             Some(9) => Some(FactorPlaces::Nine),
             _ => None,
@@ -67,5 +70,7 @@ pub(crate) fn member_count(version: Version, kind: Kind) -> usize
         (Version::First, Kind::Farkas) => 4,
         (Version::Second, Kind::Optimal) => 6,
         (Version::Second, Kind::Farkas) => 5,
+        (Version::Third, Kind::Optimal) => 7,
+        (Version::Third, Kind::Farkas) => 6,
     }
 }

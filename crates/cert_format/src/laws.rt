@@ -17,12 +17,13 @@ pub fn reads_what_fits()
     ensures { ReadsWhatFits }
 {}
 
-/// What is written of a certificate that was read, of either version, is read back as the same certificate.
+/// What is written of a certificate that was read, of any version, is read back as the same certificate.
 pub fn migrating_keeps()
     ensures { LawOfMigration }
 {}
 
-/// A text that was written, where it is read as a certificate, is written again as the same text. Numbers of rows have 32 bits.
+/// A text that was written, where it is read as a certificate, is written again as the same text. Numbers of rows and
+/// units have 32 bits.
 pub fn migrated_texts_stay()
     ensures { LawOfMigratedTexts }
 {}

@@ -7,8 +7,10 @@ mod fractions;
 pub mod laws;
 mod members;
 mod reading;
+mod reading_reserve;
 mod writing;
+mod writing_reserve;
 
-pub use certificate::{Cert, CertFault, Key};
+pub use certificate::{Cert, CertFault, ClearedReserve, Key, ReserveDuals};
 pub use reading::from_json;
 pub use writing::{outcome_json, to_json};

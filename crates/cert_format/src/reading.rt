@@ -9,11 +9,12 @@ ghost use Rattle.cert_format.specs.declared.certificate.CertFault.TheVariants as
 ghost use Rattle.cert_format.specs.declared.certificate.Key.{Key};
 ghost use Rattle.cert_format.specs.declared.certificate.Key.TheVariants as key;
 ghost use Rattle.cert_format.specs.Certificates.{RowsAreDistinct, cert_at, name_of, same_triple};
-ghost use Rattle.cert_format.specs.Grammar.{Gives, blocks_in, cert_in, cert_read, each, farkas_in, fraction_at, fraction_in, if_distinct, in_32, limit_in, limits_in, members_with, need, number_at, optimal_in, unit_at, unit_in};
+ghost use Rattle.cert_format.specs.Grammar.{Gives, cert_in, cert_read, each, farkas_in, fraction_at, fraction_in, fractions_at, if_distinct, in_32, limit_in, limits_in, members_with, need, number_at, optimal_in, unit_at, unit_in};
 
 use crate::forms::{Kind, Version, kind_in, member_count, places_in, version_in};
 use crate::fractions::fraction;
 use crate::members::{has_size, number_at};
+use crate::reading_reserve::{cleared_reserve, reserve_duals};
 use crate::{Cert, CertFault, Key};
 use exact_fraction::{Exact, Frac};
 use indexmap::IndexSet;
@@ -27,14 +28,14 @@ fn fraction_in<N: Exact>(value: &Value) -> Option<N>
     fraction(value.as_str()?.as_bytes())
 }
 
-fn fraction_at<N: Exact>(value: &Value, name: &str) -> Option<N>
+pub(crate) fn fraction_at<N: Exact>(value: &Value, name: &str) -> Option<N>
     ensures { option_map N.value result ≡ fraction_at N.bound name.now (view value.now) }
 {
     fraction_in(value.get(name)?)
 }
 
 /// A row of the branch matrix, or of the gen matrix.
-fn row_at(value: &Value, name: &str) -> Option<u32>
+pub(crate) fn row_at(value: &Value, name: &str) -> Option<u32>
     ensures { result ≡ in_32 (number_at name.now (view value.now)) }
 {
     match number_at(value, name) {
@@ -56,13 +57,13 @@ fn unit_at(value: &Value) -> Option<u32>
     }
 }
 
-/// The unit that is lost, in a text of either version: the first has no member for it, and names none.
+/// The unit that is lost, in a text of any version: the first has no member for it, and names none.
 fn unit_in(version: Version, value: &Value) -> Option<u32>
     ensures { result ≡ unit_in version (view value.now) }
 {
     match version {
         Version::First => Some(0),
-        Version::Second => unit_at(value),
+        Version::Second | Version::Third => unit_at(value),
     }
 }
 
@@ -96,25 +97,32 @@ fn limit_in<N: Exact>(version: Version, value: &Value) -> Option<Dual<N>>
     })
 }
 
-fn blocks_of<N: Exact>(alloc: Global, values: &[Value]) -> Result<List<N>, CertFault>
-    ensures { Gives (map N.value) result (need key.Blocks (each (fraction_in N.bound) (items_view values.now)) Ok) }
+/// Fractions that stand in a part of the text.
+fn fractions_of<N: Exact>(alloc: Global, part: Key, values: &[Value]) -> Result<List<N>, CertFault>
+    ensures { Gives (map N.value) result (need part (each (fraction_in N.bound) (items_view values.now)) Ok) }
 {
-    let mut blocks = List::new(alloc);
+    let mut numbers = List::new(alloc);
     for value in values {
-        let Some(block) = fraction_in(value) else {
-            return Err(CertFault::Key { key: Key::Blocks });
+        let Some(number) = fraction_in(value) else {
+            return Err(CertFault::Key { key: part });
         };
-        blocks.push(block)?;
+        numbers.push(number)?;
     }
-    Ok(blocks)
+    Ok(numbers)
 }
 
-fn blocks_in<N: Exact>(alloc: Global, value: &Value) -> Result<List<N>, CertFault>
-    ensures { Gives (map N.value) result (need key.Blocks (blocks_in N.bound (view value.now)) Ok) }
+/// The same, of the member of that name.
+pub(crate) fn fractions_at<N: Exact>(
+    alloc: Global,
+    part: Key,
+    value: &Value,
+    name: &str,
+) -> Result<List<N>, CertFault>
+    ensures { Gives (map N.value) result (need part (fractions_at N.bound name.now (view value.now)) Ok) }
 {
-    match value.get("blocks").and_then(Value::as_array) {
-        Some(values) => blocks_of(alloc, values.as_slice()),
-        None => Err(CertFault::Key { key: Key::Blocks }),
+    match value.get(name).and_then(Value::as_array) {
+        Some(values) => fractions_of(alloc, part, values.as_slice()),
+        None => Err(CertFault::Key { key: part }),
     }
 }
 
@@ -175,11 +183,12 @@ fn optimal_in<N: Exact>(
 ) -> Result<Cert<N>, CertFault>
     ensures { Gives (cert_at N.value) result (optimal_in N.bound version (N.value energy) (view value.now)) }
 {
-    let blocks = blocks_in(alloc, value)?;
+    let blocks = fractions_at(alloc, Key::Blocks, value, "blocks")?;
     let limits = limits_in(alloc, version, value)?;
     let Some(places) = places_in(version, value) else {
         return Err(CertFault::Key { key: Key::Places });
     };
+    let reserve = cleared_reserve(alloc, version, value)?;
     if !has_size(value, member_count(version, Kind::Optimal)) {
         return Err(CertFault::Key { key: Key::Extra });
     }
@@ -188,6 +197,7 @@ fn optimal_in<N: Exact>(
         energy,
         limits,
         places,
+        reserve,
     })
 }
 
@@ -207,6 +217,7 @@ fn farkas_in<N: Exact>(
     let Some(places) = places_in(version, value) else {
         return Err(CertFault::Key { key: Key::Places });
     };
+    let reserve = reserve_duals(alloc, version, value)?;
     if !has_size(value, member_count(version, Kind::Farkas)) {
         return Err(CertFault::Key { key: Key::Extra });
     }
@@ -214,6 +225,7 @@ fn farkas_in<N: Exact>(
         energy,
         limits,
         places,
+        reserve,
     })
 }
 
@@ -239,7 +251,7 @@ fn cert_in<N: Exact>(alloc: Global, value: &Value) -> Result<Cert<N>, CertFault>
     }
 }
 
-/// Reads a certificate of either version, or tells the first part of the text that is not in the grammar.
+/// Reads a certificate of any version, or tells the first part of the text that is not in the grammar.
 pub fn from_json(alloc: Global, bytes: &[u8]) -> Result<Cert<Frac>, CertFault>
     ensures read { IfOk result (λ cert. cert_read bytes.now ≡ Ok (cert_at ⟦<Frac as Exact>⟧.value cert)) }
     ensures fault { (k : Key) → result ≡ Err (fault.Key k) → cert_read bytes.now ≡ Err k }

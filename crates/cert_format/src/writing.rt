@@ -1,25 +1,28 @@
 //! The text of a certificate.
 
-ghost use Rattle.std.specs.Prelude.{◌≡◌, ℕ, ◌≤◌, List, Some, IfOk, IfSome, IsOk, OnOk, Ok, All, map, option_map};
+ghost use Rattle.std.specs.Prelude.{◌≡◌, ℕ, ◌≤◌, List, Option, Some, IfOk, IfSome, IsOk, OnOk, Ok, All, map, option_map};
 ghost use Rattle.fraction_theory.specs.Fraction.{Fraction};
 ghost use Rattle.serde_json.specs.View.{view};
 ghost use Rattle.market_model.specs.Valued.{dual_at, outcome_at};
 ghost use Rattle.cert_format.specs.declared.certificate.Cert.{Cert};
 ghost use Rattle.cert_format.specs.declared.certificate.Cert.TheVariants as cert;
-ghost use Rattle.cert_format.specs.Certificates.{NumbersFit, RowFits, RowsAreDistinct, cert_at, cert_of_outcome, limits_of, most_part};
+ghost use Rattle.cert_format.specs.declared.certificate.ClearedReserve.{ClearedReserve};
+ghost use Rattle.cert_format.specs.declared.certificate.ReserveDuals.{ReserveDuals};
+ghost use Rattle.cert_format.specs.Certificates.{NamesFit, NumbersFit, RowFits, RowsAreDistinct, cert_against, cert_at, cert_of, cert_of_outcome, most_part};
 ghost use Rattle.cert_format.specs.Grammar.{cert_read};
-ghost use Rattle.cert_format.specs.Written.{blocks_data, cert_data, cert_text, certificate_of, fraction_data, limit_data, limits_data};
+ghost use Rattle.cert_format.specs.Written.{cert_text, certificate_of, cleared_reserve_data, farkas_data, fraction_data, fractions_data, limit_data, limits_data, optimal_data, reserve_duals_data};
 
 use crate::Cert;
+use crate::writing_reserve::{answer_part, cleared_part, duals_part, farkas_part};
 use exact_fraction::Exact;
 use market_data::FactorPlaces;
-use market_model::{Dual, List, Memory, Outcome};
+use market_model::{Answer, Dual, Farkas, List, Memory, Outcome};
 use serde_json::{Value, json};
 use std::alloc::{AllocError, Global};
 use std::str;
 
 /// A fraction as the text `num/den`.
-fn fraction_value<N: Exact>(alloc: Global, number: N) -> Result<Value, AllocError>
+pub(crate) fn fraction_value<N: Exact>(alloc: Global, number: N) -> Result<Value, AllocError>
     ensures { IfOk result (λ v. view v ≡ fraction_data (N.value number)) }
 {
     let mut buffer = [0u8; 128];
@@ -45,12 +48,15 @@ fn limit_value<N: Exact>(alloc: Global, dual: &Dual<N>) -> Result<Value, AllocEr
     }
 }
 
-fn blocks_value<N: Exact>(alloc: Global, blocks: &List<N>) -> Result<Value, AllocError>
-    ensures { IfOk result (λ v. view v ≡ blocks_data (map N.value blocks.now)) }
+pub(crate) fn fractions_value<N: Exact>(
+    alloc: Global,
+    numbers: &List<N>,
+) -> Result<Value, AllocError>
+    ensures { IfOk result (λ v. view v ≡ fractions_data (map N.value numbers.now)) }
 {
     let mut values = Vec::new(alloc);
-    for block in blocks.slice() {
-        values.push(fraction_value(alloc, *block)?)?;
+    for number in numbers.slice() {
+        values.push(fraction_value(alloc, *number)?)?;
     }
     Ok(Value::Array(values))
 }
@@ -66,38 +72,54 @@ fn limits_value<N: Exact>(alloc: Global, limits: &List<Dual<N>>) -> Result<Value
     Ok(Value::Array(values))
 }
 
-/// A dispatch with the prices that support it.
+/// A dispatch with the prices that support it, and the part on reserve where there is one.
 fn optimal_value<N: Exact>(
     alloc: Global,
     blocks: &List<N>,
     energy: N,
     limits: &List<Dual<N>>,
     places: FactorPlaces,
+    reserve: Option<Value>,
 ) -> Result<Value, AllocError>
-    ensures value { IfOk result (λ v. view v ≡ cert_data (cert_at N.value (cert.Optimal blocks.now energy limits.now places))) }
+    ensures value { IfOk result (λ v. view v ≡ optimal_data (map N.value blocks.now) (N.value energy) (map (dual_at N.value) limits.now) places (option_map view reserve)) }
     ensures rows { OnOk result (All (λ d. RowFits d.row) limits.now) }
 {
-    let blocks = blocks_value(alloc, blocks)?;
+    let blocks = fractions_value(alloc, blocks)?;
     let energy = fraction_value(alloc, energy)?;
     let limits = limits_value(alloc, limits)?;
     let count = u64::from(places.count());
-    json!(in alloc; {"blocks": blocks, "energy": energy, "kind": "optimal", "limits": limits, "places": count, "version": 2u64})
+    match reserve {
+        None => {
+            json!(in alloc; {"blocks": blocks, "energy": energy, "kind": "optimal", "limits": limits, "places": count, "version": 2u64})
+        }
+        Some(reserve) => {
+            json!(in alloc; {"blocks": blocks, "energy": energy, "kind": "optimal", "limits": limits, "places": count, "reserve": reserve, "version": 3u64})
+        }
+    }
 }
 
-/// Duals that show that no dispatch is feasible.
+/// Duals that show that no dispatch is feasible, and the part on reserve where there is one.
 fn farkas_value<N: Exact>(
     alloc: Global,
     energy: N,
     limits: &List<Dual<N>>,
     places: FactorPlaces,
+    reserve: Option<Value>,
 ) -> Result<Value, AllocError>
-    ensures value { IfOk result (λ v. view v ≡ cert_data (cert_at N.value (cert.Farkas energy limits.now places))) }
+    ensures value { IfOk result (λ v. view v ≡ farkas_data (N.value energy) (map (dual_at N.value) limits.now) places (option_map view reserve)) }
     ensures rows { OnOk result (All (λ d. RowFits d.row) limits.now) }
 {
     let energy = fraction_value(alloc, energy)?;
     let limits = limits_value(alloc, limits)?;
     let count = u64::from(places.count());
-    json!(in alloc; {"energy": energy, "kind": "farkas", "limits": limits, "places": count, "version": 2u64})
+    match reserve {
+        None => {
+            json!(in alloc; {"energy": energy, "kind": "farkas", "limits": limits, "places": count, "version": 2u64})
+        }
+        Some(reserve) => {
+            json!(in alloc; {"energy": energy, "kind": "farkas", "limits": limits, "places": count, "reserve": reserve, "version": 3u64})
+        }
+    }
 }
 
 fn optimal_text<N: Exact>(
@@ -106,11 +128,13 @@ fn optimal_text<N: Exact>(
     energy: N,
     limits: &List<Dual<N>>,
     places: FactorPlaces,
+    reserve: Option<Value>,
 ) -> Result<Vec<u8>, AllocError>
-    ensures text { IfOk result (λ bytes. bytes.items ≡ cert_text (cert_at N.value (cert.Optimal blocks.now energy limits.now places))) }
+    ensures text { (r : Option (ClearedReserve Fraction)) → option_map view reserve ≡ option_map cleared_reserve_data r
+        → IfOk result (λ bytes. bytes.items ≡ cert_text (cert.Optimal (map N.value blocks.now) (N.value energy) (map (dual_at N.value) limits.now) places r)) }
     ensures rows { OnOk result (All (λ d. RowFits d.row) limits.now) }
 {
-    optimal_value(alloc, blocks, energy, limits, places)?.to_vec(alloc)
+    optimal_value(alloc, blocks, energy, limits, places, reserve)?.to_vec(alloc)
 }
 
 fn farkas_text<N: Exact>(
@@ -118,16 +142,18 @@ fn farkas_text<N: Exact>(
     energy: N,
     limits: &List<Dual<N>>,
     places: FactorPlaces,
+    reserve: Option<Value>,
 ) -> Result<Vec<u8>, AllocError>
-    ensures text { IfOk result (λ bytes. bytes.items ≡ cert_text (cert_at N.value (cert.Farkas energy limits.now places))) }
+    ensures text { (r : Option (ReserveDuals Fraction)) → option_map view reserve ≡ option_map reserve_duals_data r
+        → IfOk result (λ bytes. bytes.items ≡ cert_text (cert.Farkas (N.value energy) (map (dual_at N.value) limits.now) places r)) }
     ensures rows { OnOk result (All (λ d. RowFits d.row) limits.now) }
 {
-    farkas_value(alloc, energy, limits, places)?.to_vec(alloc)
+    farkas_value(alloc, energy, limits, places, reserve)?.to_vec(alloc)
 }
 
 fn cert_bytes<N: Exact>(alloc: Global, cert: &Cert<N>) -> Result<Vec<u8>, AllocError>
     ensures text { IfOk result (λ bytes. bytes.items ≡ cert_text (cert_at N.value cert.now)) }
-    ensures rows { OnOk result (All (λ d. RowFits d.row) (limits_of cert.now)) }
+    ensures names { OnOk result (NamesFit cert.now) }
 {
     match cert {
         Cert::Optimal {
@@ -135,17 +161,25 @@ fn cert_bytes<N: Exact>(alloc: Global, cert: &Cert<N>) -> Result<Vec<u8>, AllocE
             energy,
             limits,
             places,
-        } => optimal_text(alloc, blocks, *energy, limits, *places),
+            reserve,
+        } => {
+            let part = cleared_part(alloc, reserve)?;
+            optimal_text(alloc, blocks, *energy, limits, *places, part)
+        }
         Cert::Farkas {
             energy,
             limits,
             places,
-        } => farkas_text(alloc, *energy, limits, *places),
+            reserve,
+        } => {
+            let part = duals_part(alloc, reserve)?;
+            farkas_text(alloc, *energy, limits, *places, part)
+        }
     }
 }
 
-/// The text of a certificate, of the second version and without a line end. Where no row is named twice and its numbers have 127 bits at
-/// most, it is read back as the certificate.
+/// The text of a certificate, without a line end: of the third version where it has a part on reserve, and else of the second. Where no row
+/// is named twice and its numbers have 127 bits at most, it is read back as the certificate.
 pub fn to_json<N: Exact>(alloc: Global, cert: &Cert<N>) -> Result<Vec<u8>, Memory>
     ensures text { IfOk result (λ bytes. bytes.items ≡ cert_text (cert_at N.value cert.now)) }
     ensures reads_back { IfOk result (λ bytes. N.bound ≤ most_part → RowsAreDistinct (cert_at N.value cert.now)
@@ -155,6 +189,43 @@ pub fn to_json<N: Exact>(alloc: Global, cert: &Cert<N>) -> Result<Vec<u8>, Memor
         Ok(bytes) => Ok(bytes),
         Err(_) => Err(Memory),
     }
+}
+
+/// The text of the certificate of an answer.
+fn answer_text<N: Exact>(
+    alloc: Global,
+    places: FactorPlaces,
+    listed: bool,
+    answer: &Answer<N>,
+) -> Result<Vec<u8>, AllocError>
+    ensures text { IfOk result (λ bytes. bytes.items ≡ cert_text (cert_at N.value (cert_of places listed answer.now))) }
+    ensures names { OnOk result (NamesFit (cert_of places listed answer.now)) }
+{
+    let part = answer_part(alloc, listed, answer)?;
+    let duals = &answer.duals;
+    optimal_text(
+        alloc,
+        &answer.dispatch,
+        duals.energy,
+        &duals.limits,
+        places,
+        part,
+    )
+}
+
+/// The text of the certificate of duals that show that no dispatch is feasible.
+fn against_text<N: Exact>(
+    alloc: Global,
+    places: FactorPlaces,
+    listed: bool,
+    farkas: &Farkas<N>,
+) -> Result<Vec<u8>, AllocError>
+    ensures text { IfOk result (λ bytes. bytes.items ≡ cert_text (cert_at N.value (cert_against places listed farkas.now))) }
+    ensures names { OnOk result (NamesFit (cert_against places listed farkas.now)) }
+{
+    let duals = &farkas.duals;
+    let part = farkas_part(alloc, listed, duals)?;
+    farkas_text(alloc, duals.energy, &duals.limits, places, part)
 }
 
 /// A text that there is, where memory was not refused.
@@ -168,27 +239,22 @@ fn made(text: Result<Vec<u8>, AllocError>) -> Result<Option<Vec<u8>>, Memory>
     }
 }
 
-/// The text of the certificate of what a clear came to, where there is one. Factors of the market had so many places. Where the certificate
-/// names no row twice and its numbers have 127 bits at most, the text is read back as it.
+/// The text of the certificate of what a clear came to, where there is one. Factors of the market had so many places, and its reserve was
+/// listed or not. Where the certificate names no row twice and its numbers have 127 bits at most, the text is read back as it.
 pub fn outcome_json<N: Exact>(
     alloc: Global,
     places: FactorPlaces,
+    listed: bool,
     outcome: &Outcome<N>,
 ) -> Result<Option<Vec<u8>>, Memory>
-    ensures text { IfOk result (λ made. option_map (λ bytes. bytes.items) made ≡ certificate_of places (outcome_at N.value outcome.now)) }
-    ensures fits { OnOk result (IfSome (cert_of_outcome places (outcome_at N.value outcome.now)) (NumbersFit N.bound)) }
-    ensures reads_back { (c : Cert Fraction) → cert_of_outcome places (outcome_at N.value outcome.now) ≡ Some c → N.bound ≤ most_part → RowsAreDistinct c
+    ensures text { IfOk result (λ made. option_map (λ bytes. bytes.items) made ≡ certificate_of places listed (outcome_at N.value outcome.now)) }
+    ensures fits { OnOk result (IfSome (cert_of_outcome places listed (outcome_at N.value outcome.now)) (NumbersFit N.bound)) }
+    ensures reads_back { (c : Cert Fraction) → cert_of_outcome places listed (outcome_at N.value outcome.now) ≡ Some c → N.bound ≤ most_part → RowsAreDistinct c
         → IfOk result (λ made. option_map (λ bytes. cert_read bytes.items) made ≡ Some (Ok c)) }
 {
     match outcome {
-        Outcome::Cleared(answer) => {
-            let duals = &answer.duals;
-            made(optimal_text(alloc, &answer.dispatch, duals.energy, &duals.limits, places))
-        }
-        Outcome::Infeasible(farkas) => {
-            let duals = &farkas.duals;
-            made(farkas_text(alloc, duals.energy, &duals.limits, places))
-        }
+        Outcome::Cleared(answer) => made(answer_text(alloc, places, listed, answer)),
+        Outcome::Infeasible(farkas) => made(against_text(alloc, places, listed, farkas)),
         Outcome::Range(_) => Ok(None),
     }
 }

@@ -1,6 +1,6 @@
 use cert_format::{CertFault, Key, from_json, outcome_json, to_json};
 use exact_fraction::{Exact, Frac63, Op, Passed};
-use market_model::{Dual, Duals, FactorPlaces, Farkas, List, Outcome, RowId};
+use market_model::{Dual, Duals, FactorPlaces, Farkas, List, Outcome, RoomDual, RowId};
 use std::test::Fail;
 
 /// A dispatch with a limit that binds after an outage.
@@ -15,12 +15,21 @@ const FARKAS: &str =
 const LOST: &str =
     r#"{"energy":"-1/1","kind":"farkas","limits":[{"branch":2,"down":"0/1","outage":0,"up":"2/1"},{"branch":2,"down":"0/1","outage":0,"unit":1,"up":"2/1"},{"branch":2,"down":"0/1","outage":0,"unit":4294967295,"up":"2/1"}],"places":6,"version":2}"#;
 
+/// A dispatch with reserve of two units, of which the first uses up its room.
+const WITH_RESERVE: &str =
+    r#"{"blocks":["60000000000/1","0/1"],"energy":"13000000/1","kind":"optimal","limits":[],"places":6,"reserve":{"price":"5000000/1","quantities":["40000000000/1","20000000000/1"],"units":[{"dual":"3000000/1","unit":1}]},"version":3}"#;
+
+/// Duals that show that units have not the reserve that is needed.
+const SHORT: &str =
+    r#"{"energy":"0/1","kind":"farkas","limits":[{"branch":2,"down":"0/1","outage":0,"unit":1,"up":"2/1"}],"places":9,"reserve":{"price":"1/1","units":[{"dual":"1/2","unit":3},{"dual":"1/1","unit":4294967295}]},"version":3}"#;
+
 /// Texts that are no certificates, each with the first part that is not in the grammar.
-static FAULTS: [(&str, Key); 33] = [
+static FAULTS: [(&str, Key); 45] = [
     ("{", Key::Json),
     ("[]", Key::Json),
     (r#"{"version":1.0}"#, Key::Version),
-    (r#"{"version":3,"kind":"best"}"#, Key::Version),
+    (r#"{"version":4,"kind":"best"}"#, Key::Version),
+    (r#"{"version":3,"kind":"best"}"#, Key::Kind),
     (r#"{"version":2,"kind":"best"}"#, Key::Kind),
     (r#"{"version":1,"kind":"best"}"#, Key::Kind),
     (r#"{"version":1,"kind":"farkas"}"#, Key::Energy),
@@ -125,11 +134,55 @@ static FAULTS: [(&str, Key); 33] = [
         r#"{"version":2,"kind":"optimal","energy":"1/2","blocks":[],"limits":[],"places":9,"x":0}"#,
         Key::Extra,
     ),
+    (
+        r#"{"version":2,"kind":"farkas","energy":"1/2","limits":[],"places":6,"reserve":{"price":"1/1","units":[]}}"#,
+        Key::Extra,
+    ),
+    (
+        r#"{"version":3,"kind":"farkas","energy":"1/2","limits":[],"reserve":0}"#,
+        Key::Places,
+    ),
+    (
+        r#"{"version":3,"kind":"farkas","energy":"1/2","limits":[],"places":6}"#,
+        Key::Reserve,
+    ),
+    (
+        r#"{"version":3,"kind":"farkas","energy":"1/2","limits":[],"places":6,"reserve":{"price":"2/2","units":[]}}"#,
+        Key::Reserve,
+    ),
+    (
+        r#"{"version":3,"kind":"farkas","energy":"1/2","limits":[],"places":6,"reserve":{"price":"1/1"}}"#,
+        Key::Reserve,
+    ),
+    (
+        r#"{"version":3,"kind":"farkas","energy":"1/2","limits":[],"places":6,"reserve":{"price":"1/1","quantities":[],"units":[]}}"#,
+        Key::Reserve,
+    ),
+    (
+        r#"{"version":3,"kind":"farkas","energy":"1/2","limits":[],"places":6,"reserve":{"price":"1/1","units":[{"dual":"1/1","unit":4294967296}]}}"#,
+        Key::Reserve,
+    ),
+    (
+        r#"{"version":3,"kind":"farkas","energy":"1/2","limits":[],"places":6,"reserve":{"price":"1/1","units":[{"dual":"1/1","unit":1,"x":0}]}}"#,
+        Key::Reserve,
+    ),
+    (
+        r#"{"version":3,"kind":"optimal","energy":"1/2","blocks":[],"limits":[],"places":6,"reserve":{"price":"1/1","units":[]}}"#,
+        Key::Reserve,
+    ),
+    (
+        r#"{"version":3,"kind":"optimal","energy":"1/2","blocks":[],"limits":[],"places":6,"reserve":{"price":"1/1","quantities":["1"],"units":[]}}"#,
+        Key::Reserve,
+    ),
+    (
+        r#"{"version":3,"kind":"optimal","energy":"1/2","blocks":[],"limits":[],"places":6,"reserve":{"price":"1/1","quantities":[],"units":[]},"x":0}"#,
+        Key::Extra,
+    ),
 ];
 
 #[test]
 fn writes_what_it_reads(rt: HostRuntime) -> Result<(), Fail> {
-    for text in [OPTIMAL, FARKAS, LOST] {
+    for text in [OPTIMAL, FARKAS, LOST, WITH_RESERVE, SHORT] {
         let cert = from_json(rt.alloc(), text.as_bytes())?;
         let written = to_json(rt.alloc(), &cert)?;
         assert_eq!(rt; written.as_slice(), text.as_bytes());
@@ -183,7 +236,7 @@ fn writes_outcomes(rt: HostRuntime) -> Result<(), Fail> {
         },
         bound: Frac63::of_parts(-10, 1),
     });
-    match outcome_json(rt.alloc(), FactorPlaces::Nine, &farkas)? {
+    match outcome_json(rt.alloc(), FactorPlaces::Nine, false, &farkas)? {
         Some(written) => assert_eq!(rt; written.as_slice(), FARKAS.as_bytes()),
         None => assert!(rt; false),
     }
@@ -192,6 +245,40 @@ fn writes_outcomes(rt: HostRuntime) -> Result<(), Fail> {
         left: Frac63::of_parts(1, 1),
         right: Frac63::of_parts(2, 1),
     });
-    assert!(rt; outcome_json(rt.alloc(), FactorPlaces::Six, &range)?.is_none());
+    assert!(rt; outcome_json(rt.alloc(), FactorPlaces::Six, true, &range)?.is_none());
+    Ok(())
+}
+
+/// The part on reserve is written where that is listed, of any market.
+#[test]
+fn writes_what_is_listed(rt: HostRuntime) -> Result<(), Fail> {
+    let mut rooms = List::new(rt.alloc());
+    rooms.push(RoomDual {
+        unit: 3,
+        price: Frac63::of_parts(1, 2),
+    })?;
+    let farkas = Outcome::Infeasible(Farkas {
+        duals: Duals {
+            energy: Frac63::of_parts(0, 1),
+            limits: List::new(rt.alloc()),
+            reserve: Frac63::of_parts(1, 1),
+            rooms,
+        },
+        bound: Frac63::of_parts(-10, 1),
+    });
+    match outcome_json(rt.alloc(), FactorPlaces::Six, true, &farkas)? {
+        Some(written) => assert_eq!(rt;
+            written.as_slice(),
+            br#"{"energy":"0/1","kind":"farkas","limits":[],"places":6,"reserve":{"price":"1/1","units":[{"dual":"1/2","unit":3}]},"version":3}"#.as_slice()
+        ),
+        None => assert!(rt; false),
+    }
+    match outcome_json(rt.alloc(), FactorPlaces::Six, false, &farkas)? {
+        Some(written) => assert_eq!(rt;
+            written.as_slice(),
+            br#"{"energy":"0/1","kind":"farkas","limits":[],"places":6,"version":2}"#.as_slice()
+        ),
+        None => assert!(rt; false),
+    }
     Ok(())
 }

@@ -2,6 +2,8 @@ pub mod FindLemmas
 pub mod LawLemmas
 pub mod NamingLemmas
 pub mod PlacesLemmas
+pub mod ReserveApart
 pub mod RowLemmas
 pub mod TestLemmas
+pub mod UnitLemmas
 pub mod VerdictLemmas

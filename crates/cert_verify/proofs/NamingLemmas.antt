@@ -9,6 +9,7 @@ use Rattle.std.proofs.lemmas.List.FromFn.{length-range_with_len}
 use Rattle.std.proofs.lemmas.Map.Entries.{lookup_tail}
 use Rattle.fraction_theory.specs.Fraction.{Fraction}
 use Rattle.market_model.specs.declared.answered.Dual.{Dual}
+use Rattle.market_model.specs.declared.answered.RoomDual.{RoomDual}
 use Rattle.market_model.specs.declared.answered.Duals.{Duals}
 use Rattle.market_model.specs.declared.answered.RowId.{RowId}
 use Rattle.market_model.specs.declared.participants.Parts.{Parts}
@@ -22,7 +23,7 @@ use Rattle.limit_rows.proofs.PlaceLemmas.{same_name}
 use Rattle.cert_format.specs.Certificates.{NamesNoRowTwice, name_of, same_triple}
 use Rattle.cert_sums.specs.declared.pricing.NamedRow.{NamedRow}
 use Rattle.cert_sums.specs.Named.{PricedRow, priced_at, priced_by}
-use Rattle.cert_verify.specs.Certificates.{named_duals}
+use Rattle.cert_verify.specs.Certificates.{all_duals}
 use Rattle.cert_verify.specs.Naming.{IsNamedAt, entry_of, prices_of}
 use Rattle.cert_verify.proofs.VerdictLemmas.{other_id, own_id}
 
@@ -110,9 +111,9 @@ entries_more {N} ds i e lt at =
 -- ---- the rows that are named, one by one
 module _ {N : Type 0} (value : N → Fraction) (m : Parts) where
   -- what is found under the name of a row
-  pub named_is : (ds : List (Dual N)) (energy : Fraction) (row : Row) (e : Dual N) → lookup (same_triple (name_of (row_id m row))) (map entry_of ds) ≡ Some e
-      → IsNamedAt value m (named_duals energy (map (dual_at value) ds)) row (Some (record { row = row; up = e.up; down = e.down }))
-  named_is ds energy row e found =
+  pub named_is : (ds : List (Dual N)) (energy price : Fraction) (rooms : List (RoomDual Fraction)) (row : Row) (e : Dual N) → lookup (same_triple (name_of (row_id m row))) (map entry_of ds) ≡ Some e
+      → IsNamedAt value m (all_duals energy (map (dual_at value) ds) price rooms) row (Some (record { row = row; up = e.up; down = e.down }))
+  named_is ds energy price rooms row e found =
       let is = dual_named value (row_id m row) ds e found in
       (is.named, ap₂ (λ (u w : Fraction). record { row = row; up = u; down = w }) (sym is.up) (sym is.down))
 

@@ -30,8 +30,8 @@ places_from m had e = so_none _ reason.Places (not_true _ (eq-eqb _ _ (ap place_
 
 -- they do not change with what numbers stand for
 pub places_at : {N : Type 0} (value : N → Fraction) (c : Cert N) → places_of (cert_at value c) ≡ places_of c
-places_at value (Optimal blocks energy limits places) = refl
-places_at value (Farkas energy limits places) = refl
+places_at value (Optimal blocks energy limits places reserve) = refl
+places_at value (Farkas energy limits places reserve) = refl
 
 -- the first reason of a list, where its first has none
 pub first_behind : (o : Option Reason) (os : List (Option Reason)) → o ≡ None → first_of (o ∷ os) ≡ first_of os

@@ -1,5 +1,6 @@
 -- What tests of numbers and of lists mean.
 use Rattle.std.specs.Prelude.{◌≡◌, ◌⊎◌, ◌||◌, ◌&&◌, ℕ, ◌+◌, ◌<◌, ℤ, ◌<ℤ◌, int_lt, Bool, true, false, not, cond, List, [], ◌∷◌, ◌++◌, All, Contains, Option, Some, None, option_map, refl}
+use Rattle.std.specs.Option.{option_or}
 use Rattle.std.specs.List.{find, list_any}
 use Rattle.std.specs.Ordering.{MatchOrdering}
 use Rattle.std.proofs.Common.{arith, inl, inr, ap, sym, subst, ◌∙◌, get_or, Ordering, Less, Equal, Greater}
@@ -176,6 +177,16 @@ pub none_join : (os ps : List (Option Reason)) → NoneOf os → NoneOf ps → N
 none_join [] ps e f = f
 none_join (None ∷ os) ps e f = none_join os ps e f
 none_join (Some r ∷ os) ps e f = absurd Prim.cc
+
+-- the first of two lists
+pub first_join : (os ps : List (Option Reason)) → first_of (os ++ ps) ≡ option_or (first_of os) (first_of ps)
+first_join [] ps = refl
+first_join (None ∷ os) ps = first_join os ps
+first_join (Some r ∷ os) ps = refl
+
+pub or_none : (o : Option Reason) → option_or o None ≡ o
+or_none None = refl
+or_none (Some r) = refl
 
 pub yes_none : (o : Option Reason) → verdict_of o ≡ Yes → o ≡ None
 yes_none None e = refl

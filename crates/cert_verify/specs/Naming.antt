@@ -6,7 +6,8 @@ use Rattle.market_model.specs.declared.answered.Duals.{Duals}
 use Rattle.market_model.specs.declared.participants.Parts.{Parts}
 use Rattle.market_model.specs.declared.limits.Row.{Row}
 use Rattle.market_model.specs.LimitRows.{row_id}
-use Rattle.market_model.specs.Optimality.{names_row}
+use Rattle.market_model.specs.declared.answered.RoomDual.{RoomDual}
+use Rattle.market_model.specs.Optimality.{names_room, names_row, room_price_in}
 use Rattle.cert_format.specs.Certificates.{name_of}
 use Rattle.cert_sums.specs.declared.pricing.NamedRow.{NamedRow}
 use Rattle.cert_sums.specs.Named.{PricedRow, priced_at, priced_by}
@@ -22,3 +23,7 @@ IsNamedAt value m d r found = MatchOption found (names_row d.limits (row_id m r)
 -- the prices of those rows that duals name
 abbrev pub prices_of : Parts → Duals Fraction → List Row → List PricedRow
 prices_of m d rs = map (priced_by m d) (filter (λ r. names_row d.limits (row_id m r)) rs)
+
+-- the price of the room of the unit of that gen row, where duals name it
+abbrev pub IsPriceOf : {N : Type 0} → (N → Fraction) → List (RoomDual Fraction) → ℕ → Option N → Type 0
+IsPriceOf value ds row found = MatchOption found (names_room ds row ≡ false) (λ price. (names_room ds row ≡ true) × (value price ≡ room_price_in ds row))

@@ -11,11 +11,13 @@ use Rattle.market_model.specs.declared.answered.Duals.{Duals}
 use Rattle.market_model.specs.declared.participants.Parts.{Parts}
 use Rattle.market_model.specs.declared.participants.Side.{Side}
 use Rattle.market_model.specs.declared.participants.Side.TheVariants.{Sell, Buy}
-use Rattle.market_model.specs.Dispatch.{Dispatch, zero, places, block_at, accepted, quantity, balance}
+use Rattle.market_model.specs.declared.answered.RoomDual.{RoomDual}
+use Rattle.market_model.specs.Dispatch.{Dispatch, zero, places, block_at, unit_at, offer_at, accepted, quantity, reserved, reserve_quantity, balance}
 use Rattle.market_model.specs.Infeasibility.{farkas_bound}
 use Rattle.market_model.specs.declared.limits.Row.{Row}
 use Rattle.market_model.specs.LimitRows.{rows, row_id, limit, most_flow, flow, penalty}
-use Rattle.market_model.specs.Optimality.{price, unit_price, names_row}
+use Rattle.market_model.specs.Optimality.{price, energy_worth, reserve_worth, names_room, names_row}
+use Rattle.market_model.specs.Reserves.{offer_places, offer_price, reserve, reserve_need, reserve_units, room, room_used}
 use Rattle.limit_rows.specs.Naming.{has_name}
 use Rattle.cert_verify.specs.declared.verdicts.Reason.{Reason}
 use Rattle.cert_verify.specs.declared.verdicts.Reason.TheVariants as reason
@@ -41,7 +43,7 @@ is_outside mw quantity = is_below mw zero || is_below quantity mw
 abbrev pub has_negative : Dual Fraction → Bool
 has_negative e = is_below e.up zero || is_below e.down zero
 
--- more of a block of this side and price gains, where the price of its unit is `worth`; any of it loses
+-- more of a block of this side and price gains, where a MW of its unit is worth `worth`; any of it loses
 abbrev pub gains : Side → Fraction → Fraction → Bool
 gains Sell price worth = is_below price worth
 gains Buy price worth = is_below worth price
@@ -85,7 +87,30 @@ abbrev pub is_beyond : Parts → Dispatch → ℕ → Bool
 is_beyond m x j = is_outside (accepted x j) (quantity m j)
 
 abbrev pub is_unsupported : Parts → Dispatch → Duals Fraction → ℕ → Bool
-is_unsupported m x d j = breaks_support (block_at m j).side (price m j) (unit_price m d (block_at m j).unit) (quantity m j) (accepted x j)
+is_unsupported m x d j = breaks_support (block_at m j).side (price m j) (energy_worth m d (block_at m j).unit) (quantity m j) (accepted x j)
+
+-- ---- and of its reserve
+-- the unit of that gen row offers reserve
+abbrev pub has_offer : Parts → ℕ → Bool
+has_offer m row = list_any (λ u. (unit_at m u).row == row) (reserve_units m)
+
+abbrev pub is_offer_beyond : Parts → Dispatch → ℕ → Bool
+is_offer_beyond m x n = is_outside (reserved x n) (reserve_quantity m n)
+
+-- an offer is as a sell
+abbrev pub is_offer_unsupported : Parts → Dispatch → Duals Fraction → ℕ → Bool
+is_offer_unsupported m x d n = breaks_support Sell (offer_price m n) (reserve_worth m d (offer_at m n).unit) (reserve_quantity m n) (reserved x n)
+
+-- more than the room of a unit is used of it
+abbrev pub is_overfull : Parts → Dispatch → ℕ → Bool
+is_overfull m x u = is_below (room m u) (room_used m x u)
+
+-- a price above 0 of what is not used up
+abbrev pub is_slack : Fraction → Fraction → Fraction → Bool
+is_slack price used all = is_below zero price && differ used all
+
+abbrev pub has_room_slack : Parts → Dispatch → RoomDual Fraction → Bool
+has_room_slack m x e = list_any (λ u. ((unit_at m u).row == e.unit) && is_slack e.price (room_used m x u) (room m u)) (reserve_units m)
 
 -- ---- reasons, each of the first place that has it
 -- the reason of the first that a test finds
@@ -101,23 +126,44 @@ abbrev pub places_reason : Parts → FactorPlaces → Option Reason
 places_reason m had = where_so (not (place_count had == place_count m.places)) reason.Places
 
 abbrev pub count_reason : Parts → Dispatch → Option Reason
-count_reason m x = where_so (not (length x.blocks == length m.blocks)) reason.Count
+count_reason m x = where_so (not ((length x.blocks == length m.blocks) && (length x.reserve == length m.reserve.offers))) reason.Count
 
 abbrev pub row_reason : Parts → List (Dual Fraction) → Option Reason
 row_reason m ds = of_first (λ e. reason.NoRow e.row) (has_no_row m) ds
 
+-- a unit whose room is named offers no reserve, or is named again
+abbrev pub unit_reason : Parts → List (RoomDual Fraction) → Option Reason
+unit_reason m [] = None
+unit_reason m (e ∷ es) = if not (has_offer m e.unit) || names_room es e.unit then Some (reason.NoUnit e.unit) else unit_reason m es
+
 abbrev pub sign_reason : List (Dual Fraction) → Option Reason
 sign_reason ds = of_first (λ e. reason.Sign e.row) has_negative ds
+
+abbrev pub need_sign_reason : Fraction → Option Reason
+need_sign_reason price = where_so (is_below price zero) reason.NeedSign
+
+abbrev pub room_sign_reason : List (RoomDual Fraction) → Option Reason
+room_sign_reason ds = of_first (λ e. reason.RoomSign e.unit) (λ e. is_below e.price zero) ds
 
 abbrev pub block_reason : Parts → Dispatch → Option Reason
 block_reason m x = of_first (λ j. reason.Block (j + 1)) (is_beyond m x) (places (length m.blocks))
 
+abbrev pub reserve_reason : Parts → Dispatch → Option Reason
+reserve_reason m x = of_first (λ n. reason.Reserve (n + 1)) (is_offer_beyond m x) (offer_places m)
+
 abbrev pub balance_reason : Parts → Dispatch → Option Reason
 balance_reason m x = where_so (differ (balance m x) zero) reason.Balance
+
+abbrev pub need_reason : Parts → Dispatch → Option Reason
+need_reason m x = where_so (is_below (reserve m x) (reserve_need m)) reason.Need
 
 -- over all rows of the market
 abbrev pub limit_reason : Parts → Dispatch → Option Reason
 limit_reason m x = of_first (λ r. reason.Limit (row_id m r)) (is_overloaded m x) (rows m)
+
+-- over all units that offer reserve
+abbrev pub room_reason : Parts → Dispatch → Option Reason
+room_reason m x = of_first (λ u. reason.Room (unit_at m u).row) (is_overfull m x) (reserve_units m)
 
 abbrev pub slack_reason : Parts → Dispatch → List (Dual Fraction) → Option Reason
 slack_reason m x ds = of_first (λ e. reason.Slack e.row) (has_slack m x) ds
@@ -126,8 +172,17 @@ slack_reason m x ds = of_first (λ e. reason.Slack e.row) (has_slack m x) ds
 abbrev pub unpriced_reason : Parts → Dispatch → List (Dual Fraction) → Option Reason
 unpriced_reason m x ds = of_first (λ r. reason.Slack (row_id m r)) (is_unpriced m x ds) (rows m)
 
+abbrev pub need_slack_reason : Parts → Dispatch → Fraction → Option Reason
+need_slack_reason m x price = where_so (is_slack price (reserve m x) (reserve_need m)) reason.NeedSlack
+
+abbrev pub room_slack_reason : Parts → Dispatch → List (RoomDual Fraction) → Option Reason
+room_slack_reason m x ds = of_first (λ e. reason.RoomSlack e.unit) (has_room_slack m x) ds
+
 abbrev pub support_reason : Parts → Dispatch → Duals Fraction → Option Reason
 support_reason m x d = of_first (λ j. reason.Support (j + 1)) (is_unsupported m x d) (places (length m.blocks))
+
+abbrev pub reserve_support_reason : Parts → Dispatch → Duals Fraction → Option Reason
+reserve_support_reason m x d = of_first (λ n. reason.ReserveSupport (n + 1)) (is_offer_unsupported m x d) (offer_places m)
 
 abbrev pub bound_reason : Parts → Duals Fraction → Option Reason
 bound_reason m d = where_so (not (is_below (farkas_bound m d) zero)) reason.Bound
@@ -142,24 +197,36 @@ abbrev pub NoneOf : List (Option Reason) → Type 0
 NoneOf reasons = first_of reasons ≡ None
 
 -- against what duals name, with their signs
-abbrev pub dual_reasons : Parts → List (Dual Fraction) → List (Option Reason)
-dual_reasons m ds = row_reason m ds ∷ sign_reason ds ∷ []
+abbrev pub dual_reasons : Parts → Duals Fraction → List (Option Reason)
+dual_reasons m d = row_reason m d.limits ∷ unit_reason m d.rooms ∷ sign_reason d.limits ∷ need_sign_reason d.reserve ∷ room_sign_reason d.rooms ∷ []
 
 -- against the parts of a dispatch and duals, before anything is added up
-abbrev pub part_reasons : Parts → Dispatch → List (Dual Fraction) → List (Option Reason)
-part_reasons m x ds = count_reason m x ∷ (dual_reasons m ds ++ block_reason m x ∷ [])
+abbrev pub part_reasons : Parts → Dispatch → Duals Fraction → List (Option Reason)
+part_reasons m x d = count_reason m x ∷ (dual_reasons m d ++ block_reason m x ∷ reserve_reason m x ∷ [])
 
--- against its flows
-abbrev pub flow_reasons : Parts → Dispatch → List (Dual Fraction) → List (Option Reason)
-flow_reasons m x ds = balance_reason m x ∷ limit_reason m x ∷ slack_reason m x ds ∷ unpriced_reason m x ds ∷ []
+-- against its balance and its reserve
+abbrev pub sum_reasons : Parts → Dispatch → List (Option Reason)
+sum_reasons m x = balance_reason m x ∷ need_reason m x ∷ []
+
+-- against its flows, and what it uses of rooms
+abbrev pub limit_reasons : Parts → Dispatch → List (Option Reason)
+limit_reasons m x = limit_reason m x ∷ room_reason m x ∷ []
+
+-- against the prices of rows, of reserve and of rooms, at what these come to
+abbrev pub slack_reasons : Parts → Dispatch → Duals Fraction → List (Option Reason)
+slack_reasons m x d = slack_reason m x d.limits ∷ unpriced_reason m x d.limits ∷ need_slack_reason m x d.reserve ∷ room_slack_reason m x d.rooms ∷ []
+
+-- all of these, which are told of sums over the dispatch
+abbrev pub flow_reasons : Parts → Dispatch → Duals Fraction → List (Option Reason)
+flow_reasons m x d = sum_reasons m x ++ limit_reasons m x ++ slack_reasons m x d
 
 -- against a dispatch and duals that support it
 abbrev pub optimal_reasons : Parts → Dispatch → Duals Fraction → List (Option Reason)
-optimal_reasons m x d = part_reasons m x d.limits ++ flow_reasons m x d.limits ++ support_reason m x d ∷ []
+optimal_reasons m x d = part_reasons m x d ++ flow_reasons m x d ++ support_reason m x d ∷ reserve_support_reason m x d ∷ []
 
 -- against duals that show that nothing is feasible
 abbrev pub farkas_reasons : Parts → Duals Fraction → List (Option Reason)
-farkas_reasons m d = dual_reasons m d.limits ++ bound_reason m d ∷ []
+farkas_reasons m d = dual_reasons m d ++ bound_reason m d ∷ []
 
 -- yes where there is no reason against
 abbrev pub verdict_of : Option Reason → Verdict

@@ -9,20 +9,20 @@ use Rattle.market_model.specs.declared.limits.Row.{Row}
 use Rattle.market_model.specs.declared.participants.Parts.{Parts}
 use Rattle.market_model.specs.declared.stops.Stop.{Stop}
 use Rattle.market_model.specs.declared.stops.Stop.TheVariants as stop
-use Rattle.market_model.specs.Dispatch.{Dispatch, dispatch_by}
+use Rattle.market_model.specs.Dispatch.{Dispatch}
 use Rattle.market_model.specs.LimitRows.{rows, limit, most_excess}
 use Rattle.market_model.specs.NamedSums.{IsRefusal}
-use Rattle.market_model.specs.SumTables.{IsRefusedAmong, BalanceSum, LimitFlowSum, PickupSum}
+use Rattle.market_model.specs.SumTables.{IsRefusedAmong, BalanceSum, LimitFlowSum, PickupSum, ReserveSum}
 use Rattle.market_model.specs.Valued.{passed_at}
 use Rattle.cert_format.specs.declared.certificate.Cert.{Cert}
 use Rattle.cert_format.specs.declared.certificate.Cert.TheVariants.{Optimal, Farkas}
 use Rattle.cert_format.specs.Certificates.{places_of}
 use Rattle.cert_sums.specs.Pairs.{IsFarkasPair}
-use Rattle.cert_sums.specs.Refusals.{IsUnitPriceRefusal}
+use Rattle.cert_sums.specs.Refusals.{IsWorthRefusal}
 use Rattle.cert_verify.specs.declared.verdicts.VerifyStop.{VerifyStop}
 use Rattle.cert_verify.specs.declared.verdicts.VerifyStop.TheVariants as why
-use Rattle.cert_verify.specs.Certificates.{named_duals}
-use Rattle.cert_verify.specs.Reasons.{NoneOf, balance_reason, dual_reasons, flow_reasons, part_reasons}
+use Rattle.cert_verify.specs.Certificates.{dispatched, duals_of}
+use Rattle.cert_verify.specs.Reasons.{NoneOf, balance_reason, dual_reasons, flow_reasons, limit_reason, part_reasons, sum_reasons}
 
 -- in the flow of a line or of a row of the market, in the output of a lost unit, in the pickup factor of such a row, or of its limit and
 -- its most excess
@@ -32,21 +32,24 @@ pub data IsLimitPair (m : Parts) (x : Dispatch) (bound : ℕ) (p : Passed Fracti
   of_most : (r : Row) → Contains (rows m) r → IsRefusal Plus (limit m r) (most_excess m r) bound p → IsLimitPair m x bound p
 
 -- An operation is refused that a reason asks for, and none of the reasons before that one holds: the balance is added up where nothing is
--- wrong with the parts, flows where the dispatch balances too, and prices where nothing is wrong with its flows either.
+-- wrong with the parts, reserve where the dispatch balances, flows where the need is met too, what is used of rooms where no limit is broken
+-- either, and what a MW is worth where nothing is wrong with all of these.
 pub data IsOptimalStop (m : Parts) (x : Dispatch) (d : Duals Fraction) (bound : ℕ) (p : Passed Fraction) : Type 0 where
-  at_balance : IsRefusedAmong (BalanceSum m x) bound p → NoneOf (part_reasons m x d.limits) → IsOptimalStop m x d bound p
-  at_limits : IsLimitPair m x bound p → NoneOf (part_reasons m x d.limits ++ balance_reason m x ∷ []) → IsOptimalStop m x d bound p
-  at_support : IsUnitPriceRefusal m d bound p → NoneOf (part_reasons m x d.limits ++ flow_reasons m x d.limits) → IsOptimalStop m x d bound p
+  at_balance : IsRefusedAmong (BalanceSum m x) bound p → NoneOf (part_reasons m x d) → IsOptimalStop m x d bound p
+  at_need : IsRefusedAmong (ReserveSum m x) bound p → NoneOf (part_reasons m x d ++ balance_reason m x ∷ []) → IsOptimalStop m x d bound p
+  at_limits : IsLimitPair m x bound p → NoneOf (part_reasons m x d ++ sum_reasons m x) → IsOptimalStop m x d bound p
+  at_rooms : IsRefusedAmong (ReserveSum m x) bound p → NoneOf (part_reasons m x d ++ sum_reasons m x ++ limit_reason m x ∷ []) → IsOptimalStop m x d bound p
+  at_support : IsWorthRefusal m d bound p → NoneOf (part_reasons m x d ++ flow_reasons m x d) → IsOptimalStop m x d bound p
 
 -- the same of duals alone: the bound is added up where nothing is wrong with what they name
 pub record IsFarkasStop (m : Parts) (d : Duals Fraction) (bound : ℕ) (p : Passed Fraction) : Type 0 where
   pub refused : IsFarkasPair m d bound p
-  pub before : NoneOf (dual_reasons m d.limits)
+  pub before : NoneOf (dual_reasons m d)
 
 -- of the dispatch and the duals of a certificate
 abbrev pub IsKindStop : Parts → ℕ → Cert Fraction → Passed Fraction → Type 0
-IsKindStop m bound (Optimal blocks energy limits places) = IsOptimalStop m (dispatch_by blocks) (named_duals energy limits) bound
-IsKindStop m bound (Farkas energy limits places) = IsFarkasStop m (named_duals energy limits) bound
+IsKindStop m bound (Optimal blocks energy limits places reserve) = IsOptimalStop m (dispatched blocks reserve) (duals_of (Optimal blocks energy limits places reserve)) bound
+IsKindStop m bound (Farkas energy limits places reserve) = IsFarkasStop m (duals_of (Farkas energy limits places reserve)) bound
 
 -- and its factors had the market's places, which is looked at before
 pub record IsCertificateStop (m : Parts) (bound : ℕ) (c : Cert Fraction) (p : Passed Fraction) : Type 0 where

@@ -3,12 +3,15 @@
 #![tactic(auto)]
 
 mod against;
+mod amounts;
 mod blocks;
 mod comparing;
 mod duals;
 pub mod laws;
 mod limits;
 mod naming;
+mod offers;
+mod rooms;
 mod sides;
 mod unpriced;
 mod verdicts;

@@ -8,7 +8,6 @@ use Rattle.market_model.specs.declared.answered.Farkas.{Farkas}
 use Rattle.market_model.specs.declared.participants.Parts.{Parts}
 use Rattle.market_model.specs.declared.limits.Row.{Row}
 use Rattle.market_model.specs.Market.{IsMarket}
-use Rattle.market_model.specs.Reserves.{no_reserve}
 use Rattle.market_model.specs.Valued.{duals_at}
 use Rattle.market_system.specs.Growth.{Growth, PricesOnly}
 use Rattle.market_system.specs.SolvedLaws.{AreRows}
@@ -95,18 +94,18 @@ pub stopped_keeps : {N : Type 0} (s : Stop N) (after : Kept) → after ≡ cold 
 stopped_keeps (stop.Passed p) after none = none
 stopped_keeps stop.Memory after none = none
 
-module _ {N : Type 0} (worth : N → Fraction) (bound : ℕ) (m : Parts) (alone : m.reserve ≡ no_reserve) (before after : List Row) (are : AreRows m before) where
+module _ {N : Type 0} (worth : N → Fraction) (bound : ℕ) (m : Parts) (before after : List Row) (are : AreRows m before) where
   pub stopped_clear : (s : Stop N) → after ≡ [] → StopsInRange worth bound m before s → ClearComesTo worth bound m before (Err (fault_of s)) after
-  stopped_clear (stop.Passed p) none range = record { rows = are; right = range; taken = none; priced = tt; energy_alone = alone }
+  stopped_clear (stop.Passed p) none range = record { rows = are; right = range; taken = none; priced = tt }
   stopped_clear stop.Memory none range = tt
 
   module _ (e : Ended N) (ended : IsEnded worth m e) (grown : Growth m before (limits_of e.taken.takings)) (same : after ≡ limits_of e.taken.takings) where
     pub answered_clear : (a : Answer N) → e.answer ≡ Ok a → ClearComesTo worth bound m before (Ok a) after
     answered_clear a is =
         let end : IsEnd worth m (limits_of e.taken.takings) (Ok a) = subst (λ (r : Result (Answer N) (Farkas N)). IsEnd worth m (limits_of e.taken.takings) r) is ended.end in
-        record { rows = are; right = end.1; taken = subst (Growth m before) (sym same) grown; priced = subst (λ g. PricesOnly m g (duals_at worth a.duals)) (sym same) end.2; energy_alone = alone }
+        record { rows = are; right = end.1; taken = subst (Growth m before) (sym same) grown; priced = subst (λ g. PricesOnly m g (duals_at worth a.duals)) (sym same) end.2 }
 
     pub infeasible_clear : (f : Farkas N) → e.answer ≡ Err f → ClearComesTo worth bound m before (Err (why.Infeasible f)) after
     infeasible_clear f is =
         let end : IsEnd worth m (limits_of e.taken.takings) (Err f) = subst (λ (r : Result (Answer N) (Farkas N)). IsEnd worth m (limits_of e.taken.takings) r) is ended.end in
-        record { rows = are; right = end.0; taken = subst (Growth m before) (sym same) grown; priced = subst (λ g. PricesOnly m g (duals_at worth f.duals)) (sym same) end.1; energy_alone = alone }
+        record { rows = are; right = end.0; taken = subst (Growth m before) (sym same) grown; priced = subst (λ g. PricesOnly m g (duals_at worth f.duals)) (sym same) end.1 }

@@ -133,10 +133,9 @@ impl<N: Exact> Clearer<N> {
     /// feasible, or two numbers that together are too large. Each round takes a limit or a room that is new, so it ends. After an answer
     /// and after `Infeasible` the dictionary with what is taken is kept; after `Range` and `Memory` nothing is, so that the next clear
     /// starts without limits. A clearer that keeps nothing fits every market; what is kept has to be of the market's frame, and edits
-    /// keep it so (`laws::start_is_of_the_frame`). No market with reserve is cleared yet.
+    /// keep it so (`laws::start_is_of_the_frame`).
     pub fn clear(&mut self, alloc: Global, market: &Market) -> Result<Answer<N>, ClearFault<N>>
         requires frame { FitsFrame market.now self.old }
-        requires energy_alone { market.now.reserve.listed ≡ false }
         ensures fits { IfOk result (FitsMarket market.now) }
         ensures clear { ClearComesTo N.value N.bound market.now self.old.taken.rows result self.new.taken.rows }
         ensures frame { FitsFrame market.now self.new }

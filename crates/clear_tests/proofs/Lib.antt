@@ -1,1 +1,2 @@
+pub mod ReserveMarkets
 pub mod WorkedMarkets

@@ -1,7 +1,7 @@
 //! Calls that a clear does not make in this form: the prices of duals, the worst limit by its name, and a settlement that makes its
 //! flows. In the market bus prices are 10, 30 and 40, and the rent is all of the surplus.
 
-ghost use Rattle.std.specs.Prelude.{◌≡◌, false, ◌≤ℤ◌, pos, List, [], ◌∷◌, IfOk};
+ghost use Rattle.std.specs.Prelude.{◌≤ℤ◌, pos, List, [], ◌∷◌, IfOk};
 ghost use Rattle.limit_screen.specs.Screening.{AreNamesOf};
 ghost use Rattle.market_model.specs.Fitting.{FitsMarket};
 ghost use Rattle.market_model.specs.RightAnswers.{IsRight};
@@ -52,7 +52,6 @@ fn is_settled<N: Exact>(money: &Money<N>) -> bool {
 
 /// The answer of a market.
 fn answer_of<N: Exact>(alloc: Global, market: &Market) -> Result<Answer<N>, ClearFault<N>>
-    requires energy_alone { market.now.reserve.listed ≡ false }
     ensures fits { IfOk result (FitsMarket market.now) }
     ensures right { IfOk result (λ answer. IsRight market.now (answer_at N.value answer)) }
 {
@@ -165,9 +164,7 @@ fn worst_by_excess<N: Exact + Debug>(alloc: Global) -> Result<bool, Fail> {
 }
 
 /// Whether the limit of 45 after the outage is taken alone.
-fn takes_alone<N: Exact + Debug>(alloc: Global, market: &Market) -> Result<bool, Fail>
-    requires energy_alone { market.now.reserve.listed ≡ false }
-{
+fn takes_alone<N: Exact + Debug>(alloc: Global, market: &Market) -> Result<bool, Fail> {
     let mut clearer: Clearer<N> = Clearer::new(market);
     let answer = clearer.clear(alloc, market)?;
     Ok(has_taken(&clearer, 1) && is_answer(&answer, &[45, 15], &[0, 20, 20], &[10, 30, 30]))

@@ -6,4 +6,6 @@ mod calls;
 #[cfg(test)]
 mod replays;
 #[cfg(test)]
+mod reserves;
+#[cfg(test)]
 mod worked;

@@ -2,7 +2,7 @@
 //! branch 2 with a limit of 40 in the base and one after the loss of branch 1, all of whose flow goes over to it, that is far off. The
 //! limit in the base may give way.
 
-ghost use Rattle.std.specs.Prelude.{◌≡◌, false, pos, List, [], ◌∷◌, None, Some, IfOk};
+ghost use Rattle.std.specs.Prelude.{◌≡◌, pos, List, [], ◌∷◌, None, Some, IfOk};
 ghost use Rattle.limit_screen.specs.Screening.{AreNamesOf};
 ghost use Rattle.market_model.specs.Lines.{hard_line, IsPenalty};
 ghost use Rattle.market_model.specs.declared.limits.Row.{Row};
@@ -122,7 +122,7 @@ const LOSS: [Factor; 1] = [Factor {
 }];
 
 /// A list of these.
-fn listed<T: Copy>(alloc: Global, items: &[T]) -> Result<List<T>, Memory>
+pub(crate) fn listed<T: Copy>(alloc: Global, items: &[T]) -> Result<List<T>, Memory>
     ensures { IfOk result (λ list. list ≡ items.now) }
 {
     let mut list = List::new(alloc);
@@ -167,8 +167,7 @@ fn participants(alloc: Global) -> Result<Parts, Memory>
 /// The market with these branches.
 pub(crate) fn soft(alloc: Global, price: i64, excess: i64) -> Result<Market, Memory>
     requires { IsPenalty price excess }
-    ensures named { IfOk result (λ market. (g : List Row) × AreNamesOf market g (record { branch = 2; outage = 0; unit = 0 } ∷ [])) }
-    ensures energy_alone { IfOk result (λ market. market.reserve.listed ≡ false) }
+    ensures { IfOk result (λ market. (g : List Row) × AreNamesOf market g (record { branch = 2; outage = 0; unit = 0 } ∷ [])) }
 {
     let mut parts = participants(alloc)?;
     parts.lines = lines(alloc, price, excess)?;
@@ -179,9 +178,7 @@ pub(crate) fn soft(alloc: Global, price: i64, excess: i64) -> Result<Market, Mem
 }
 
 /// The market, whose limits are hard.
-pub(crate) fn limited(alloc: Global) -> Result<Market, Memory>
-    ensures energy_alone { IfOk result (λ market. market.reserve.listed ≡ false) }
-{
+pub(crate) fn limited(alloc: Global) -> Result<Market, Memory> {
     soft(alloc, 0, 0)
 }
 

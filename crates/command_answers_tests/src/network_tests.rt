@@ -150,40 +150,31 @@ energy 1
 limit 6 base up 0 down 2:9774/120113
 ";
 
-fn tables(ptdf: &[u8]) -> MarketTables<&[u8]> {
+#[test]
+fn clears_five_buses(rt: HostRuntime) -> Result<(), Fail> {
+    let alloc = rt.alloc();
     let grid = GridTables {
         case: CASE,
-        ptdf,
+        ptdf: PTDF,
         lodf: b"branch,outage,factor\n".as_slice(),
         contingencies: b"branch\n".as_slice(),
     };
-    MarketTables {
+    let bytes = MarketTables {
         grid,
         unit_outages: b"unit,taker,share\n".as_slice(),
         offers: OFFERS,
+        reserves: b"kind,unit,mw,price\n".as_slice(),
         offsets: b"branch,mw\n".as_slice(),
         penalties: b"branch,limit,price,excess\n".as_slice(),
-    }
-}
-
-#[test]
-fn clears_five_buses(rt: HostRuntime) -> Result<(), Fail> {
-    let told = clear_told(rt.alloc(), &tables(PTDF), PostRating::C, FactorPlaces::Six)?;
-    assert_eq!(rt; told.status, Status::Done);
-    assert_eq!(rt; told.text.as_slice(), REPORT);
-    Ok(())
-}
-
-#[test]
-fn replays_five_buses(rt: HostRuntime) -> Result<(), Fail> {
-    for (edits, status, text) in [
-        (EDITS, Status::Done, REPLAY),
-        (NARROW, Status::Infeasible, INFEASIBLE),
-    ] {
-        let bytes = tables(PTDF);
-        let told = replay_told(rt.alloc(), &bytes, PostRating::C, FactorPlaces::Six, edits)?;
-        assert_eq!(rt; told.status, status);
-        assert_eq!(rt; told.text.as_slice(), text);
-    }
+    };
+    let cleared = clear_told(alloc, &bytes, PostRating::C, FactorPlaces::Six)?;
+    assert_eq!(rt; cleared.status, Status::Done);
+    assert_eq!(rt; cleared.text.as_slice(), REPORT);
+    let replayed = replay_told(alloc, &bytes, PostRating::C, FactorPlaces::Six, EDITS)?;
+    assert_eq!(rt; replayed.status, Status::Done);
+    assert_eq!(rt; replayed.text.as_slice(), REPLAY);
+    let narrowed = replay_told(alloc, &bytes, PostRating::C, FactorPlaces::Six, NARROW)?;
+    assert_eq!(rt; narrowed.status, Status::Infeasible);
+    assert_eq!(rt; narrowed.text.as_slice(), INFEASIBLE);
     Ok(())
 }

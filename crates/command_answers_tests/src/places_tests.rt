@@ -68,6 +68,7 @@ fn tables(ptdf: &[u8]) -> MarketTables<&[u8]> {
         grid: grid(ptdf),
         unit_outages: b"unit,taker,share\n".as_slice(),
         offers: b"unit,side,mw,price\n1,sell,100,10\n2,sell,100,30\n".as_slice(),
+        reserves: b"kind,unit,mw,price\n".as_slice(),
         offsets: b"branch,mw\n".as_slice(),
         penalties: b"branch,limit,price,excess\n".as_slice(),
     }

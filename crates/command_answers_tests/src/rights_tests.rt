@@ -169,6 +169,7 @@ fn tables(case: &[u8]) -> MarketTables<&[u8]> {
         grid,
         unit_outages: b"unit,taker,share\n".as_slice(),
         offers: OFFERS,
+        reserves: b"kind,unit,mw,price\n".as_slice(),
         offsets: b"branch,mw\n2,10\n".as_slice(),
         penalties: b"branch,limit,price,excess\n".as_slice(),
     }

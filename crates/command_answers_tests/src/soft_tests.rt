@@ -94,6 +94,7 @@ fn tables<'a>(case: &'a [u8], penalties: &'a [u8]) -> MarketTables<&'a [u8]> {
         grid,
         unit_outages: b"unit,taker,share\n".as_slice(),
         offers: OFFERS,
+        reserves: b"kind,unit,mw,price\n".as_slice(),
         offsets: b"branch,mw\n".as_slice(),
         penalties,
     }

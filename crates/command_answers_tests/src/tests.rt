@@ -37,83 +37,59 @@ const OFFERS: &[u8] = b"unit,side,mw,price\n1,sell,100,10\n2,sell,100,30\n";
 const CERTIFICATE: &[u8] =
     b"{\"blocks\":[\"50000000000/1\",\"10000000000/1\"],\"energy\":\"10000000/1\",\"kind\":\"optimal\",\"limits\":[{\"branch\":2,\"down\":\"0/1\",\"outage\":0,\"up\":\"40000000/1\"}],\"places\":6,\"version\":2}";
 
-const EDITS: &[u8] = b"op,target,side,block,value\nclear,,,,\n";
-
 /// Compares a status, and how the text begins.
 fn expect<R: Abort>(rt: &R, told: &Told, status: Status, start: &[u8]) {
     assert_eq!(rt; told.status, status);
     assert!(rt; told.text.starts_with(start));
 }
 
-/// The case with a table of shift factors.
-fn grid(ptdf: &[u8]) -> GridTables<&[u8]> {
-    GridTables {
+#[test]
+fn tells_of_each_command(rt: HostRuntime) -> Result<(), Fail> {
+    let alloc = rt.alloc();
+    let grid = GridTables {
         case: CASE,
-        ptdf,
+        ptdf: PTDF,
         lodf: b"branch,outage,factor\n".as_slice(),
         contingencies: b"branch\n".as_slice(),
-    }
-}
-
-fn tables(ptdf: &[u8]) -> MarketTables<&[u8]> {
-    MarketTables {
-        grid: grid(ptdf),
+    };
+    let bytes = MarketTables {
+        grid,
         unit_outages: b"unit,taker,share\n".as_slice(),
         offers: OFFERS,
+        reserves: b"kind,unit,mw,price\n".as_slice(),
         offsets: b"branch,mw\n".as_slice(),
         penalties: b"branch,limit,price,excess\n".as_slice(),
-    }
-}
-
-#[test]
-fn tells_of_a_pool(rt: HostRuntime) -> Result<(), Fail> {
-    let told = pool_told(rt.alloc(), CASE, OFFERS)?;
-    expect(&rt, &told, Status::Done, b"cleared\nwelfare -600\n");
-    Ok(())
-}
-
-#[test]
-fn tells_of_a_clear(rt: HostRuntime) -> Result<(), Fail> {
-    let told = clear_told(rt.alloc(), &tables(PTDF), PostRating::C, FactorPlaces::Six)?;
-    expect(&rt, &told, Status::Done, b"cleared\nwelfare -800\n");
-    assert!(rt; told.outputs.certificate.is_some());
-    Ok(())
-}
-
-#[test]
-fn tells_of_a_replay(rt: HostRuntime) -> Result<(), Fail> {
-    let bytes = tables(PTDF);
-    let told = replay_told(rt.alloc(), &bytes, PostRating::C, FactorPlaces::Six, EDITS)?;
-    expect(&rt, &told, Status::Done, b"step 1 clear\ncleared\n");
-    Ok(())
-}
-
-#[test]
-fn tells_of_a_verification(rt: HostRuntime) -> Result<(), Fail> {
-    let bytes = tables(PTDF);
-    let told = verify_told(
-        rt.alloc(),
+    };
+    let edits = b"op,target,side,block,value\nclear,,,,\n";
+    let done = Status::Done;
+    let pooled = pool_told(alloc, CASE, OFFERS)?;
+    expect(&rt, &pooled, done, b"cleared\nwelfare -600\n");
+    let cleared = clear_told(alloc, &bytes, PostRating::C, FactorPlaces::Six)?;
+    expect(&rt, &cleared, done, b"cleared\nwelfare -800\n");
+    assert!(rt; cleared.outputs.certificate.is_some());
+    let replayed = replay_told(alloc, &bytes, PostRating::C, FactorPlaces::Six, edits)?;
+    expect(&rt, &replayed, done, b"step 1 clear\ncleared\n");
+    let verified = verify_told(
+        alloc,
         &bytes,
         PostRating::C,
         FactorPlaces::Six,
-        EDITS,
+        edits,
         CERTIFICATE,
     )?;
-    expect(&rt, &told, Status::Done, b"yes\n");
-    Ok(())
-}
-
-#[test]
-fn tells_of_a_check(rt: HostRuntime) -> Result<(), Fail> {
-    let told = check_told(rt.alloc(), &grid(PTDF), FactorPlaces::Six)?;
-    expect(&rt, &told, Status::Done, b"bus most 0 ");
-    Ok(())
-}
-
-#[test]
-fn tells_of_a_ring(rt: HostRuntime) -> Result<(), Fail> {
-    let told = make_told(rt.alloc(), 4, 7)?;
-    let start = b"ring 4 seed 7 buses 4 blocks 8 limits 16\n";
-    expect(&rt, &told, Status::Done, start);
+    expect(&rt, &verified, done, b"yes\n");
+    expect(
+        &rt,
+        &check_told(alloc, &grid, FactorPlaces::Six)?,
+        done,
+        b"bus most 0 ",
+    );
+    let made = make_told(alloc, 4, 7)?;
+    expect(
+        &rt,
+        &made,
+        done,
+        b"ring 4 seed 7 buses 4 blocks 8 limits 16\n",
+    );
     Ok(())
 }

@@ -120,36 +120,25 @@ struct Texts {
     penalties: String,
 }
 
-/// The case with these rows of units, and with RATE_C of each branch.
-fn case(alloc: Global, units: &str, limits: [u32; 3]) -> Result<String, Fail> {
-    let [first, second, third] = limits;
-    Ok(format!(in alloc;
-        "{BUSES}{units}];\nmpc.branch = [\n1 2 0 0.2 0 0 0 {first} 0 0 1 -360 360;\n1 3 0 0.1 0 0 0 {second} 0 0 1 -360 360;\n2 3 0 0.1 0 0 0 {third} 0 0 1 -360 360;\n];\n"
-    )?)
-}
-
 impl Texts {
     fn new(alloc: Global, example: &Example) -> Result<Texts, Fail> {
         let Example {
             units,
-            limits,
+            limits: [first, second, third],
             outages,
             lost,
             offers,
             penalties,
         } = *example;
-        let mut texts = Texts {
-            case: case(alloc, units, limits)?,
-            outages: String::new(alloc),
-            lost: String::new(alloc),
-            offers: String::new(alloc),
-            penalties: String::new(alloc),
-        };
-        texts.outages = format!(in alloc; "branch\n{outages}")?;
-        texts.lost = format!(in alloc; "unit,taker,share\n{lost}")?;
-        texts.offers = format!(in alloc; "unit,side,mw,price\n{offers}")?;
-        texts.penalties = format!(in alloc; "branch,limit,price,excess\n{penalties}")?;
-        Ok(texts)
+        Ok(Texts {
+            case: format!(in alloc;
+                "{BUSES}{units}];\nmpc.branch = [\n1 2 0 0.2 0 0 0 {first} 0 0 1 -360 360;\n1 3 0 0.1 0 0 0 {second} 0 0 1 -360 360;\n2 3 0 0.1 0 0 0 {third} 0 0 1 -360 360;\n];\n"
+            )?,
+            outages: format!(in alloc; "branch\n{outages}")?,
+            lost: format!(in alloc; "unit,taker,share\n{lost}")?,
+            offers: format!(in alloc; "unit,side,mw,price\n{offers}")?,
+            penalties: format!(in alloc; "branch,limit,price,excess\n{penalties}")?,
+        })
     }
 
     fn tables(&self) -> MarketTables<&[u8]> {
@@ -163,6 +152,7 @@ impl Texts {
             grid,
             unit_outages: self.lost.as_bytes(),
             offers: self.offers.as_bytes(),
+            reserves: b"kind,unit,mw,price\n".as_slice(),
             offsets: b"branch,mw\n".as_slice(),
             penalties: self.penalties.as_bytes(),
         }
@@ -219,23 +209,17 @@ fn clears_with_outages_of_units(rt: HostRuntime) -> Result<(), Fail> {
         (both, BOTH),
     ] {
         let texts = Texts::new(rt.alloc(), &example)?;
-        clears(&rt, &texts, text)?;
-    }
-    Ok(())
-}
-
-/// Compares what a clear tells, and verifies its certificate.
-fn clears<R: Abort + AllocGlobal>(rt: &R, texts: &Texts, text: &str) -> Result<(), Fail> {
-    let told = clear_told(
-        rt.alloc(),
-        &texts.tables(),
-        PostRating::C,
-        FactorPlaces::Six,
-    )?;
-    assert!(rt; tells(&told, Status::Done, text));
-    assert!(rt; told.outputs.certificate.is_some());
-    if let Some(certificate) = &told.outputs.certificate {
-        verifies(rt, texts, certificate.as_slice(), Status::Done, "yes\n")?;
+        let told = clear_told(
+            rt.alloc(),
+            &texts.tables(),
+            PostRating::C,
+            FactorPlaces::Six,
+        )?;
+        assert!(rt; tells(&told, Status::Done, text));
+        assert!(rt; told.outputs.certificate.is_some());
+        if let Some(certificate) = &told.outputs.certificate {
+            verifies(&rt, &texts, certificate.as_slice(), Status::Done, "yes\n")?;
+        }
     }
     Ok(())
 }
@@ -262,7 +246,7 @@ fn verifies<R: Abort + AllocGlobal>(
 }
 
 #[test]
-fn verifies_with_outages_of_units(rt: HostRuntime) -> Result<(), Fail> {
+fn refuses_with_outages_of_units(rt: HostRuntime) -> Result<(), Fail> {
     let texts = Texts::new(rt.alloc(), &WORKED)?;
     verifies(&rt, &texts, AT_ITS_BUS, Status::Refuted, "no Support 1\n")?;
     verifies(
@@ -271,53 +255,35 @@ fn verifies_with_outages_of_units(rt: HostRuntime) -> Result<(), Fail> {
         ALL_OF_ONE,
         Status::Refuted,
         "no Limit branch 3 outage 0 unit 1\n",
-    )
-}
-
-/// Compares what a replay tells.
-fn replays<R: Abort + AllocGlobal>(
-    rt: &R,
-    texts: &Texts,
-    edits: &[u8],
-    text: &str,
-) -> Result<(), Fail> {
-    let told = replay_told(
+    )?;
+    let edits = b"op,target,side,block,value\nprice,2,sell,1,31\nquantity,1,sell,1,30\nclear,,,,\n";
+    let replayed = replay_told(
         rt.alloc(),
         &texts.tables(),
         PostRating::C,
         FactorPlaces::Six,
         edits,
     )?;
-    assert!(rt; tells(&told, Status::Done, text));
-    Ok(())
-}
-
-#[test]
-fn replays_with_outages_of_units(rt: HostRuntime) -> Result<(), Fail> {
-    let texts = Texts::new(rt.alloc(), &WORKED)?;
-    let edits = b"op,target,side,block,value\nprice,2,sell,1,31\nquantity,1,sell,1,30\nclear,,,,\n";
-    replays(&rt, &texts, edits, FEWER)
-}
-
-/// Compares what a clear tells that refuses a file.
-fn refuses<R: Abort + AllocGlobal>(rt: &R, texts: &Texts, text: &str) -> Result<(), Fail> {
+    assert!(rt; tells(&replayed, Status::Done, FEWER));
+    let short = Texts::new(
+        rt.alloc(),
+        &Example {
+            lost: "1,2,0.5\n1,3,0.4\n",
+            ..WORKED
+        },
+    )?;
     let told = clear_told(
         rt.alloc(),
-        &texts.tables(),
+        &short.tables(),
         PostRating::C,
         FactorPlaces::Six,
     )?;
-    assert!(rt; tells(&told, Status::Refused, text));
+    assert!(rt;
+        tells(
+            &told,
+            Status::Refused,
+            "refused unit-outages ShareSum unit 1 sum 0.9\n"
+        )
+    );
     Ok(())
-}
-
-#[test]
-fn refuses_shares_below_one(rt: HostRuntime) -> Result<(), Fail> {
-    let short = Example {
-        lost: "1,2,0.5\n1,3,0.4\n",
-        ..WORKED
-    };
-    let texts = Texts::new(rt.alloc(), &short)?;
-    let text = "refused unit-outages ShareSum unit 1 sum 0.9\n";
-    refuses(&rt, &texts, text)
 }

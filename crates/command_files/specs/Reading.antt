@@ -11,6 +11,7 @@ use Rattle.factor_tables.specs.Tables.{loss_header}
 use Rattle.market_tables.specs.Tables.{EachOf, EachOfGrid, GridTexts, MarketTexts}
 use Rattle.market_tables.specs.declared.GridTables.{GridTables}
 use Rattle.market_tables.specs.declared.MarketTables.{MarketTables}
+use Rattle.offer_book.specs.Reserving.{reserve_header}
 use Rattle.outage_list.specs.UnitListing.{unit_outage_header}
 use Rattle.record_reading.specs.Records.{Record}
 
@@ -40,6 +41,7 @@ table_sources names = record {
   grid = grid_sources names.tables.grid;
   unit_outages = source_of unit_outage_header names.tables.unit_outages;
   offers = in_file names.tables.offers;
+  reserves = source_of reserve_header names.tables.reserves;
   offsets = source_of offset_header names.tables.offsets;
   penalties = source_of penalty_header names.tables.penalties;
 }

@@ -15,6 +15,7 @@ use csv_table::header_line;
 use factor_tables::{LOSS_HEADER, OFFSET_HEADER, OUTAGE_HEADER, PENALTY_HEADER};
 use market_inputs::MOST_BYTES;
 use market_tables::{GridTables, MarketTables};
+use offer_book::RESERVE_HEADER;
 use outage_list::UNIT_OUTAGE_HEADER;
 use outside_store::{ReadStop, Store};
 use std::alloc::Global;
@@ -89,12 +90,14 @@ pub fn read_market<S: Store>(
     let grid = read_grid(alloc, &files.tables.grid, store)?;
     let unit_outages = read_table(alloc, store, files.tables.unit_outages, UNIT_OUTAGE_HEADER)?;
     let offers = read_file(alloc, store, files.tables.offers)?;
+    let reserves = read_table(alloc, store, files.tables.reserves, RESERVE_HEADER)?;
     let offsets = read_table(alloc, store, files.tables.offsets, OFFSET_HEADER)?;
     let penalties = read_table(alloc, store, files.tables.penalties, PENALTY_HEADER)?;
     Ok(MarketTables {
         grid,
         unit_outages,
         offers,
+        reserves,
         offsets,
         penalties,
     })

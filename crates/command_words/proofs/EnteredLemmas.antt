@@ -116,7 +116,7 @@ places_rule = filled (choice_rule (codes "factor-places") (spelled place_words))
 
 abbrev market_rules : List Rule → List Rule
 market_rules more = file (codes "case") ∷ file (codes "ptdf") ∷ file (codes "offers") ∷ table (codes "lodf") ∷ table (codes "contingencies")
-    ∷ table (codes "unit-outages") ∷ table (codes "offsets") ∷ table (codes "penalties")
+    ∷ table (codes "unit-outages") ∷ table (codes "reserves") ∷ table (codes "offsets") ∷ table (codes "penalties")
     ∷ filled (choice_rule (codes "post-rating") (spelled rating_words)) ∷ places_rule ∷ more
 
 abbrev clear_rules : List Rule
@@ -180,7 +180,7 @@ make-has = refl
 
 market-ones : (more : List Rule) → Each TakesOne more → Each TakesOne (market_rules more)
 market-ones more ones =
-    (one-value, (one-value, (one-value, (one-value, (one-value, (one-value, (one-value, (one-value, (one-value, (one-value, ones))))))))))
+    (one-value, (one-value, (one-value, (one-value, (one-value, (one-value, (one-value, (one-value, (one-value, (one-value, (one-value, ones)))))))))))
 
 check-ones : Each TakesOne check_rules
 check-ones = (one-value, (one-value, (one-value, (one-value, (one-value, (one-help, tt))))))
@@ -200,7 +200,7 @@ pool-given words rows enters =
 
 -- an option that comes behind those of a market
 behind-market : (name : Text) (more : List Rule) → Among (λ b. b ≡ file name) more → Among (λ b. b ≡ file name) (market_rules more)
-behind-market name more among = inr (inr (inr (inr (inr (inr (inr (inr (inr (inr among)))))))))
+behind-market name more among = inr (inr (inr (inr (inr (inr (inr (inr (inr (inr (inr among))))))))))
 
 pub clear-given : (words : List Text) (rows : List Row) → Enters words (codes "clear") rows → AreGiven (codes "case" ∷ codes "ptdf" ∷ codes "offers" ∷ []) rows
 clear-given words rows enters =

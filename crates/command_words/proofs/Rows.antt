@@ -12,7 +12,7 @@ abbrev least : List Text
 least = codes "sced" ∷ codes "clear" ∷ codes "--case" ∷ codes "n.m" ∷ codes "--ptdf" ∷ codes "p" ∷ codes "--offers=o" ∷ []
 
 abbrev by_b : List Text
-by_b = least ++ codes "--lodf" ∷ codes "l" ∷ codes "--contingencies" ∷ codes "k" ∷ codes "--unit-outages" ∷ codes "u" ∷ codes "--offsets" ∷ codes "s" ∷ codes "--penalties" ∷ codes "w" ∷ codes "--post-rating" ∷ codes "b" ∷ codes "--factor-places" ∷ codes "9" ∷ []
+by_b = least ++ codes "--lodf" ∷ codes "l" ∷ codes "--contingencies" ∷ codes "k" ∷ codes "--unit-outages" ∷ codes "u" ∷ codes "--reserves" ∷ codes "v" ∷ codes "--offsets" ∷ codes "s" ∷ codes "--penalties" ∷ codes "w" ∷ codes "--post-rating" ∷ codes "b" ∷ codes "--factor-places" ∷ codes "9" ∷ []
 
 abbrev by_d : List Text
 by_d = least ++ codes "--post-rating" ∷ codes "d" ∷ []
@@ -56,7 +56,7 @@ least-taken = refl
 
 least-named : named_by least
     ≡ Some (record {
-      tables = record { grid = record { case = codes "n.m"; ptdf = codes "p"; lodf = None; contingencies = None }; unit_outages = None; offers = codes "o"; offsets = None; penalties = None };
+      tables = record { grid = record { case = codes "n.m"; ptdf = codes "p"; lodf = None; contingencies = None }; unit_outages = None; offers = codes "o"; reserves = None; offsets = None; penalties = None };
       rating = post.C;
       places = factor_places.Six;
     })
@@ -69,7 +69,7 @@ by_b-taken = refl
 
 by_b-named : named_by by_b
     ≡ Some (record {
-      tables = record { grid = record { case = codes "n.m"; ptdf = codes "p"; lodf = Some (codes "l"); contingencies = Some (codes "k") }; unit_outages = Some (codes "u"); offers = codes "o"; offsets = Some (codes "s"); penalties = Some (codes "w") };
+      tables = record { grid = record { case = codes "n.m"; ptdf = codes "p"; lodf = Some (codes "l"); contingencies = Some (codes "k") }; unit_outages = Some (codes "u"); offers = codes "o"; reserves = Some (codes "v"); offsets = Some (codes "s"); penalties = Some (codes "w") };
       rating = post.B;
       places = factor_places.Nine;
     })

@@ -69,9 +69,9 @@ pool_app = with_file (with_file (new_app (codes "pool")) (codes "case")) (codes 
 abbrev pub with_needed : App → App
 with_needed a = with_file (with_file (with_file a (codes "case")) (codes "ptdf")) (codes "offers")
 
--- and where they are named `--lodf FILE`, `--contingencies FILE`, `--unit-outages FILE`, `--offsets FILE` and `--penalties FILE`
+-- and where they are named `--lodf FILE`, `--contingencies FILE`, `--unit-outages FILE`, `--reserves FILE`, `--offsets FILE` and `--penalties FILE`
 abbrev pub with_tables : App → App
-with_tables a = with_table (with_table (with_table (with_table (with_table a (codes "lodf")) (codes "contingencies")) (codes "unit-outages")) (codes "offsets")) (codes "penalties")
+with_tables a = with_table (with_table (with_table (with_table (with_table (with_table a (codes "lodf")) (codes "contingencies")) (codes "unit-outages")) (codes "reserves")) (codes "offsets")) (codes "penalties")
 
 -- and where it is there `--factor-places NUMBER`
 abbrev pub with_places : App → NameList → App
@@ -208,6 +208,7 @@ market_names rows = record {
     grid = grid_names rows;
     unit_outages = first_of (codes "unit-outages") rows;
     offers = file_of (codes "offers") rows;
+    reserves = first_of (codes "reserves") rows;
     offsets = first_of (codes "offsets") rows;
     penalties = first_of (codes "penalties") rows;
   };
@@ -317,7 +318,7 @@ IsCheckFile names file = IsGridFile names.tables file
 -- this is a file of the market of these names
 abbrev pub IsMarketFile : MarketNames → Text → Type 0
 IsMarketFile names file = IsGridFile names.tables.grid file ⊎ (names.tables.unit_outages ≡ Some file) ⊎ (file ≡ names.tables.offers)
-    ⊎ (names.tables.offsets ≡ Some file) ⊎ (names.tables.penalties ≡ Some file)
+    ⊎ (names.tables.reserves ≡ Some file) ⊎ (names.tables.offsets ≡ Some file) ⊎ (names.tables.penalties ≡ Some file)
 
 -- `replay` reads this file, of those of the market and the edits
 abbrev pub IsReplayFile : MarketNames → Text → Text → Type 0

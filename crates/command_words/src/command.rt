@@ -13,6 +13,8 @@ const CASE: &str = "The network: a case in the form of MATPOWER";
 
 const OFFERS: &str = "The table of what the units offer and bid";
 
+const RESERVES: &str = "The table of what the units offer of spinning reserve, and of the need";
+
 const PTDF: &str = "The table of shift factors";
 
 const LODF: &str = "The table of outage factors";
@@ -170,6 +172,7 @@ fn with_market<'a>(
     let command = with_table(alloc, command, "lodf", LODF)?;
     let command = with_table(alloc, command, "contingencies", CONTINGENCIES)?;
     let command = with_table(alloc, command, "unit-outages", UNIT_OUTAGES)?;
+    let command = with_table(alloc, command, "reserves", RESERVES)?;
     let command = with_table(alloc, command, "offsets", OFFSETS)?;
     let command = with_table(alloc, command, "penalties", PENALTIES)?;
     let command = command.arg(choice_option(alloc, "post-rating", POST_RATING, ratings))?;

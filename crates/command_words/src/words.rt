@@ -198,6 +198,7 @@ fn market_files<'a>(matches: &ArgMatches<'a>) -> MarketNames<'a>
             grid: grid_files(matches),
             unit_outages: named_table(matches, "unit-outages"),
             offers: named_file(matches, "offers"),
+            reserves: named_table(matches, "reserves"),
             offsets: named_table(matches, "offsets"),
             penalties: named_table(matches, "penalties"),
         },

@@ -24,28 +24,28 @@ const TABLE: [(&str, &str); 40] = [
         "Pool(PoolFiles { case: \"n.m\", offers: \"o.csv\" })",
     ),
     (
-        "sced clear --case n.m --ptdf p --offers o --lodf l --contingencies k --unit-outages u --offsets s --penalties w --post-rating b --factor-places 9",
-        "Clear(ClearFiles { market: MarketFiles { tables: MarketTables { grid: GridTables { case: \"n.m\", ptdf: \"p\", lodf: Some(\"l\"), contingencies: Some(\"k\") }, unit_outages: Some(\"u\"), offers: \"o\", offsets: Some(\"s\"), penalties: Some(\"w\") }, rating: B, places: Nine }, certificate: None })",
+        "sced clear --case n.m --ptdf p --offers o --lodf l --contingencies k --unit-outages u --reserves v --offsets s --penalties w --post-rating b --factor-places 9",
+        "Clear(ClearFiles { market: MarketFiles { tables: MarketTables { grid: GridTables { case: \"n.m\", ptdf: \"p\", lodf: Some(\"l\"), contingencies: Some(\"k\") }, unit_outages: Some(\"u\"), offers: \"o\", reserves: Some(\"v\"), offsets: Some(\"s\"), penalties: Some(\"w\") }, rating: B, places: Nine }, certificate: None })",
     ),
     (
         "sced clear --post-rating=a --offers=o --ptdf=p --case=n.m",
-        "Clear(ClearFiles { market: MarketFiles { tables: MarketTables { grid: GridTables { case: \"n.m\", ptdf: \"p\", lodf: None, contingencies: None }, unit_outages: None, offers: \"o\", offsets: None, penalties: None }, rating: A, places: Six }, certificate: None })",
+        "Clear(ClearFiles { market: MarketFiles { tables: MarketTables { grid: GridTables { case: \"n.m\", ptdf: \"p\", lodf: None, contingencies: None }, unit_outages: None, offers: \"o\", reserves: None, offsets: None, penalties: None }, rating: A, places: Six }, certificate: None })",
     ),
     (
         "sced clear --case n.m --ptdf p --offers o --certificate x",
-        "Clear(ClearFiles { market: MarketFiles { tables: MarketTables { grid: GridTables { case: \"n.m\", ptdf: \"p\", lodf: None, contingencies: None }, unit_outages: None, offers: \"o\", offsets: None, penalties: None }, rating: C, places: Six }, certificate: Some(\"x\") })",
+        "Clear(ClearFiles { market: MarketFiles { tables: MarketTables { grid: GridTables { case: \"n.m\", ptdf: \"p\", lodf: None, contingencies: None }, unit_outages: None, offers: \"o\", reserves: None, offsets: None, penalties: None }, rating: C, places: Six }, certificate: Some(\"x\") })",
     ),
     (
         "sced replay --case n.m --ptdf p --offers o --edits e --certificate x --lodf l",
-        "Replay(ReplayFiles { market: MarketFiles { tables: MarketTables { grid: GridTables { case: \"n.m\", ptdf: \"p\", lodf: Some(\"l\"), contingencies: None }, unit_outages: None, offers: \"o\", offsets: None, penalties: None }, rating: C, places: Six }, edits: \"e\", certificate: Some(\"x\") })",
+        "Replay(ReplayFiles { market: MarketFiles { tables: MarketTables { grid: GridTables { case: \"n.m\", ptdf: \"p\", lodf: Some(\"l\"), contingencies: None }, unit_outages: None, offers: \"o\", reserves: None, offsets: None, penalties: None }, rating: C, places: Six }, edits: \"e\", certificate: Some(\"x\") })",
     ),
     (
         "sced verify --case n.m --ptdf p --offers o --certificate x --post-rating b",
-        "Verify(VerifyFiles { market: MarketFiles { tables: MarketTables { grid: GridTables { case: \"n.m\", ptdf: \"p\", lodf: None, contingencies: None }, unit_outages: None, offers: \"o\", offsets: None, penalties: None }, rating: B, places: Six }, edits: None, certificate: \"x\" })",
+        "Verify(VerifyFiles { market: MarketFiles { tables: MarketTables { grid: GridTables { case: \"n.m\", ptdf: \"p\", lodf: None, contingencies: None }, unit_outages: None, offers: \"o\", reserves: None, offsets: None, penalties: None }, rating: B, places: Six }, edits: None, certificate: \"x\" })",
     ),
     (
         "sced verify --case n.m --ptdf p --offers o --certificate x --edits e",
-        "Verify(VerifyFiles { market: MarketFiles { tables: MarketTables { grid: GridTables { case: \"n.m\", ptdf: \"p\", lodf: None, contingencies: None }, unit_outages: None, offers: \"o\", offsets: None, penalties: None }, rating: C, places: Six }, edits: Some(\"e\"), certificate: \"x\" })",
+        "Verify(VerifyFiles { market: MarketFiles { tables: MarketTables { grid: GridTables { case: \"n.m\", ptdf: \"p\", lodf: None, contingencies: None }, unit_outages: None, offers: \"o\", reserves: None, offsets: None, penalties: None }, rating: C, places: Six }, edits: Some(\"e\"), certificate: \"x\" })",
     ),
     (
         "sced check --case n.m --ptdf p --lodf l",
@@ -57,7 +57,7 @@ const TABLE: [(&str, &str); 40] = [
     ),
     (
         "sced rights --case n.m --ptdf p --offers o --rights r",
-        "Rights(RightsFiles { market: MarketFiles { tables: MarketTables { grid: GridTables { case: \"n.m\", ptdf: \"p\", lodf: None, contingencies: None }, unit_outages: None, offers: \"o\", offsets: None, penalties: None }, rating: C, places: Six }, rights: \"r\" })",
+        "Rights(RightsFiles { market: MarketFiles { tables: MarketTables { grid: GridTables { case: \"n.m\", ptdf: \"p\", lodf: None, contingencies: None }, unit_outages: None, offers: \"o\", reserves: None, offsets: None, penalties: None }, rating: C, places: Six }, rights: \"r\" })",
     ),
     (
         "sced migrate --certificate a --out b",

@@ -1,6 +1,6 @@
 //! A market that is edited and cleared.
 
-ghost use Rattle.std.specs.Prelude.{◌≡◌, false, All, List, length, map, IfOk, IfErr};
+ghost use Rattle.std.specs.Prelude.{◌≡◌, All, List, length, map, IfOk, IfErr};
 ghost use Rattle.market_data.specs.Participants.{IsDatum};
 ghost use Rattle.market_model.specs.declared.participants.Parts.{Parts};
 ghost use Rattle.market_model.specs.Fitting.{FitsOutcome};
@@ -22,7 +22,7 @@ use offer_book::{Edit, EditFault, edit};
 use std::alloc::Global;
 use std::marker::Model;
 
-/// A market of energy alone, with what clears of it leave for the next one. Each clear starts from the limits that the one before it took, whatever edits
+/// A market with what clears of it leave for the next one. Each clear starts from the limits that the one before it took, whatever edits
 /// came between.
 #[derive(Drop)]
 pub struct Session<N: Exact> {
@@ -31,7 +31,6 @@ pub struct Session<N: Exact> {
 }
 
 impl<N: Exact> Model for Session<N> {
-    ghost use Rattle.std.specs.Prelude.{◌≡◌, false};
     ghost use Rattle.clear_loop.specs.Keeping.{FitsFrame};
     ghost use Rattle.edit_replay.specs.SessionStates.{SessionState};
 
@@ -39,13 +38,12 @@ impl<N: Exact> Model for Session<N> {
 
     ghost view = { λ s. record { market = s.market; kept = s.clearer } };
 
-    ghost invariant = { λ s. FitsFrame s.market s.clearer × (s.market.reserve.listed ≡ false) };
+    ghost invariant = { λ s. FitsFrame s.market s.clearer };
 }
 
 impl<N: Exact> Session<N> {
     /// Nothing is kept yet, so the first clear starts without limits.
     pub fn new(market: Market) -> Session<N>
-        requires energy_alone { market.reserve.listed ≡ false }
         ensures { result ≡ record { market = market; kept = cold } }
     {
         let clearer = Clearer::new(&market);

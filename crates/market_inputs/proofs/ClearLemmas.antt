@@ -3,11 +3,11 @@ use Rattle.std.proofs.Common.{List, Result, Ok, map}
 use Rattle.case_text.specs.Matrices.{CaseMatrices}
 use Rattle.market_model.specs.declared.participants.Line.{Line}
 use Rattle.market_model.specs.declared.participants.Parts.{Parts}
+use Rattle.market_model.specs.declared.participants.Reserve.{Reserve}
 use Rattle.market_data.specs.declared.scales.FactorPlaces.{FactorPlaces}
 use Rattle.net_case.specs.Networks.{LiveNetwork}
 use Rattle.net_case.specs.declared.live_parts.PostRating.{PostRating}
 use Rattle.factor_tables.specs.Offsets.{OffsetEntry}
-use Rattle.factor_tables.specs.Penalties.{PenaltyEntry}
 use Rattle.outage_list.specs.declared.unit_listing.UnitOutages.{UnitOutages}
 use Rattle.refusal_text.specs.declared.refusals.Refusal.{Refusal}
 use Rattle.market_inputs.specs.declared.covering.Covered.{Covered}
@@ -17,7 +17,7 @@ use Rattle.market_inputs.specs.Cases.{IsJoinedNetwork, IsReadNetwork, matrices_i
 use Rattle.market_inputs.specs.Clearing.{AreCovered, AreCoveredUnits, AreLimitedParts, AreListedLines, AreMarketParts, ArePricedLines, IsClearMarket, limited_of, line_of, market_of, whole_of}
 use Rattle.market_inputs.specs.Files.{SizedTables}
 use Rattle.market_inputs.specs.Steps.{Is, Then}
-use Rattle.market_inputs.specs.Tables.{AreTables, cover_in, offers_in, offsets_in, penalties_in, unit_outages_in}
+use Rattle.market_inputs.specs.Tables.{AreTables, cover_in, offers_in, offsets_in, penalties_in, reserves_in, unit_outages_in}
 use Rattle.market_inputs.proofs.StepLemmas.{then-made, then-map, then-then}
 
 module _ (network : LiveNetwork) (files : SizedTables) (told : Result Parts Refusal) where
@@ -60,26 +60,48 @@ module _ (network : LiveNetwork) (files : SizedTables) (told : Result Parts Refu
         (λ moved. then-made (Is (penalties_in network files.penalties)) (λ priced. map (line_of moved priced) network.branches) R told)
         (then-then (Is (offsets_in network files.offsets)) (λ moved. ArePricedLines network moved files.penalties) R told h)
 
-  -- ---- the offers, and the lines behind them
+  -- ---- the reserve, and the lines behind it
+  module _ (tables : Tables) (offered : Offered) where
+    abbrev lines_behind : Reserve → Result Parts Refusal → Type 0
+    lines_behind reserve = Then (AreListedLines network files.offsets files.penalties) (λ lines. Is (Ok (limited_of network tables offered reserve lines)))
+
+    abbrev reserve_behind : Result Parts Refusal → Type 0
+    reserve_behind = Then (Is (reserves_in network files.reserves)) lines_behind
+
+    module _ (R : Parts → Result Parts Refusal → Type 0) where
+      abbrev reserve_first : Type 0
+      reserve_first = Then (Is (reserves_in network files.reserves)) (λ reserve.
+          Then (Is (offsets_in network files.offsets)) (λ moved.
+          Then (Is (penalties_in network files.penalties)) (λ priced. R (limited_of network tables offered reserve (map (line_of moved priced) network.branches))))) told
+
+      reserve-read : Then reserve_behind R told → reserve_first
+      reserve-read h =
+          then-map _ (λ (reserve : Reserve). Then (lines_behind reserve) R) _ told
+          (λ reserve behind. lines-read (λ lines. R (limited_of network tables offered reserve lines))
+          (then-made (AreListedLines network files.offsets files.penalties) (limited_of network tables offered reserve) R told behind))
+          (then-then (Is (reserves_in network files.reserves)) lines_behind R told h)
+
+  -- ---- the offers, and the reserve behind them
   module _ (tables : Tables) (R : Parts → Result Parts Refusal → Type 0) where
     abbrev offers_first : Type 0
     offers_first = Then (Is (offers_in network files.offers)) (λ offered.
+        Then (Is (reserves_in network files.reserves)) (λ reserve.
         Then (Is (offsets_in network files.offsets)) (λ moved.
-        Then (Is (penalties_in network files.penalties)) (λ priced. R (limited_of network tables offered (map (line_of moved priced) network.branches))))) told
+        Then (Is (penalties_in network files.penalties)) (λ priced. R (limited_of network tables offered reserve (map (line_of moved priced) network.branches)))))) told
 
     offers-read : Then (AreLimitedParts network tables files) R told → offers_first
     offers-read h =
-        then-map _ (λ (offered : Offered). Then (Then (AreListedLines network files.offsets files.penalties) (λ lines. Is (Ok (limited_of network tables offered lines)))) R) _ told
-        (λ offered behind. lines-read (λ lines. R (limited_of network tables offered lines))
-        (then-made (AreListedLines network files.offsets files.penalties) (limited_of network tables offered) R told behind))
-        (then-then (Is (offers_in network files.offers)) (λ offered. Then (AreListedLines network files.offsets files.penalties) (λ lines. Is (Ok (limited_of network tables offered lines)))) R told h)
+        then-map _ (λ (offered : Offered). Then (reserve_behind tables offered) R) _ told
+        (λ offered. reserve-read tables offered R)
+        (then-then (Is (offers_in network files.offers)) (reserve_behind tables) R told h)
 
 -- ---- all files
 module _ (rating : PostRating) (places : FactorPlaces) (files : SizedTables) (told : Result Parts Refusal) where
   abbrev behind_cover : LiveNetwork → Tables → UnitOutages → Result Parts Refusal → Type 0
   behind_cover network tables lost = Then (Is (offers_in network files.offers)) (λ offered.
+      Then (Is (reserves_in network files.reserves)) (λ reserve.
       Then (Is (offsets_in network files.offsets)) (λ moved.
-      Then (Is (penalties_in network files.penalties)) (λ priced. Is (Ok (market_of places network tables lost offered moved priced)))))
+      Then (Is (penalties_in network files.penalties)) (λ priced. Is (Ok (market_of places network tables lost offered reserve moved priced))))))
 
   abbrev behind_units : LiveNetwork → Tables → UnitOutages → Result Parts Refusal → Type 0
   behind_units network tables lost = Then (Is (cover_in network tables lost)) (λ _. behind_cover network tables lost)

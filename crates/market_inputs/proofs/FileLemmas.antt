@@ -48,6 +48,7 @@ alike-tables a b h = λ i. record {
   grid = alike-grid a.grid b.grid h.grid i;
   unit_outages = h.unit_outages (refusal.TooLong input.UnitOutages) i;
   offers = h.offers (refusal.TooLong input.Offers) i;
+  reserves = h.reserves (refusal.TooLong input.Reserves) i;
   offsets = h.offsets (refusal.TooLong input.Offsets) i;
   penalties = h.penalties (refusal.TooLong input.Penalties) i;
 }

@@ -7,4 +7,5 @@ pub mod NetworkRows
 pub mod OnceLemmas
 pub mod OutageNames
 pub mod PlaceLists
+pub mod ReserveLemmas
 pub mod StepLemmas

@@ -11,12 +11,13 @@ use Rattle.market_model.specs.declared.participants.Factor.{Factor}
 use Rattle.market_model.specs.declared.participants.Line.{Line}
 use Rattle.market_model.specs.Lines.{IsPenalty}
 use Rattle.market_model.specs.declared.participants.Parts.{Parts}
+use Rattle.market_model.specs.declared.participants.Reserve.{Reserve}
 use Rattle.market_model.specs.Market.{AreTableFactors, AreUnitOutages, IsLine, IsMarket, IsReserve, bare_parts}
 use Rattle.market_model.proofs.LinePenalties.{no_cost}
-use Rattle.market_model.proofs.PlainMarkets.{is_no_reserve, plain_market, distinct_by_rise}
+use Rattle.market_model.proofs.PlainMarkets.{plain_market, distinct_by_rise}
 use Rattle.market_data.specs.declared.scales.FactorPlaces.{FactorPlaces}
 use Rattle.net_case.specs.Networks.{LiveNetwork, IsNetwork, IsNetBranch, IsLimit}
-use Rattle.net_case.specs.NetworkReading.{unit_within}
+use Rattle.net_case.specs.NetworkReading.{unit_list_of, unit_within}
 use Rattle.net_case.specs.declared.live_parts.NetBranch.{NetBranch}
 use Rattle.net_case.specs.declared.live_parts.NetUnit.{NetUnit}
 use Rattle.net_paths.specs.Detours.{IsLiveRow}
@@ -127,16 +128,22 @@ loss-are loss network small = factors_by-are (λ branch other. factor_at loss (b
 
 -- ---- the market with limits
 -- the lists that are made one after the other are the parts
-pub limited-is : (network : LiveNetwork) (tables : Tables) (offered : Offered) (listed : List Line) (none : List Bus) (bare : Parts) (branches : List NetBranch) (buses : List Bus) (shift loss : List Factor)
+pub limited-is : (network : LiveNetwork) (tables : Tables) (offered : Offered) (reserve : Reserve) (listed : List Line) (none : List Bus) (bare : Parts) (branches : List NetBranch) (buses : List Bus) (shift loss : List Factor)
     → none ≡ [] → bare ≡ bare_parts none offered.units offered.blocks → branches ≡ network.branches → buses ≡ network.buses → shift ≡ shift_by tables.shift.entries branches buses → loss ≡ loss_by tables.loss.entries branches
-    → record bare { lines = listed; shift = shift; loss = loss } ≡ limited_of network tables offered listed
-limited-is network tables offered listed none bare branches buses shift loss none_is bare_is branches_are buses_are shift_is loss_is = rw (bare_is, none_is, shift_is, loss_is, branches_are, buses_are) refl
+    → record bare { reserve = reserve; lines = listed; shift = shift; loss = loss } ≡ limited_of network tables offered reserve listed
+limited-is network tables offered reserve listed none bare branches buses shift loss none_is bare_is branches_are buses_are shift_is loss_is = rw (bare_is, none_is, shift_is, loss_is, branches_are, buses_are) refl
 
 -- parts whose lists are those of a network are as every market has them
-pub limited-are : (network : LiveNetwork) (tables : Tables) (offered : Offered) (listed : List Line) → AreOffered network offered → AreLinesOf network listed
-    → AreSmall (shift_by tables.shift.entries network.branches network.buses) → AreSmall (loss_by tables.loss.entries network.branches) → AreLimited network (limited_of network tables offered listed)
-limited-are network tables offered listed given are small_shift small_loss =
-    record { offered = given; lines = are; shift = shift-are tables.shift.entries network small_shift; loss = loss-are tables.loss.entries network small_loss; reserve = refl }
+pub limited-are : (network : LiveNetwork) (tables : Tables) (offered : Offered) (reserve : Reserve) (listed : List Line) → AreOffered network offered
+    → IsReserve (length (unit_list_of network).units) reserve → AreLinesOf network listed
+    → AreSmall (shift_by tables.shift.entries network.branches network.buses) → AreSmall (loss_by tables.loss.entries network.branches) → AreLimited network (limited_of network tables offered reserve listed)
+limited-are network tables offered reserve listed given kept are small_shift small_loss = record {
+  offered = given;
+  lines = are;
+  shift = shift-are tables.shift.entries network small_shift;
+  loss = loss-are tables.loss.entries network small_loss;
+  reserve = subst (λ (us : List unit.Unit). IsReserve (length us) reserve) (sym given.units_are) kept;
+}
 
 pub whole-market : (places : FactorPlaces) (network : LiveNetwork) (covered : Covered) (limited : Parts) → IsNetwork network → MayBeLost network covered.tables.outages → MayLoseUnits network covered.lost → AreLimited network limited
     → IsMarket (whole_of places network covered limited)
@@ -164,5 +171,5 @@ whole-market places network covered limited net may units given =
       shift = rw count given.shift;
       loss = rw count given.loss;
       unit_outages = lost-units network offered covered.lost given.offered units;
-      reserve = subst (IsReserve (length limited.units)) (sym given.reserve) (is_no_reserve (length limited.units));
+      reserve = given.reserve;
     }

@@ -21,7 +21,7 @@ use Rattle.market_inputs.specs.Clearing.{IsClearMarket, market_of}
 use Rattle.market_inputs.specs.Files.{SizedGrid, SizedTables}
 use Rattle.market_inputs.specs.Pooling.{IsPoolMarket, pool_of}
 use Rattle.market_inputs.specs.Steps.{Is, Onward, Then}
-use Rattle.market_inputs.specs.Tables.{AreListed, AreOutagesIn, AreTables, cover_in, loss_in, numbers_in, offers_in, offsets_in, penalties_in, shift_in, unit_outages_in}
+use Rattle.market_inputs.specs.Tables.{AreListed, AreOutagesIn, AreTables, cover_in, loss_in, numbers_in, offers_in, offsets_in, penalties_in, reserves_in, shift_in, unit_outages_in}
 use Rattle.market_inputs.proofs.ListingOnce.{list-once}
 use Rattle.market_inputs.proofs.NetworkRows.{network-rows}
 
@@ -104,8 +104,9 @@ clear-once rating places files =
     (λ tables _. then-once _ _ (is-once (unit_outages_in network files.unit_outages))
     (λ lost _. then-once _ _ (is-once (cover_in network tables lost))
     (λ _ _. then-once _ _ (is-once (offers_in network files.offers))
-    (λ offered _. then-once _ _ (is-once (offsets_in network files.offsets))
-    (λ moved _. then-once _ _ (is-once (penalties_in network files.penalties)) (λ priced _. is-once (Ok (market_of places network tables lost offered moved priced))))))))))
+    (λ offered _. then-once _ _ (is-once (reserves_in network files.reserves))
+    (λ reserve _. then-once _ _ (is-once (offsets_in network files.offsets))
+    (λ moved _. then-once _ _ (is-once (penalties_in network files.penalties)) (λ priced _. is-once (Ok (market_of places network tables lost offered reserve moved priced)))))))))))
 
 -- ---- what a check works on
 pub inputs-once : (places : FactorPlaces) (files : SizedGrid) → OfOne (AreInputs places files)

@@ -8,8 +8,8 @@ use Rattle.market_data.specs.declared.scales.FactorPlaces.{FactorPlaces}
 use Rattle.market_model.specs.declared.participants.Factor.{Factor}
 use Rattle.market_model.specs.declared.participants.Line.{Line}
 use Rattle.market_model.specs.declared.participants.Parts.{Parts}
-use Rattle.market_model.specs.Market.{AreTableFactors, IsLine, bare_parts}
-use Rattle.market_model.specs.Reserves.{no_reserve}
+use Rattle.market_model.specs.declared.participants.Reserve.{Reserve}
+use Rattle.market_model.specs.Market.{AreTableFactors, IsLine, IsReserve, bare_parts}
 use Rattle.net_case.specs.Networks.{LiveNetwork}
 use Rattle.net_case.specs.declared.live_parts.NetBranch.{NetBranch}
 use Rattle.net_case.specs.declared.live_parts.PostRating.{PostRating}
@@ -25,7 +25,7 @@ use Rattle.market_inputs.specs.declared.tables.Tables.{Tables}
 use Rattle.market_inputs.specs.Cases.{IsJoinedNetwork, matrices_in}
 use Rattle.market_inputs.specs.Files.{SizedTables}
 use Rattle.market_inputs.specs.Steps.{Is, Then}
-use Rattle.market_inputs.specs.Tables.{AreOffered, AreTables, cover_in, offers_in, offsets_in, penalties_in, unit_outages_in}
+use Rattle.market_inputs.specs.Tables.{AreOffered, AreTables, cover_in, offers_in, offsets_in, penalties_in, reserves_in, unit_outages_in}
 use Rattle.market_model.specs.Lines.{IsPenalty}
 
 -- ---- lines
@@ -82,9 +82,9 @@ abbrev pub AreSmall : List Factor → Type 0
 AreSmall factors = All (λ factor. unsigned_abs factor.value ≤ most_factor) factors
 
 -- ---- the market
--- the market of a network with its tables of factors of so many places, its outages of units, its offers, its offsets and its penalties
-abbrev pub market_of : FactorPlaces → LiveNetwork → Tables → UnitOutages → Offered → List OffsetEntry → List PenaltyEntry → Parts
-market_of places network tables lost offered offsets penalties = record (bare_parts network.buses offered.units offered.blocks) {
+-- the market of a network with its tables of factors of so many places, its outages of units, its offers, its reserve, its offsets and its penalties
+abbrev pub market_of : FactorPlaces → LiveNetwork → Tables → UnitOutages → Offered → Reserve → List OffsetEntry → List PenaltyEntry → Parts
+market_of places network tables lost offered reserve offsets penalties = record (bare_parts network.buses offered.units offered.blocks) {
   lines = map (line_of offsets penalties) network.branches;
   outages = tables.outages;
   places = places;
@@ -92,6 +92,7 @@ market_of places network tables lost offered offsets penalties = record (bare_pa
   loss = loss_by tables.loss.entries network.branches;
   unit_outages = lost.lost;
   pickups = lost.pickups;
+  reserve = reserve;
 }
 
 -- ---- what the market is made of
@@ -120,26 +121,28 @@ pub record AreLinesOf (network : LiveNetwork) (lines : List Line) : Type 0 where
   pub each : All IsLine lines
   pub rows : map (λ line. line.row) lines ≡ map (λ branch. branch.row) network.branches
 
--- the parts that have units, blocks and lines with their factors, and no buses and no outages
-abbrev pub limited_of : LiveNetwork → Tables → Offered → List Line → Parts
-limited_of network tables offered lines = record (bare_parts [] offered.units offered.blocks) {
+-- the parts that have units, blocks, reserve, and lines with their factors, and no buses and no outages
+abbrev pub limited_of : LiveNetwork → Tables → Offered → Reserve → List Line → Parts
+limited_of network tables offered reserve lines = record (bare_parts [] offered.units offered.blocks) {
   lines = lines;
   shift = shift_by tables.shift.entries network.branches network.buses;
   loss = loss_by tables.loss.entries network.branches;
+  reserve = reserve;
 }
 
 abbrev pub AreLimitedParts : LiveNetwork → Tables → SizedTables → Result Parts Refusal → Type 0
 AreLimitedParts network tables files told =
     Then (Is (offers_in network files.offers)) (λ offered.
-    Then (AreListedLines network files.offsets files.penalties) (λ lines. Is (Ok (limited_of network tables offered lines)))) told
+    Then (Is (reserves_in network files.reserves)) (λ reserve.
+    Then (AreListedLines network files.offsets files.penalties) (λ lines. Is (Ok (limited_of network tables offered reserve lines))))) told
 
--- units, blocks and lines of a network as every market has them, and no reserve
+-- units, blocks, lines and reserve of a network as every market has them
 pub record AreLimited (network : LiveNetwork) (parts : Parts) : Type 0 where
   pub offered : AreOffered network (record { units = parts.units; blocks = parts.blocks })
   pub lines : AreLinesOf network parts.lines
   pub shift : AreTableFactors (length network.branches) (length network.buses) parts.shift
   pub loss : AreTableFactors (length network.branches) (length network.branches) parts.loss
-  pub reserve : parts.reserve ≡ no_reserve
+  pub reserve : IsReserve (length parts.units) parts.reserve
 
 -- the same parts with the buses of a network and its outages, whose factors have so many places
 abbrev pub whole_of : FactorPlaces → LiveNetwork → Covered → Parts → Parts
@@ -159,7 +162,7 @@ AreMarketParts places files network told =
 
 -- ---- the files of a clear
 -- What the bytes of the files of a clear stand for, or the first fault. The factors may have so many places. The case comes first, then the three tables, the outages of
--- units and what the tables lack for all outages, the offers, the offsets and the penalties.
+-- units and what the tables lack for all outages, the offers, the reserve, the offsets and the penalties.
 abbrev pub IsClearMarket : PostRating → FactorPlaces → SizedTables → Result Parts Refusal → Type 0
 IsClearMarket rating places files told =
     Then (Is (matrices_in files.grid.case)) (λ matrices.
@@ -168,6 +171,7 @@ IsClearMarket rating places files told =
     Then (Is (unit_outages_in network files.unit_outages)) (λ lost.
     Then (Is (cover_in network tables lost)) (λ _.
     Then (Is (offers_in network files.offers)) (λ offered.
+    Then (Is (reserves_in network files.reserves)) (λ reserve.
     Then (Is (offsets_in network files.offsets)) (λ moved.
     Then (Is (penalties_in network files.penalties)) (λ priced.
-    Is (Ok (market_of places network tables lost offered moved priced)))))))))) told
+    Is (Ok (market_of places network tables lost offered reserve moved priced))))))))))) told

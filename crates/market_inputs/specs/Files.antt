@@ -35,6 +35,7 @@ sized_tables texts = record {
   grid = sized_grid texts.grid;
   unit_outages = sized (refusal.TooLong input.UnitOutages) texts.unit_outages;
   offers = sized (refusal.TooLong input.Offers) texts.offers;
+  reserves = sized (refusal.TooLong input.Reserves) texts.reserves;
   offsets = sized (refusal.TooLong input.Offsets) texts.offsets;
   penalties = sized (refusal.TooLong input.Penalties) texts.penalties;
 }

@@ -14,6 +14,8 @@ use Rattle.outage_list.specs.declared.unit_fault.UnitOutageFault.{UnitOutageFaul
 use Rattle.outage_list.specs.declared.unit_fault.UnitOutageFault.TheVariants as unit_outage
 use Rattle.offer_book.specs.declared.offer_table.OfferFault.{OfferFault}
 use Rattle.offer_book.specs.declared.offer_table.OfferFault.TheVariants as offer
+use Rattle.offer_book.specs.declared.reserve_reading.ReserveFault.{ReserveFault}
+use Rattle.offer_book.specs.declared.reserve_reading.ReserveFault.TheVariants as reserve
 use Rattle.rights_test.specs.declared.right_parts.RightsFault.{RightsFault}
 use Rattle.rights_test.specs.declared.right_parts.RightsFault.TheVariants as rights
 use Rattle.edit_table.specs.declared.StepFault.{StepFault}
@@ -60,6 +62,10 @@ unit_outage_stop f = stop.Refused (refusal.UnitOutages f)
 abbrev pub offer_stop : OfferFault → InputStop
 offer_stop offer.Memory = stop.Memory
 offer_stop f = stop.Refused (refusal.Offers f)
+
+abbrev pub reserve_stop : ReserveFault → InputStop
+reserve_stop reserve.Memory = stop.Memory
+reserve_stop f = stop.Refused (refusal.Reserves f)
 
 abbrev pub rights_stop : RightsFault → InputStop
 rights_stop rights.Memory = stop.Memory

@@ -1,10 +1,12 @@
 -- What the bytes of the tables of a network stand for.
-use Rattle.std.specs.Prelude.{◌≡◌, ◌≢◌, ℕ, ◌≤◌, nat_lt, ℤ, List, length, All, Result, Ok, Err}
+use Rattle.std.specs.Prelude.{◌≡◌, ◌≢◌, ℕ, ◌≤◌, nat_lt, ℤ, List, [], length, All, Some, Result, Ok, Err}
+use Rattle.csv_table.specs.Table.{frame_of, table_of}
 use Rattle.record_reading.specs.Steps.{and_then, or_as}
 use Rattle.market_data.specs.Participants.{IsUnit}
 use Rattle.market_data.specs.Scales.{most_outages, most_units}
 use Rattle.market_data.specs.declared.scales.FactorPlaces.{FactorPlaces}
 use Rattle.market_model.specs.Market.{AreUnitOutages, HaveRoom}
+use Rattle.market_model.specs.declared.participants.Reserve.{Reserve}
 use Rattle.net_case.specs.Networks.{LiveNetwork}
 use Rattle.net_case.specs.NetworkReading.{unit_list_of}
 use Rattle.factor_tables.specs.Covering.{cover_of}
@@ -20,6 +22,7 @@ use Rattle.outage_list.specs.UnitListing.{unit_outages_of}
 use Rattle.outage_list.specs.declared.unit_listing.UnitOutages.{UnitOutages}
 use Rattle.offer_book.specs.Offers.{AreBlocks}
 use Rattle.offer_book.specs.OfferTable.{blocks_of_table}
+use Rattle.offer_book.specs.Reserving.{most_reserves, reserve_header, reserve_of_table}
 use Rattle.refusal_text.specs.declared.refusals.Input.TheVariants as input
 use Rattle.refusal_text.specs.declared.refusals.Refusal.{Refusal}
 use Rattle.refusal_text.specs.declared.refusals.Refusal.TheVariants as refusal
@@ -75,7 +78,7 @@ MayLoseUnits network lost = AreUnitOutages (length network.units) lost.lost lost
 abbrev pub cover_in : LiveNetwork → Tables → UnitOutages → Result (Unit {0}) Refusal
 cover_in network tables lost = or_as refusal.Uncovered (cover_of network tables.shift.entries tables.loss.entries tables.outages (nat_lt 0 (length lost.lost)))
 
--- ---- the tables of offers, of offsets and of penalties
+-- ---- the tables of offers, of reserves, of offsets and of penalties
 -- the units of a network, and their blocks
 abbrev pub offers_in : LiveNetwork → Result (List ℕ) Refusal → Result Offered Refusal
 offers_in network bytes =
@@ -90,6 +93,14 @@ pub record AreOffered (network : LiveNetwork) (offered : Offered) : Type 0 where
   pub units : All (IsUnit (length network.buses)) offered.units
   pub blocks : AreBlocks (length offered.units) offered.blocks
   pub room : HaveRoom offered.units offered.blocks
+
+-- what the live units of a network offer of spinning reserve, and how much is needed
+abbrev pub reserves_in : LiveNetwork → Result (List ℕ) Refusal → Result Reserve Refusal
+reserves_in network bytes = and_then bytes (λ text. or_as refusal.Reserves (reserve_of_table (unit_list_of network) text))
+
+-- a table of reserves that has no records
+abbrev pub ListsNoReserve : List ℕ → Type 0
+ListsNoReserve text = frame_of reserve_header (Some most_reserves) (table_of text) ≡ Ok []
 
 abbrev pub offsets_in : LiveNetwork → Result (List ℕ) Refusal → Result (List OffsetEntry) Refusal
 offsets_in network bytes = and_then bytes (λ text. or_as (refusal.Table input.Offsets) (offsets_of network text))

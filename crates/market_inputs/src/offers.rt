@@ -1,18 +1,21 @@
-//! The units of a network, and their blocks.
+//! The units of a network, their blocks, and their offers of reserve.
 
-ghost use Rattle.std.specs.Prelude.{◌≡◌, IfOk};
+ghost use Rattle.std.specs.Prelude.{◌≡◌, ◌↔◌, length, IfOk};
+ghost use Rattle.market_model.specs.Market.{IsReserve};
+ghost use Rattle.market_model.specs.Reserves.{no_reserve};
+ghost use Rattle.net_case.specs.NetworkReading.{unit_list_of};
 ghost use Rattle.refusal_text.specs.declared.refusals.Input.TheVariants as input;
 ghost use Rattle.refusal_text.specs.declared.refusals.Refusal.TheVariants as refusal;
 ghost use Rattle.market_inputs.specs.Files.{sized};
 ghost use Rattle.market_inputs.specs.Steps.{Is};
 ghost use Rattle.market_inputs.specs.Stops.{IsToldAs};
-ghost use Rattle.market_inputs.specs.Tables.{AreOffered, offers_in};
+ghost use Rattle.market_inputs.specs.Tables.{AreOffered, ListsNoReserve, offers_in, reserves_in};
 
 use crate::lengths::check_length;
 use crate::stops::InputStop;
-use market_model::{Block, List, Unit};
+use market_model::{Block, List, Reserve, Unit};
 use net_case::Network;
-use offer_book::blocks;
+use offer_book::{blocks, reserves};
 use refusal_text::Input;
 use std::alloc::Global;
 
@@ -39,4 +42,19 @@ pub(crate) fn offer_table(
         units: units.units,
         blocks,
     })
+}
+
+/// What a table lists of spinning reserve of the units of a network. A market is of energy alone where it has no records.
+pub(crate) fn reserve_table(
+    alloc: Global,
+    network: &Network,
+    bytes: &[u8],
+) -> Result<Reserve, InputStop>
+    ensures told { IsToldAs (Is (reserves_in network.now (sized (refusal.TooLong input.Reserves) bytes.now))) result }
+    ensures kept { IfOk result (IsReserve (length (unit_list_of network.now).units)) }
+    ensures energy_alone { IfOk result (λ reserve. (reserve ≡ no_reserve) ↔ ListsNoReserve bytes.now) }
+{
+    check_length(bytes, Input::Reserves)?;
+    let units = network.unit_list(alloc)?;
+    Ok(reserves(alloc, &units, bytes)?)
 }

@@ -9,7 +9,7 @@ use edit_table::StepFault;
 use factor_tables::TableFault;
 use net_case::NetFault;
 use net_paths::PathStop;
-use offer_book::OfferFault;
+use offer_book::{OfferFault, ReserveFault};
 use outage_list::{OutageFault, UnitOutageFault};
 use plain_list::Memory;
 use refusal_text::{Input, Refusal};
@@ -106,6 +106,19 @@ impl From<OfferFault> for InputStop {
         match fault {
             OfferFault::Memory => InputStop::Memory,
             _ => InputStop::Refused(Refusal::Offers(fault)),
+        }
+    }
+}
+
+impl From<ReserveFault> for InputStop {
+    ghost use Rattle.market_inputs.specs.Stops.{reserve_stop};
+
+    ghost from_gives = { λ fault stop. stop ≡ reserve_stop fault };
+
+    fn from(fault: ReserveFault) -> InputStop {
+        match fault {
+            ReserveFault::Memory => InputStop::Memory,
+            _ => InputStop::Refused(Refusal::Reserves(fault)),
         }
     }
 }

@@ -7,7 +7,6 @@ use Rattle.market_model.specs.declared.answered.Outcome.TheVariants as outcome
 use Rattle.market_model.specs.Dispatch.{Dispatch}
 use Rattle.market_model.specs.declared.limits.Row.{Row}
 use Rattle.market_model.specs.Optimality.{Feasible}
-use Rattle.market_model.specs.Reserves.{no_reserve}
 use Rattle.market_model.specs.RightAnswers.{IsRightBy}
 use Rattle.market_system.specs.Growth.{Growth, PricesOnly}
 use Rattle.market_system.specs.SolvedLaws.{AreRows}
@@ -45,11 +44,9 @@ IsPricedBy m taken (outcome.Cleared a) = PricesOnly m taken a.duals
 IsPricedBy m taken (outcome.Infeasible f) = PricesOnly m taken f.duals
 IsPricedBy m taken (outcome.Range p) = Unit {0}
 
--- a clear of the market, which is of energy alone, that begins with these rows taken comes to this outcome, and ends with those; other rows
--- have no price in it
+-- a clear of the market that begins with these rows taken comes to this outcome, and ends with those; other rows have no price in it
 pub record IsClear (bound : ℕ) (m : Parts) (before : List Row) (o : Outcome Fraction) (after : List Row) : Type 0 where
   pub rows : AreRows m before
   pub right : IsRightOutcome bound m before o
   pub taken : IsTakenAfter m before o after
   pub priced : IsPricedBy m after o
-  pub energy_alone : m.reserve ≡ no_reserve

@@ -19,6 +19,7 @@ module _ {T U : Type 0} (R : T → U → Type 0) (once : (t : T) (x y : U) → R
     grid = same-grid a.grid b.grid c.grid h.grid k.grid i;
     unit_outages = once a.unit_outages b.unit_outages c.unit_outages h.unit_outages k.unit_outages i;
     offers = once a.offers b.offers c.offers h.offers k.offers i;
+    reserves = once a.reserves b.reserves c.reserves h.reserves k.reserves i;
     offsets = once a.offsets b.offsets c.offsets h.offsets k.offsets i;
     penalties = once a.penalties b.penalties c.penalties h.penalties k.penalties i;
   }
@@ -53,10 +54,11 @@ module _ {T U V : Type 0} (R : T → U → Type 0) (P : T → V → Type 0) (Q :
       let grid = found-grid a.grid b.grid h.grid in
       let unit_outages = one a.unit_outages b.unit_outages h.unit_outages in
       let offers = one a.offers b.offers h.offers in
+      let reserves = one a.reserves b.reserves h.reserves in
       let offsets = one a.offsets b.offsets h.offsets in
       let penalties = one a.penalties b.penalties h.penalties in
       record {
-        found = record { grid = grid.found; unit_outages = unit_outages.0; offers = offers.0; offsets = offsets.0; penalties = penalties.0 };
-        first = record { grid = grid.first; unit_outages = unit_outages.1; offers = offers.1; offsets = offsets.1; penalties = penalties.1 };
-        second = record { grid = grid.second; unit_outages = unit_outages.2; offers = offers.2; offsets = offsets.2; penalties = penalties.2 };
+        found = record { grid = grid.found; unit_outages = unit_outages.0; offers = offers.0; reserves = reserves.0; offsets = offsets.0; penalties = penalties.0 };
+        first = record { grid = grid.first; unit_outages = unit_outages.1; offers = offers.1; reserves = reserves.1; offsets = offsets.1; penalties = penalties.1 };
+        second = record { grid = grid.second; unit_outages = unit_outages.2; offers = offers.2; reserves = reserves.2; offsets = offsets.2; penalties = penalties.2 };
       }

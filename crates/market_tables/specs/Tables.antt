@@ -16,7 +16,7 @@ abbrev pub map_grid : {T U O P : Type 0} → (T → U) → (O → P) → GridTab
 map_grid f g tables = record { case = f tables.case; ptdf = f tables.ptdf; lodf = g tables.lodf; contingencies = g tables.contingencies }
 
 abbrev pub map_tables : {T U O P : Type 0} → (T → U) → (O → P) → MarketTables T O → MarketTables U P
-map_tables f g tables = record { grid = map_grid f g tables.grid; unit_outages = g tables.unit_outages; offers = f tables.offers; offsets = g tables.offsets; penalties = g tables.penalties }
+map_tables f g tables = record { grid = map_grid f g tables.grid; unit_outages = g tables.unit_outages; offers = f tables.offers; reserves = g tables.reserves; offsets = g tables.offsets; penalties = g tables.penalties }
 
 -- the texts of bytes that are lent
 abbrev pub grid_lent : GridTables (Bor (List ℕ)) (Bor (List ℕ)) → GridTexts
@@ -36,5 +36,6 @@ pub record EachOf {T U : Type 0} (R : T → U → Type 0) (a : MarketTables T T)
   pub grid : EachOfGrid R a.grid b.grid
   pub unit_outages : R a.unit_outages b.unit_outages
   pub offers : R a.offers b.offers
+  pub reserves : R a.reserves b.reserves
   pub offsets : R a.offsets b.offsets
   pub penalties : R a.penalties b.penalties

@@ -23,6 +23,8 @@ pub struct MarketTables<T, O = T> {
     /// The units whose loss the market is to stand, with the shares of those that pick up their output.
     pub unit_outages: O,
     pub offers: T,
+    /// What units offer of spinning reserve, and how much is needed.
+    pub reserves: O,
     /// The flows that phase shift angles cause.
     pub offsets: O,
     /// What limits give way for.
@@ -52,6 +54,7 @@ impl MarketTables<Vec<u8>> {
             grid: self.grid.as_slices(),
             unit_outages: self.unit_outages.as_slice(),
             offers: self.offers.as_slice(),
+            reserves: self.reserves.as_slice(),
             offsets: self.offsets.as_slice(),
             penalties: self.penalties.as_slice(),
         }

@@ -23,6 +23,8 @@ use Rattle.outage_list.specs.declared.unit_fault.UnitOutageFault.{UnitOutageFaul
 use Rattle.outage_list.specs.declared.unit_fault.UnitOutageFault.TheVariants as unit_outage_fault
 use Rattle.offer_book.specs.declared.offer_table.OfferFault.{OfferFault}
 use Rattle.offer_book.specs.declared.offer_table.OfferFault.TheVariants as offer_fault
+use Rattle.offer_book.specs.declared.reserve_reading.ReserveFault.{ReserveFault}
+use Rattle.offer_book.specs.declared.reserve_reading.ReserveFault.TheVariants as reserve_fault
 use Rattle.rights_test.specs.declared.right_parts.RightsFault.{RightsFault}
 use Rattle.rights_test.specs.declared.right_parts.RightsFault.TheVariants as rights_fault
 use Rattle.edit_table.specs.declared.StepFault.{StepFault}
@@ -85,6 +87,14 @@ offer_words (offer_fault.Negative line) = codes "Negative" ++ codes " line " ++ 
 offer_words (offer_fault.OutOfOrder line) = codes "OutOfOrder" ++ codes " line " ++ decimal line
 offer_words (offer_fault.OverCapacity line) = codes "OverCapacity" ++ codes " line " ++ decimal line
 offer_words offer_fault.Memory = []
+
+unfoldable pub reserve_words : ReserveFault → List ℕ
+reserve_words (reserve_fault.Frame f) = frame_words f
+reserve_words (reserve_fault.Word line) = codes "Word" ++ codes " line " ++ decimal line
+reserve_words (reserve_fault.NoUnit line) = codes "NoUnit" ++ codes " line " ++ decimal line
+reserve_words (reserve_fault.Negative line) = codes "Negative" ++ codes " line " ++ decimal line
+reserve_words (reserve_fault.Twice line) = codes "Twice" ++ codes " line " ++ decimal line
+reserve_words reserve_fault.Memory = []
 
 unfoldable pub rights_words : RightsFault → List ℕ
 rights_words (rights_fault.Frame f) = frame_words f
@@ -155,6 +165,7 @@ input_name input.Lodf = codes "lodf "
 input_name input.Contingencies = codes "contingencies "
 input_name input.UnitOutages = codes "unit-outages "
 input_name input.Offers = codes "offers "
+input_name input.Reserves = codes "reserves "
 input_name input.Offsets = codes "offsets "
 input_name input.Penalties = codes "penalties "
 input_name input.Rights = codes "rights "
@@ -172,6 +183,7 @@ file_name (refusal.Outages f) = codes "contingencies "
 file_name (refusal.UnitOutages f) = codes "unit-outages "
 file_name (refusal.Uncovered lack) = codes "factors "
 file_name (refusal.Offers f) = codes "offers "
+file_name (refusal.Reserves f) = codes "reserves "
 file_name (refusal.Rights f) = codes "rights "
 file_name (refusal.Edits f) = codes "edits "
 file_name (refusal.Certificate k) = codes "certificate "
@@ -187,6 +199,7 @@ fault_words (refusal.Outages f) = outage_words f
 fault_words (refusal.UnitOutages f) = unit_outage_words f
 fault_words (refusal.Uncovered lack) = lack_words lack
 fault_words (refusal.Offers f) = offer_words f
+fault_words (refusal.Reserves f) = reserve_words f
 fault_words (refusal.Rights f) = rights_words f
 fault_words (refusal.Edits f) = step_words f
 fault_words (refusal.Certificate k) = codes "Key " ++ key_name k

@@ -2,7 +2,7 @@
 
 ghost use Rattle.std.specs.Prelude.{◌≡◌, ◌++◌, codes, decimal, IfOk};
 ghost use Rattle.line_text.specs.Decimals.{decimal_text};
-ghost use Rattle.refusal_text.specs.Refusals.{field_name, why_name, case_words, net_words, frame_words, table_words, side_text, outage_words, unit_outage_words, lack_words, offer_words, rights_words, step_words, key_name, input_name, file_name, fault_words, refusal_words, refusal_line};
+ghost use Rattle.refusal_text.specs.Refusals.{field_name, why_name, case_words, net_words, frame_words, table_words, side_text, outage_words, unit_outage_words, lack_words, offer_words, reserve_words, rights_words, step_words, key_name, input_name, file_name, fault_words, refusal_words, refusal_line};
 
 use case_text::{CaseFault, Field};
 use cert_format::Key;
@@ -10,7 +10,7 @@ use edit_table::StepFault;
 use factor_tables::{TableFault, Uncovered};
 use line_text::Text;
 use net_case::NetFault;
-use offer_book::OfferFault;
+use offer_book::{OfferFault, ReserveFault};
 use outage_list::{OutageFault, UnitOutageFault};
 use plain_list::{List, Memory};
 use record_reading::{FrameFault, Why};
@@ -31,6 +31,8 @@ pub enum Input {
     /// The table of outages of units.
     UnitOutages,
     Offers,
+    /// The table of reserves.
+    Reserves,
     /// The table of offsets.
     Offsets,
     /// The table of penalties.
@@ -62,6 +64,8 @@ pub enum Refusal {
     /// What the two tables of factors lack together.
     Uncovered(Uncovered),
     Offers(OfferFault),
+    /// What units offer of spinning reserve, and the need.
+    Reserves(ReserveFault),
     Rights(RightsFault),
     Edits(StepFault),
     /// The first part of a certificate that is at fault.
@@ -224,6 +228,20 @@ fn write_offer_fault(text: &mut Text, fault: OfferFault) -> Result<(), Memory>
     }
 }
 
+#[tactic(auto, using(std::proofs::Common::append_assoc), unfolding(crate::specs::Refusals::reserve_words))]
+fn write_reserve_fault(text: &mut Text, fault: ReserveFault) -> Result<(), Memory>
+    ensures { IfOk result (λ _. text.new ≡ text.old ++ reserve_words fault) }
+{
+    match fault {
+        ReserveFault::Frame(fault) => write_frame_fault(text, fault),
+        ReserveFault::Word { line } => at_line(text, b"Word", line),
+        ReserveFault::NoUnit { line } => at_line(text, b"NoUnit", line),
+        ReserveFault::Negative { line } => at_line(text, b"Negative", line),
+        ReserveFault::Twice { line } => at_line(text, b"Twice", line),
+        ReserveFault::Memory => Ok(()),
+    }
+}
+
 #[tactic(auto, using(std::proofs::Common::append_assoc), unfolding(crate::specs::Refusals::rights_words))]
 fn write_rights_fault(text: &mut Text, fault: RightsFault) -> Result<(), Memory>
     ensures { IfOk result (λ _. text.new ≡ text.old ++ rights_words fault) }
@@ -354,6 +372,7 @@ fn input_word(input: Input) -> &'static [u8]
         Input::Contingencies => b"contingencies ",
         Input::UnitOutages => b"unit-outages ",
         Input::Offers => b"offers ",
+        Input::Reserves => b"reserves ",
         Input::Offsets => b"offsets ",
         Input::Penalties => b"penalties ",
         Input::Rights => b"rights ",
@@ -373,6 +392,7 @@ fn file_word(refusal: &Refusal) -> &'static [u8]
         Refusal::UnitOutages(_) => b"unit-outages ",
         Refusal::Uncovered(_) => b"factors ",
         Refusal::Offers(_) => b"offers ",
+        Refusal::Reserves(_) => b"reserves ",
         Refusal::Rights(_) => b"rights ",
         Refusal::Edits(_) => b"edits ",
         Refusal::Certificate(_) => b"certificate ",
@@ -394,6 +414,7 @@ fn write_fault(text: &mut Text, refusal: &Refusal) -> Result<(), Memory>
         Refusal::UnitOutages(fault) => write_unit_outage_fault(text, *fault),
         Refusal::Uncovered(lack) => write_lack(text, *lack),
         Refusal::Offers(fault) => write_offer_fault(text, *fault),
+        Refusal::Reserves(fault) => write_reserve_fault(text, *fault),
         Refusal::Rights(fault) => write_rights_fault(text, *fault),
         Refusal::Edits(fault) => write_step_fault(text, *fault),
         Refusal::Certificate(key) => {

@@ -195,14 +195,15 @@ row_begins : (id : RowId) (us : List ℕ) → EndsLimits (row_text id ++ us) →
 unfolding row_text
 row_begins id us h = h refl
 
-module _ {X : Type 0} (f : X → List ℕ) (Good : X → Type 0) (apart : (x y : X) → Good x → Good y → (us vs : List ℕ) → f x ++ us ≡ f y ++ vs → (x ≡ y) × (us ≡ vs)) (begins : (x : X) (us : List ℕ) → EndsLimits (f x ++ us) → ⊥) where
-  first_begins : (x : X) (xs : List X) (us : List ℕ) → EndsLimits (flat_map f (x ∷ xs) ++ us) → ⊥
-  first_begins x xs us h = begins x (flat_map f xs ++ us) (subst EndsLimits (append_assoc (f x) (flat_map f xs) us) h)
+-- lines of one kind, and what does not go on with one of them
+module _ {X : Type 0} (f : X → List ℕ) (Good : X → Type 0) (Ends : List ℕ → Type 0) (apart : (x y : X) → Good x → Good y → (us vs : List ℕ) → f x ++ us ≡ f y ++ vs → (x ≡ y) × (us ≡ vs)) (begins : (x : X) → Good x → (us : List ℕ) → Ends (f x ++ us) → ⊥) where
+  first_begins : (x : X) (xs : List X) → Good x → (us : List ℕ) → Ends (flat_map f (x ∷ xs) ++ us) → ⊥
+  first_begins x xs p us h = begins x p (flat_map f xs ++ us) (subst Ends (append_assoc (f x) (flat_map f xs) us) h)
 
-  lines_end : (xs ys : List X) → AllByRecursion Good xs → AllByRecursion Good ys → (us vs : List ℕ) → EndsLimits us → EndsLimits vs → flat_map f xs ++ us ≡ flat_map f ys ++ vs → (xs ≡ ys) × (us ≡ vs)
+  pub lines_end : (xs ys : List X) → AllByRecursion Good xs → AllByRecursion Good ys → (us vs : List ℕ) → Ends us → Ends vs → flat_map f xs ++ us ≡ flat_map f ys ++ vs → (xs ≡ ys) × (us ≡ vs)
   lines_end [] [] p q us vs g h e = (refl, e)
-  lines_end [] (y ∷ ys) p q us vs g h e = absurd (first_begins y ys vs (subst EndsLimits e g))
-  lines_end (x ∷ xs) [] p q us vs g h e = absurd (first_begins x xs us (subst EndsLimits (sym e) h))
+  lines_end [] (y ∷ ys) p q us vs g h e = absurd (first_begins y ys q.0 vs (subst Ends e g))
+  lines_end (x ∷ xs) [] p q us vs g h e = absurd (first_begins x xs p.0 us (subst Ends (sym e) h))
   lines_end (x ∷ xs) (y ∷ ys) p q us vs g h e =
       let first = apart x y p.0 q.0 (flat_map f xs ++ us) (flat_map f ys ++ vs) (sym (append_assoc (f x) (flat_map f xs) us) ∙ e ∙ append_assoc (f y) (flat_map f ys) vs) in
       let rest = lines_end xs ys p.1 q.1 us vs g h first.1 in
@@ -218,7 +219,7 @@ entry_begins p us h = h refl
 
 -- the duals that show that nothing is feasible
 pub limits_apart : (ds es : List (Dual Fraction)) (us vs : List ℕ) → EndsLimits us → EndsLimits vs → flat_map limit_text ds ++ us ≡ flat_map limit_text es ++ vs → (ds ≡ es) × (us ≡ vs)
-limits_apart ds es us vs p q e = lines_end limit_text (λ d. Unit {0}) (λ d f g h. limit_apart d f) limit_begins ds es (all ds) (all es) us vs p q e
+limits_apart ds es us vs p q e = lines_end limit_text (λ d. Unit {0}) EndsLimits (λ d f g h. limit_apart d f) (λ d g. limit_begins d) ds es (all ds) (all es) us vs p q e
   where
     all : (ds : List (Dual Fraction)) → AllByRecursion (λ (d : Dual Fraction). Unit {0}) ds
     all [] = tt
@@ -238,7 +239,7 @@ as_many ds rs e = sym (length-map rs (λ (r : Rent Fraction). r.row)) ∙ ap len
 pub rents_apart : (ds es : List (Dual Fraction)) (rs ss : List (Rent Fraction)) → map (λ r. r.row) rs ≡ map (λ d. d.row) ds → map (λ r. r.row) ss ≡ map (λ d. d.row) es → All (λ (r : Rent Fraction). zero ≤ℚ r.over) rs → All (λ (r : Rent Fraction). zero ≤ℚ r.over) ss → (us vs : List ℕ) → EndsLimits us → EndsLimits vs
     → flat_map entry_text (zip ds rs) ++ us ≡ flat_map entry_text (zip es ss) ++ vs → (ds ≡ es) × (rs ≡ ss) × (us ≡ vs)
 rents_apart ds es rs ss p q o w us vs g h e =
-    let t = lines_end entry_text IsEntry entry_apart entry_begins (zip ds rs) (zip es ss) (are_entries ds rs p o) (are_entries es ss q w) us vs g h e in (
+    let t = lines_end entry_text IsEntry EndsLimits entry_apart (λ x g. entry_begins x) (zip ds rs) (zip es ss) (are_entries ds rs p o) (are_entries es ss q w) us vs g h e in (
       sym (firsts-zip ds rs (as_many ds rs p)) ∙ ap (map (λ (x : Entry). x.0)) t.0 ∙ firsts-zip es ss (as_many es ss q),
       sym (seconds-zip ds rs (as_many ds rs p)) ∙ ap (map (λ (x : Entry). x.1)) t.0 ∙ seconds-zip es ss (as_many es ss q),
       t.1,

@@ -14,20 +14,21 @@ use Rattle.market_model.specs.declared.participants.Side.{Side}
 use Rattle.market_model.specs.declared.participants.Parts.{Parts}
 use Rattle.market_model.specs.declared.answered.Price.{Price}
 use Rattle.market_model.specs.declared.answered.UnitPay.{UnitPay}
+use Rattle.market_model.specs.declared.answered.ReservePay.{ReservePay}
 use Rattle.market_model.specs.declared.answered.Load.{Load}
-use Rattle.market_model.specs.declared.answered.Dual.{Dual}
 use Rattle.market_model.specs.declared.answered.Duals.{Duals}
 use Rattle.market_model.specs.declared.answered.Money.{Money}
 use Rattle.market_model.specs.declared.answered.Answer.{Answer}
-use Rattle.market_model.specs.Dispatch.{zero as none, places, bus_at, unit_at, block_at}
+use Rattle.market_model.specs.Dispatch.{zero as none, places, bus_at, unit_at, block_at, offer_at}
 use Rattle.market_model.specs.LimitRows.{lost_unit}
 use Rattle.market_model.specs.Optimality.{unit_price}
+use Rattle.market_model.specs.Reserves.{offer_places}
 use Rattle.market_model.specs.RightAnswers.{mw_of, price_of, pay_of, load_of}
-use Rattle.report_text.specs.Reports.{side_text, block_number, head_text, bus_text, block_text, own_of, own_text, unit_text, load_text, surplus_text, bus_line_at, block_line_at, unit_line_at, load_line_at, lines_of_buses, lines_of_blocks, lines_of_limits, lines_of_units, lines_of_loads, cleared_text}
-use Rattle.market_model.specs.Valued.{energy_duals}
-use Rattle.report_text.specs.ReportLaws.{AreOfEnergy, FitsReport, LosesUnitsOnce, MakesOwnPrices}
+use Rattle.report_text.specs.Reports.{side_text, block_number, head_text, bus_text, block_text, own_of, own_text, unit_text, load_text, surplus_text, need_text, reserve_pay_of, bus_line_at, block_line_at, unit_line_at, offer_line_at, load_line_at, lines_of_buses, lines_of_blocks, lines_of_limits, lines_of_rooms, lines_of_units, lines_of_offers, lines_of_loads, cleared_text}
+use Rattle.report_text.specs.ReportLaws.{FitsReport, LosesUnitsOnce, MakesOwnPrices}
 use Rattle.report_text.proofs.Amounts.{amount_apart, amount_ends, head_of, named_apart, one_apart, two_apart}
-use Rattle.report_text.proofs.LimitReading.{EndsLimits, rents_apart}
+use Rattle.report_text.proofs.LimitReading.{rents_apart}
+use Rattle.report_text.proofs.ReserveReading.{EndsDuals, needs_apart, offer_apart, offer_ends, rooms_apart, rooms_follow}
 
 head_apart : (w x e f : Fraction) (us vs : List ℕ) → head_text w e ++ us ≡ head_text x f ++ vs → (w ≡ x) × (e ≡ f) × (us ≡ vs)
 unfolding head_text
@@ -138,8 +139,8 @@ same_prices m a b p q e all =
     same_price (price_of a i) (price_of b i) (p.energy i d h ∙ e ∙ sym (q.energy i d (Prim.omega (arith, h, p.fits.prices, q.fits.prices))))
     (at_places (λ k. SamePrice (price_of a k) (price_of b k)) (length m.buses) i all (Prim.omega (arith, h, p.fits.prices))))
 
-pub same_duals : (d e : Duals Fraction) → AreOfEnergy d → AreOfEnergy e → d.energy ≡ e.energy → d.limits ≡ e.limits → d ≡ e
-same_duals d e of_d of_e p q = of_d ∙ ap (λ u. energy_duals u d.limits) p ∙ ap (energy_duals e.energy) q ∙ sym of_e
+pub same_duals : (d e : Duals Fraction) → d.energy ≡ e.energy → d.reserve ≡ e.reserve → d.limits ≡ e.limits → d.rooms ≡ e.rooms → d ≡ e
+same_duals d e p q r s = λ i. record { energy = p i; limits = r i; reserve = q i; rooms = s i }
 
 same_money : (d e : Money Fraction) → d.units ≡ e.units → d.own ≡ e.own → d.loads ≡ e.loads → d.rents ≡ e.rents → d.surplus ≡ e.surplus → d.reserve ≡ e.reserve → d ≡ e
 same_money d e p o q r s t = λ i. record { units = p i; own = o i; loads = q i; rents = r i; surplus = s i; reserve = t i }
@@ -187,34 +188,37 @@ seconds P Q (k ∷ ks) h = (h.0.1, seconds P Q ks h.1)
 same_answer : (a b : Answer Fraction) → a.dispatch ≡ b.dispatch → a.reserve ≡ b.reserve → a.duals ≡ b.duals → a.prices ≡ b.prices → a.welfare ≡ b.welfare → a.money ≡ b.money → a ≡ b
 same_answer a b p n q r s t = λ i. record { dispatch = p i; reserve = n i; duals = q i; prices = r i; welfare = s i; money = t i }
 
--- ---- what follows the lines of limits
-unit_ends : (row : ℕ) (pay : UnitPay Fraction) (own : Option Fraction) (us : List ℕ) → EndsLimits (unit_text row pay own ++ us)
+-- ---- what follows the lines of limits and rooms
+unit_ends : (row : ℕ) (pay : UnitPay Fraction) (own : Option Fraction) (us : List ℕ) → EndsDuals (unit_text row pay own ++ us)
 unfolding unit_text
-unit_ends row pay own us = λ e. Prim.omega (arith, e)
+unit_ends row pay own us = (λ e. Prim.omega (arith, e), λ e. Prim.omega (arith, e))
 
-load_ends : (n : ℕ) (load : Load Fraction) (us : List ℕ) → EndsLimits (load_text n load ++ us)
+load_ends : (n : ℕ) (load : Load Fraction) (us : List ℕ) → EndsDuals (load_text n load ++ us)
 unfolding load_text
-load_ends n load us = λ e. Prim.omega (arith, e)
+load_ends n load us = (λ e. Prim.omega (arith, e), λ e. Prim.omega (arith, e))
 
-surplus_ends : (x : Fraction) (us : List ℕ) → EndsLimits (surplus_text x ++ us)
+surplus_ends : (x : Fraction) (us : List ℕ) → EndsDuals (surplus_text x ++ us)
 unfolding surplus_text
-surplus_ends x us = λ e. Prim.omega (arith, e)
+surplus_ends x us = (λ e. Prim.omega (arith, e), λ e. Prim.omega (arith, e))
 
-lines_end : (f : ℕ → List ℕ) → ((k : ℕ) (us : List ℕ) → EndsLimits (f k ++ us)) → (ps us : List ℕ) → EndsLimits us → EndsLimits (flat_map f ps ++ us)
-lines_end f line [] us h = h
-lines_end f line (p ∷ ps) us h = subst EndsLimits (sym (append_assoc (f p) (flat_map f ps) us)) (line p (flat_map f ps ++ us))
+all_end : (f : ℕ → List ℕ) → ((k : ℕ) (us : List ℕ) → EndsDuals (f k ++ us)) → (ps us : List ℕ) → EndsDuals us → EndsDuals (flat_map f ps ++ us)
+all_end f line [] us h = h
+all_end f line (p ∷ ps) us h = subst EndsDuals (sym (append_assoc (f p) (flat_map f ps) us)) (line p (flat_map f ps ++ us))
 
--- the lines behind those of limits, and what comes after them
+-- the lines behind those of rooms, and what comes after them
 abbrev last_lines : Parts → Answer Fraction → List ℕ → List ℕ
-last_lines m a us = lines_of_units m a ++ (lines_of_loads m a ++ (surplus_text a.money.surplus ++ us))
+last_lines m a us = lines_of_units m a ++ (lines_of_offers m a ++ (lines_of_loads m a ++ (surplus_text a.money.surplus ++ us)))
 
-last_ends : (m : Parts) (a : Answer Fraction) (us : List ℕ) → EndsLimits (last_lines m a us)
+last_ends : (m : Parts) (a : Answer Fraction) (us : List ℕ) → EndsDuals (last_lines m a us)
 last_ends m a us =
-    lines_end (unit_line_at m a) (λ k. unit_ends (unit_at m k).row (pay_of a k) (own_of m a k)) (places (length m.units)) (lines_of_loads m a ++ (surplus_text a.money.surplus ++ us))
-    (lines_end (load_line_at m a) (λ k. load_ends (bus_at m k).number (load_of a k)) (places (length m.buses)) (surplus_text a.money.surplus ++ us) (surplus_ends a.money.surplus us))
+    let surplus = surplus_text a.money.surplus ++ us in
+    let loads = lines_of_loads m a ++ surplus in
+    all_end (unit_line_at m a) (λ k. unit_ends (unit_at m k).row (pay_of a k) (own_of m a k)) (places (length m.units)) (lines_of_offers m a ++ loads)
+    (all_end (offer_line_at m a) (λ k. offer_ends (unit_at m (offer_at m k).unit).row (reserve_pay_of a k)) (offer_places m) loads
+    (all_end (load_line_at m a) (λ k. load_ends (bus_at m k).number (load_of a k)) (places (length m.buses)) surplus (surplus_ends a.money.surplus us)))
 
-in_order : (h b k r u l s us : List ℕ) → (h ++ b ++ k ++ r ++ u ++ l ++ s) ++ us ≡ h ++ (b ++ (k ++ (r ++ (u ++ (l ++ (s ++ us))))))
-in_order h b k r u l s us = Prim.simp append_assoc
+in_order : (h n b k r d u o l s us : List ℕ) → (h ++ n ++ b ++ k ++ r ++ d ++ u ++ o ++ l ++ s) ++ us ≡ h ++ (n ++ (b ++ (k ++ (r ++ (d ++ (u ++ (o ++ (l ++ (s ++ us)))))))))
+in_order h n b k r d u o l s us = Prim.simp append_assoc
 
 -- the report of an answer, and what comes after it
 pub answers_apart : (m : Parts) (a b : Answer Fraction) → FitsReport m a → FitsReport m b → (us vs : List ℕ) → cleared_text m a ++ us ≡ cleared_text m b ++ vs → (a ≡ b) × (us ≡ vs)
@@ -223,21 +227,27 @@ answers_apart m a b p q us vs e =
     let buses = places (length m.buses) in
     let blocks = places (length m.blocks) in
     let units = places (length m.units) in
-    let split = λ (x : Answer Fraction) (ts : List ℕ). in_order (head_text x.welfare x.duals.energy) (lines_of_buses m x) (lines_of_blocks m x) (lines_of_limits x) (lines_of_units m x) (lines_of_loads m x) (surplus_text x.money.surplus) ts in
+    let rooms_of = λ (x : Answer Fraction) (ts : List ℕ). lines_of_rooms price_places x.duals.rooms ++ last_lines m x ts in
+    let split = λ (x : Answer Fraction) (ts : List ℕ). in_order (head_text x.welfare x.duals.energy) (need_text m.reserve.listed m.reserve.need x.duals.reserve) (lines_of_buses m x) (lines_of_blocks m x) (lines_of_limits x) (lines_of_rooms price_places x.duals.rooms) (lines_of_units m x) (lines_of_offers m x) (lines_of_loads m x) (surplus_text x.money.surplus) ts in
     let head = head_apart a.welfare b.welfare a.duals.energy b.duals.energy _ _ (sym (split a us) ∙ e ∙ split b vs) in
-    let prices = lines_apart (bus_line_at m a) (bus_line_at m b) (λ k. SamePrice (price_of a k) (price_of b k)) (λ k. bus_apart (bus_at m k).number (price_of a k) (price_of b k)) buses _ _ head.2 in
+    let need = needs_apart m.reserve.listed m.reserve.need a.duals.reserve b.duals.reserve p.duals.unlisted q.duals.unlisted _ _ head.2 in
+    let prices = lines_apart (bus_line_at m a) (bus_line_at m b) (λ k. SamePrice (price_of a k) (price_of b k)) (λ k. bus_apart (bus_at m k).number (price_of a k) (price_of b k)) buses _ _ need.1 in
     let dispatch = lines_apart (block_line_at m a) (block_line_at m b) (λ k. mw_of a k ≡ mw_of b k)
     (λ k. block_apart (unit_at m (block_at m k).unit).row (block_at m k).side (block_number m k) (mw_of a k) (mw_of b k)) blocks _ _ prices.1 in
-    let rents = rents_apart a.duals.limits b.duals.limits a.money.rents b.money.rents p.fits.money.rents q.fits.money.rents p.over q.over (last_lines m a us) (last_lines m b vs) (last_ends m a us) (last_ends m b vs) dispatch.1 in
-    let pays = lines_apart (unit_line_at m a) (unit_line_at m b) (λ k. (pay_of a k ≡ pay_of b k) × (own_of m a k ≡ own_of m b k)) (λ k. unit_apart (unit_at m k).row (pay_of a k) (pay_of b k) (own_of m a k) (own_of m b k)) units _ _ rents.2 in
+    let rents = rents_apart a.duals.limits b.duals.limits a.money.rents b.money.rents p.fits.money.rents q.fits.money.rents p.over q.over (rooms_of a us) (rooms_of b vs)
+    (rooms_follow price_places a.duals.rooms p.duals.rooms (last_lines m a us) (last_ends m a us).0) (rooms_follow price_places b.duals.rooms q.duals.rooms (last_lines m b vs) (last_ends m b vs).0) dispatch.1 in
+    let rooms = rooms_apart price_places a.duals.rooms b.duals.rooms p.duals.rooms q.duals.rooms (last_lines m a us) (last_lines m b vs) (last_ends m a us).1 (last_ends m b vs).1 rents.2 in
+    let pays = lines_apart (unit_line_at m a) (unit_line_at m b) (λ k. (pay_of a k ≡ pay_of b k) × (own_of m a k ≡ own_of m b k)) (λ k. unit_apart (unit_at m k).row (pay_of a k) (pay_of b k) (own_of m a k) (own_of m b k)) units _ _ rooms.1 in
     let paid = firsts (λ k. pay_of a k ≡ pay_of b k) (λ k. own_of m a k ≡ own_of m b k) units pays.0 in
     let owns = seconds (λ k. pay_of a k ≡ pay_of b k) (λ k. own_of m a k ≡ own_of m b k) units pays.0 in
-    let duals = same_duals a.duals b.duals p.energy_alone q.energy_alone head.1 rents.0 in
-    let loads = lines_apart (load_line_at m a) (load_line_at m b) (λ k. load_of a k ≡ load_of b k) (λ k. load_apart (bus_at m k).number (load_of a k) (load_of b k)) buses _ _ pays.1 in
+    let duals = same_duals a.duals b.duals head.1 need.0 rents.0 rooms.0 in
+    let offers = lines_apart (offer_line_at m a) (offer_line_at m b) (λ k. reserve_pay_of a k ≡ reserve_pay_of b k) (λ k. offer_apart (unit_at m (offer_at m k).unit).row (reserve_pay_of a k) (reserve_pay_of b k)) (offer_places m) _ _ pays.1 in
+    let reserve = same_entries (record { mw = none; paid = none }) a.money.reserve b.money.reserve (length m.reserve.offers) p.fits.money.reserve q.fits.money.reserve offers.0 in
+    let loads = lines_apart (load_line_at m a) (load_line_at m b) (λ k. load_of a k ≡ load_of b k) (λ k. load_apart (bus_at m k).number (load_of a k) (load_of b k)) buses _ _ offers.1 in
     let last = surplus_apart a.money.surplus b.money.surplus us vs loads.1 in (
       same_answer a b
           (same_entries none a.dispatch b.dispatch (length m.blocks) p.fits.dispatch q.fits.dispatch dispatch.0)
-          (p.no_reserve ∙ sym q.no_reserve)
+          (sym p.reserve ∙ ap (λ (ps : List (ReservePay Fraction)). map (λ (x : ReservePay Fraction). x.mw) ps) reserve ∙ q.reserve)
           duals
           (same_prices m a b p q head.1 prices.0)
           head.0
@@ -247,6 +257,6 @@ answers_apart m a b p q us vs e =
           (same_entries (record { mw = none; pays = none }) a.money.loads b.money.loads (length m.buses) p.fits.money.loads q.fits.money.loads loads.0)
           rents.1
           last.0
-          (p.no_reserve_pay ∙ sym q.no_reserve_pay)),
+          reserve),
       last.1,
     )

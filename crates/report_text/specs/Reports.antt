@@ -1,5 +1,5 @@
 -- The report of what a clear came to, line by line.
-use Rattle.std.specs.Prelude.{ℕ, ◌+◌, Bool, ◌&&◌, ◌==◌, List, [], ◌++◌, length, count_by, codes, decimal, if◌then◌else◌, Option, Some, None}
+use Rattle.std.specs.Prelude.{ℕ, ◌+◌, ℤ, Bool, ◌&&◌, ◌==◌, List, [], ◌++◌, length, count_by, codes, slice_index_or, decimal, if◌then◌else◌, Option, Some, None}
 use Rattle.std.specs.List.{flat_map, zip}
 use Rattle.std.specs.Map.{lookup}
 use Rattle.fraction_theory.specs.Fraction.{Fraction}
@@ -10,6 +10,7 @@ use Rattle.exact_fraction.specs.Written.{number_text, written, parts_text}
 use Rattle.exact_fraction.specs.declared.Op.{Op}
 use Rattle.exact_fraction.specs.declared.Op.TheVariants as op
 use Rattle.exact_fraction.specs.declared.Passed.{Passed}
+use Rattle.line_text.specs.Decimals.{decimal_text}
 use Rattle.market_data.specs.Scales.{money_places, mw_places, price_places}
 use Rattle.market_model.specs.declared.participants.Side.{Side}
 use Rattle.market_model.specs.declared.participants.Side.TheVariants.{Sell, Buy}
@@ -17,6 +18,8 @@ use Rattle.market_model.specs.declared.participants.Block.{Block}
 use Rattle.market_model.specs.declared.participants.Parts.{Parts}
 use Rattle.market_model.specs.declared.answered.Price.{Price}
 use Rattle.market_model.specs.declared.answered.UnitPay.{UnitPay}
+use Rattle.market_model.specs.declared.answered.ReservePay.{ReservePay}
+use Rattle.market_model.specs.declared.answered.RoomDual.{RoomDual}
 use Rattle.market_model.specs.declared.answered.Load.{Load}
 use Rattle.market_model.specs.declared.answered.Answer.{Answer}
 use Rattle.market_model.specs.declared.answered.Dual.{Dual}
@@ -26,7 +29,8 @@ use Rattle.market_model.specs.declared.answered.Farkas.{Farkas}
 use Rattle.market_model.specs.declared.answered.Outcome.{Outcome}
 use Rattle.market_model.specs.declared.answered.Outcome.TheVariants as outcome
 use Rattle.market_model.specs.Stairs.{same_side}
-use Rattle.market_model.specs.Dispatch.{places, bus_at, unit_at, block_at}
+use Rattle.market_model.specs.Dispatch.{zero, places, bus_at, unit_at, block_at, offer_at}
+use Rattle.market_model.specs.Reserves.{offer_places}
 use Rattle.market_model.specs.RightAnswers.{mw_of, price_of, pay_of, load_of}
 
 abbrev pub side_text : Side → List ℕ
@@ -87,6 +91,23 @@ own_text (Some own) = codes " own " ++ written price_places own
 unfoldable pub unit_text : ℕ → UnitPay Fraction → Option Fraction → List ℕ
 unit_text row pay own = codes "unit " ++ decimal row ++ codes " mw " ++ written mw_places pay.mw ++ codes " paid " ++ written money_places pay.paid ++ own_text own ++ codes "\n"
 
+-- the price of reserve and how much is needed, where reserve is listed
+unfoldable pub need_text : Bool → ℤ → Fraction → List ℕ
+need_text listed need price = if listed then codes "reserve price " ++ written price_places price ++ codes " need " ++ decimal_text mw_places need ++ codes "\n" else []
+
+-- the price of a unit's room, of k places, where it is above 0
+abbrev pub room_text_by : Sign → ℕ → RoomDual Fraction → List ℕ
+room_text_by Below k d = []
+room_text_by Zero k d = []
+room_text_by Above k d = codes "room " ++ number_text d.unit ++ codes " dual " ++ written k d.price ++ codes "\n"
+
+abbrev pub room_text : ℕ → RoomDual Fraction → List ℕ
+room_text k d = room_text_by (sign_of d.price) k d
+
+-- the reserve that is accepted of an offer and what it is paid
+unfoldable pub offer_text : ℕ → ReservePay Fraction → List ℕ
+offer_text row pay = codes "reserve " ++ decimal row ++ codes " mw " ++ written mw_places pay.mw ++ codes " paid " ++ written money_places pay.paid ++ codes "\n"
+
 -- a bus's demand and what it pays
 unfoldable pub load_text : ℕ → Load Fraction → List ℕ
 load_text number load = codes "load " ++ decimal number ++ codes " mw " ++ written mw_places load.mw ++ codes " pays " ++ written money_places load.pays ++ codes "\n"
@@ -109,6 +130,13 @@ own_of m a u = lookup (λ lost. lost == u) (zip m.unit_outages a.money.own)
 abbrev pub unit_line_at : Parts → Answer Fraction → ℕ → List ℕ
 unit_line_at m a u = unit_text (unit_at m u).row (pay_of a u) (own_of m a u)
 
+-- what an offer of reserve is paid, by place; one past the end stands for zeros
+abbrev pub reserve_pay_of : Answer Fraction → ℕ → ReservePay Fraction
+reserve_pay_of a n = slice_index_or a.money.reserve n (record { mw = zero; paid = zero })
+
+abbrev pub offer_line_at : Parts → Answer Fraction → ℕ → List ℕ
+offer_line_at m a n = offer_text (unit_at m (offer_at m n).unit).row (reserve_pay_of a n)
+
 abbrev pub load_line_at : Parts → Answer Fraction → ℕ → List ℕ
 load_line_at m a i = load_text (bus_at m i).number (load_of a i)
 
@@ -123,8 +151,16 @@ lines_of_blocks m a = flat_map (block_line_at m a) (places (length m.blocks))
 abbrev pub lines_of_limits : Answer Fraction → List ℕ
 lines_of_limits a = flat_map (λ p. rent_text p.0 p.1) (zip a.duals.limits a.money.rents)
 
+-- and of the rooms with a price, of k places
+abbrev pub lines_of_rooms : ℕ → List (RoomDual Fraction) → List ℕ
+lines_of_rooms k rooms = flat_map (room_text k) rooms
+
 abbrev pub lines_of_units : Parts → Answer Fraction → List ℕ
 lines_of_units m a = flat_map (unit_line_at m a) (places (length m.units))
+
+-- and of the offers of reserve, of which a market of energy alone has none
+abbrev pub lines_of_offers : Parts → Answer Fraction → List ℕ
+lines_of_offers m a = flat_map (offer_line_at m a) (offer_places m)
 
 abbrev pub lines_of_loads : Parts → Answer Fraction → List ℕ
 lines_of_loads m a = flat_map (load_line_at m a) (places (length m.buses))
@@ -133,10 +169,13 @@ lines_of_loads m a = flat_map (load_line_at m a) (places (length m.buses))
 unfoldable pub cleared_text : Parts → Answer Fraction → List ℕ
 cleared_text m a =
     head_text a.welfare a.duals.energy
+    ++ need_text m.reserve.listed m.reserve.need a.duals.reserve
     ++ lines_of_buses m a
     ++ lines_of_blocks m a
     ++ lines_of_limits a
+    ++ lines_of_rooms price_places a.duals.rooms
     ++ lines_of_units m a
+    ++ lines_of_offers m a
     ++ lines_of_loads m a
     ++ surplus_text a.money.surplus
 
@@ -152,9 +191,19 @@ bound_text bound = codes "bound " ++ written mw_places bound ++ codes "\n"
 unfoldable pub plain_energy_text : Fraction → List ℕ
 plain_energy_text energy = codes "energy " ++ written 0 energy ++ codes "\n"
 
--- the report of duals that show that nothing is feasible
-unfoldable pub infeasible_text : Farkas Fraction → List ℕ
-infeasible_text f = codes "infeasible\n" ++ bound_text f.bound ++ plain_energy_text f.duals.energy ++ flat_map limit_text f.duals.limits
+-- the price of reserve, which is a plain number, where reserve is listed
+unfoldable pub plain_reserve_text : Bool → Fraction → List ℕ
+plain_reserve_text listed price = if listed then codes "reserve dual " ++ written 0 price ++ codes "\n" else []
+
+-- the report of duals that show that nothing is feasible, and whether reserve is listed
+unfoldable pub infeasible_text : Bool → Farkas Fraction → List ℕ
+infeasible_text listed f =
+    codes "infeasible\n"
+    ++ bound_text f.bound
+    ++ plain_energy_text f.duals.energy
+    ++ plain_reserve_text listed f.duals.reserve
+    ++ flat_map limit_text f.duals.limits
+    ++ lines_of_rooms 0 f.duals.rooms
 
 -- ---- where numbers became too large
 abbrev pub op_text : Op → List ℕ
@@ -169,5 +218,5 @@ range_text p = codes "range " ++ op_text p.op ++ parts_text p.left ++ codes " " 
 -- the report of what a clear came to
 abbrev pub report_text : Parts → Outcome Fraction → List ℕ
 report_text m (outcome.Cleared a) = cleared_text m a
-report_text m (outcome.Infeasible f) = infeasible_text f
+report_text m (outcome.Infeasible f) = infeasible_text m.reserve.listed f
 report_text m (outcome.Range p) = range_text p

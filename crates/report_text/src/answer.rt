@@ -5,9 +5,11 @@ ghost use Rattle.report_text.specs.Reports.{side_text, alike, block_number, head
 ghost use Rattle.report_text.specs.Reports.{bus_text, block_text, own_of, own_text, unit_text, load_text};
 ghost use Rattle.report_text.specs.Reports.{lines_of_buses, lines_of_blocks, lines_of_units, lines_of_loads, cleared_text};
 ghost use Rattle.market_model.specs.Valued.{price_at, unit_pay_at, load_at, answer_at};
+ghost use Rattle.market_model.specs.Changes.{with_need};
 ghost use Rattle.market_model.specs.Fitting.{FitsMarket};
 
 use crate::limits::rent_lines;
+use crate::reserve::{need_line, offer_lines, room_lines};
 use exact_fraction::Exact;
 use line_text::Text;
 use market_model::{
@@ -183,21 +185,30 @@ fn head_lines<N: Exact>(text: &mut Text, answer: &Answer<N>) -> Result<(), Memor
     Ok(())
 }
 
-/// The report of a cleared market.
+/// The report of a cleared market with this need of reserve, in 10^-9 MW.
 pub fn cleared<N: Exact>(
     alloc: Global,
     market: &Market,
+    need: i64,
     answer: &Answer<N>,
 ) -> Result<Vec<u8>, Memory>
     requires { FitsMarket market.now answer.now }
-    ensures { IfOk result (λ bytes. bytes.items ≡ cleared_text market.now (answer_at N.value answer.now)) }
+    ensures { IfOk result (λ bytes. bytes.items ≡ cleared_text (with_need market.now need) (answer_at N.value answer.now)) }
 {
     let mut text = Text::new(alloc);
     head_lines(&mut text, answer)?;
+    need_line(
+        &mut text,
+        market.reserve().listed,
+        need,
+        answer.duals.reserve,
+    )?;
     bus_lines(&mut text, market, answer)?;
     block_lines(&mut text, market, answer)?;
     rent_lines(&mut text, answer)?;
+    room_lines(&mut text, &answer.duals.rooms, PRICE_PLACES)?;
     unit_lines(&mut text, market, answer)?;
+    offer_lines(&mut text, market, answer)?;
     load_lines(&mut text, market, answer)?;
     text.named(b"surplus ", answer.money.surplus, MONEY_PLACES)?;
     text.word(b"\n")?;

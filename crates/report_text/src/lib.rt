@@ -5,6 +5,7 @@ mod answer;
 pub mod laws;
 mod limits;
 mod outcome;
+mod reserve;
 
 pub use limits::row_words;
-pub use outcome::report;
+pub use outcome::{report, report_with_need};

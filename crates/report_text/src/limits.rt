@@ -13,7 +13,7 @@ use market_model::{
 };
 
 /// A row of the branch matrix, or of the gen matrix.
-fn row_number(text: &mut Text, row: u32) -> Result<(), Memory>
+pub fn row_number(text: &mut Text, row: u32) -> Result<(), Memory>
     ensures { IfOk result (λ _. text.new ≡ text.old ++ number_text row) }
 {
     text.number(row as usize)

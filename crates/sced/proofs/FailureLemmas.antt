@@ -137,8 +137,9 @@ module _ (files : Files) (name : List ℕ) where
   market-there names texts have (inl grid) = grid-there names.tables.grid texts.grid have.grid grid
   market-there names texts have (inr (inl same)) = optional-there _ names.tables.unit_outages texts.unit_outages same have.unit_outages
   market-there names texts have (inr (inr (inl same))) = here-as names.tables.offers texts.offers same have.offers
-  market-there names texts have (inr (inr (inr (inl same)))) = optional-there _ names.tables.offsets texts.offsets same have.offsets
-  market-there names texts have (inr (inr (inr (inr same)))) = optional-there _ names.tables.penalties texts.penalties same have.penalties
+  market-there names texts have (inr (inr (inr (inl same)))) = optional-there _ names.tables.reserves texts.reserves same have.reserves
+  market-there names texts have (inr (inr (inr (inr (inl same))))) = optional-there _ names.tables.offsets texts.offsets same have.offsets
+  market-there names texts have (inr (inr (inr (inr (inr same))))) = optional-there _ names.tables.penalties texts.penalties same have.penalties
 
   pool-there : (case offers : List ℕ) {told : Result Parts Refusal} → ArePoolFiles files case offers told → IsPoolFile case offers name → There files name
   pool-there case offers h (inl same) = here-as case h.case same h.case_is

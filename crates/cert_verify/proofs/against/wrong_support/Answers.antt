@@ -1,14 +1,77 @@
-use Rattle.std.proofs.Common.{◌∙◌, ap, map, length}
-use Rattle.market_model.specs.Optimality.{unit_price}
-use Rattle.market_model.specs.Valued.{dual_at}
-use Rattle.cert_verify.specs.Certificates.{named_duals}
+use Rattle.std.proofs.Common.{inr, ◌≡◌, ◌∙◌, [], ◌∷◌, List, ap, map, length, refl, sym, subst}
+use Rattle.std.specs.Option.{option_or}
+use Rattle.std.proofs.lemmas.Result.{err_from_is_err_and}
+use Rattle.market_model.specs.Dispatch.{dispatch_with}
+use Rattle.market_model.specs.Optimality.{energy_worth}
+use Rattle.market_model.specs.Valued.{dual_at, room_dual_at}
+use Rattle.cert_sums.specs.declared.pricing.NamedRow.{NamedRow}
+use Rattle.cert_sums.specs.declared.worths.NamedRoom.{NamedRoom}
+use Rattle.cert_sums.specs.Named.{AreNamed, AreNamedRooms}
+use Rattle.cert_verify.specs.Certificates.{all_duals}
+use Rattle.cert_verify.specs.Reasons.{first_of, reserve_support_reason}
 use Rattle.cert_verify.proofs.NamingLemmas.{counted}
+use Rattle.cert_verify.proofs.TestLemmas.{or_none}
 use Rattle.cert_verify.proofs.against.wrong_support.Goals as goal
 
-pub unsupported_block-requires-clause-prices : goal.unsupported_block-requires-clause-prices
-unsupported_block-requires-clause-prices g c =
-    let d = (named_duals (g.N.Exact.value c.args.energy) (map (dual_at g.N.Exact.value) c.args.limits.now)) in
-    ap length c.slice.ensures ∙ counted g.N.Exact.value (unit_price c.args.market.now d) c.in_ok-prices.prices (length c.args.market.now.units) c.in_ok-prices.ensures.prices
+pub energy_worths-requires : goal.energy_worths-requires
+energy_worths-requires g c =
+    let m = c.args.market.now in
+    let value = g.N.Exact.value in
+    let d = all_duals (value c.args.energy) (map (dual_at value) c.args.limits.now) (value c.args.price) (map (room_dual_at value) c.args.rooms.now) in
+    let rows = subst (λ (xs : List (NamedRow g.row.N.Denot)). AreNamed value m d xs) (sym c.slice.ensures) (c.in_ok-rows.ensures.rows (value c.args.energy) (value c.args.price)) in
+    (d, rows)
+
+pub returns-in_err-worths-clause-cause : goal.returns-in_err-worths-clause-cause
+returns-in_err-worths-clause-cause g c =
+    let m = c.args.market.now in
+    let value = g.N.Exact.value in
+    let d = all_duals (value c.args.energy) (map (dual_at value) c.args.limits.now) (value c.args.price) (map (room_dual_at value) c.args.rooms.now) in
+    let rows = subst (λ (xs : List (NamedRow g.row.N.Denot)). AreNamed value m d xs) (sym c.slice.ensures) (c.in_ok-rows.ensures.rows (value c.args.energy) (value c.args.price)) in
+    let rooms = subst (λ (xs : List (NamedRoom g.row.N.Denot)). AreNamedRooms value m d xs) (sym c.slice-2.ensures) (c.in_ok-rows.ensures.rooms (value c.args.energy) (value c.args.price)) in
+    let p = err_from_is_err_and c.from_residual-in_err-worths.result c.from_residual-in_err-worths.ensures.1 in
+    rw (p.1, p.2) (c.in_err-worths.ensures.cause d refl rows rooms)
+
+pub unsupported_block-requires-clause-worths : goal.unsupported_block-requires-clause-worths
+unsupported_block-requires-clause-worths g c =
+    let m = c.args.market.now in
+    let value = g.N.Exact.value in
+    let d = all_duals (value c.args.energy) (map (dual_at value) c.args.limits.now) (value c.args.price) (map (room_dual_at value) c.args.rooms.now) in
+    let rows = subst (λ (xs : List (NamedRow g.row.N.Denot)). AreNamed value m d xs) (sym c.slice.ensures) (c.in_ok-rows.ensures.rows (value c.args.energy) (value c.args.price)) in
+    let rooms = subst (λ (xs : List (NamedRoom g.row.N.Denot)). AreNamedRooms value m d xs) (sym c.slice-2.ensures) (c.in_ok-rows.ensures.rooms (value c.args.energy) (value c.args.price)) in
+    ap length c.slice-3.ensures ∙ counted value (energy_worth m d) c.in_ok-worths.worths (length m.units) (c.in_ok-worths.ensures.worths d refl rows rooms)
+
+pub returns-in-Some-clause-first : goal.returns-in-Some-clause-first
+returns-in-Some-clause-first g c =
+    let m = c.args.market.now in
+    let value = g.N.Exact.value in
+    let d = all_duals (value c.args.energy) (map (dual_at value) c.args.limits.now) (value c.args.price) (map (room_dual_at value) c.args.rooms.now) in
+    let rows = subst (λ (xs : List (NamedRow g.row.N.Denot)). AreNamed value m d xs) (sym c.slice.ensures) (c.in_ok-rows.ensures.rows (value c.args.energy) (value c.args.price)) in
+    let rooms = subst (λ (xs : List (NamedRoom g.row.N.Denot)). AreNamedRooms value m d xs) (sym c.slice-2.ensures) (c.in_ok-rows.ensures.rooms (value c.args.energy) (value c.args.price)) in
+    let worths = ap (map value) c.slice-3.ensures ∙ c.in_ok-worths.ensures.worths d refl rows rooms in
+    let rs = map value c.args.quantities.now in
+    let x = dispatch_with (map value c.args.blocks.now) rs in
+    sym (ap (λ o. option_or o (first_of (reserve_support_reason m x d ∷ []))) (sym (c.unsupported_block.ensures d rs worths) ∙ c.in-Some.is))
+
+pub returns-in_err-unsupported_offer-clause-cause : goal.returns-in_err-unsupported_offer-clause-cause
+returns-in_err-unsupported_offer-clause-cause g c =
+    let m = c.args.market.now in
+    let value = g.N.Exact.value in
+    let d = all_duals (value c.args.energy) (map (dual_at value) c.args.limits.now) (value c.args.price) (map (room_dual_at value) c.args.rooms.now) in
+    let named = subst (λ (xs : List (NamedRoom g.row.N.Denot)). AreNamedRooms value m d xs) (sym c.slice-4.ensures) (c.in_ok-rows.ensures.rooms (value c.args.energy) (value c.args.price)) in
+    let p = err_from_is_err_and c.from_residual-in_err-unsupported_offer.result c.from_residual-in_err-unsupported_offer.ensures.1 in
+    rw (p.1, p.2) (inr (c.in_err-unsupported_offer.ensures.cause d refl named))
 
 pub returns-clause-first : goal.returns-clause-first
-returns-clause-first g c = c.unsupported_block.ensures (named_duals (g.N.Exact.value c.args.energy) (map (dual_at g.N.Exact.value) c.args.limits.now)) (ap (map g.N.Exact.value) c.slice.ensures ∙ c.in_ok-prices.ensures.prices)
+returns-clause-first g c =
+    let m = c.args.market.now in
+    let value = g.N.Exact.value in
+    let d = all_duals (value c.args.energy) (map (dual_at value) c.args.limits.now) (value c.args.price) (map (room_dual_at value) c.args.rooms.now) in
+    let rows = subst (λ (xs : List (NamedRow g.row.N.Denot)). AreNamed value m d xs) (sym c.slice.ensures) (c.in_ok-rows.ensures.rows (value c.args.energy) (value c.args.price)) in
+    let rooms = subst (λ (xs : List (NamedRoom g.row.N.Denot)). AreNamedRooms value m d xs) (sym c.slice-2.ensures) (c.in_ok-rows.ensures.rooms (value c.args.energy) (value c.args.price)) in
+    let named = subst (λ (xs : List (NamedRoom g.row.N.Denot)). AreNamedRooms value m d xs) (sym c.slice-4.ensures) (c.in_ok-rows.ensures.rooms (value c.args.energy) (value c.args.price)) in
+    let worths = ap (map value) c.slice-3.ensures ∙ c.in_ok-worths.ensures.worths d refl rows rooms in
+    let xs = map value c.args.blocks.now in
+    let rs = map value c.args.quantities.now in
+    let x = dispatch_with xs rs in
+    sym (ap (λ o. option_or o (first_of (reserve_support_reason m x d ∷ []))) (sym (c.unsupported_block.ensures d rs worths) ∙ c.in_default.is)
+    ∙ or_none (reserve_support_reason m x d) ∙ sym (c.in_ok-unsupported_offer.ensures.first d xs refl named))

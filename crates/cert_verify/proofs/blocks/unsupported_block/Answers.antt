@@ -5,9 +5,9 @@ use Rattle.market_data.specs.Participants.{IsDatum}
 use Rattle.market_model.specs.declared.answered.Duals.{Duals}
 use Rattle.market_model.specs.declared.participants.Block.{Block}
 use Rattle.market_model.specs.declared.participants.Side.TheVariants.{Sell}
-use Rattle.market_model.specs.Dispatch.{accepted, block_at, places, quantity, zero}
-use Rattle.market_model.specs.Optimality.{price, unit_price}
-use Rattle.market_model.specs.PutIn.{dispatch_of, put_in}
+use Rattle.market_model.specs.Dispatch.{accepted, block_at, dispatch_by, dispatch_with, places, quantity, zero}
+use Rattle.market_model.specs.Optimality.{price, energy_worth}
+use Rattle.market_model.specs.PutIn.{put_in}
 use Rattle.market_model.proofs.MarketSums.{block_unit-in}
 use Rattle.market_model.proofs.PlaceLists.{filled_at, put_read}
 use Rattle.cert_verify.specs.declared.verdicts.Reason.TheVariants as reason
@@ -35,39 +35,37 @@ returns-then-breaks_support g c =
     let m = c.args.market.now in
     let k = c.loop-at.at in
     let value = g.N.Exact.value in
-    let x = dispatch_of value c.args.blocks.now in
     let blocks = c.slice-block-items.ensures ∙ c.blocks-2.ensures.list in
     let read = ap (λ (bs : List Block). slice_index_or bs k (record { unit = 0; side = Sell; quantity = pos 0; price = pos 0 })) blocks in
     let inside : k < length m.blocks = omega (arith, c.loop-at-test.true, ap length blocks) in
     let none : Block = record { unit = 0; side = Sell; quantity = pos 0; price = pos 0 } in
     let unit = subst (λ (bs : List Block). (slice_index_or bs k none).unit < length m.units) (sym blocks) (c.units-units.ensures.market.blocks k none inside).unit in
-    let at_unit : (slice_index_or c.slice-block-items.result.now k none).unit < length c.args.prices.now = omega (arith, c.requires.prices, unit) in
-    let here = λ (d : Duals Fraction) (all : map value c.args.prices.now ≡ map (unit_price m d) (places (length m.units))).
-    support_same _ (block_at m k).side (value c.block_price.result) (price m k) (value c.index-prices-block.result) (unit_price m d (block_at m k).unit) (value c.block_quantity.result) (quantity m k) (value c.index-blocks-at.result) (accepted x k)
+    let at_unit : (slice_index_or c.slice-block-items.result.now k none).unit < length c.args.worths.now = omega (arith, c.requires.worths, unit) in
+    let here = λ (d : Duals Fraction) (all : map value c.args.worths.now ≡ map (energy_worth m d) (places (length m.units))).
+    support_same _ (block_at m k).side (value c.block_price.result) (price m k) (value c.index-worths-block.result) (energy_worth m d (block_at m k).unit) (value c.block_quantity.result) (quantity m k) (value c.index-blocks-at.result) (accepted (dispatch_by (map value c.args.blocks.now)) k)
     (ap (λ (b : Block). b.side) read) (c.block_price.ensures ∙ ap (λ (b : Block). whole b.price) read)
-    (put_read value c.args.prices.now _ c.index-prices-block.result at_unit c.index-prices-block.is ∙ ap (λ (b : Block). put_in (map value c.args.prices.now) b.unit) read
-    ∙ filled_at (unit_price m d) (map value c.args.prices.now) (length m.units) zero all (block_at m k).unit (block_unit-in m c.units-units.ensures.market k inside))
+    (put_read value c.args.worths.now _ c.index-worths-block.result at_unit c.index-worths-block.is ∙ ap (λ (b : Block). put_in (map value c.args.worths.now) b.unit) read
+    ∙ filled_at (energy_worth m d) (map value c.args.worths.now) (length m.units) zero all (block_at m k).unit (block_unit-in m c.units-units.ensures.market k inside))
     (c.block_quantity.ensures ∙ ap (λ (b : Block). whole b.quantity) read)
     (put_read value c.args.blocks.now k c.index-blocks-at.result (omega (arith, inside, c.requires.blocks)) c.index-blocks-at.is) in
-    λ d all. place_here (λ (j : ℕ). reason.Support (j + 1)) (is_unsupported m x d) (length m.blocks) k (c.loop-at.invariant d all) inside (sym (here d all) ∙ sym c.breaks_support.ensures ∙ c.if-breaks_support.true)
+    λ d reserve all. let x = dispatch_with (map value c.args.blocks.now) reserve in place_here (λ (j : ℕ). reason.Support (j + 1)) (is_unsupported m x d) (length m.blocks) k (c.loop-at.invariant d reserve all) inside (sym (here d all) ∙ sym c.breaks_support.ensures ∙ c.if-breaks_support.true)
 
 pub loop-at-preserved : goal.loop-at-preserved
 loop-at-preserved g c =
     let m = c.args.market.now in
     let k = c.loop-at.at in
     let value = g.N.Exact.value in
-    let x = dispatch_of value c.args.blocks.now in
     let blocks = c.slice-block-items.ensures ∙ c.blocks-2.ensures.list in
     let read = ap (λ (bs : List Block). slice_index_or bs k (record { unit = 0; side = Sell; quantity = pos 0; price = pos 0 })) blocks in
     let inside : k < length m.blocks = omega (arith, c.loop-at-test.true, ap length blocks) in
     let none : Block = record { unit = 0; side = Sell; quantity = pos 0; price = pos 0 } in
     let unit = subst (λ (bs : List Block). (slice_index_or bs k none).unit < length m.units) (sym blocks) (c.units-units.ensures.market.blocks k none inside).unit in
-    let at_unit : (slice_index_or c.slice-block-items.result.now k none).unit < length c.args.prices.now = omega (arith, c.requires.prices, unit) in
-    let here = λ (d : Duals Fraction) (all : map value c.args.prices.now ≡ map (unit_price m d) (places (length m.units))).
-    support_same _ (block_at m k).side (value c.block_price.result) (price m k) (value c.index-prices-block.result) (unit_price m d (block_at m k).unit) (value c.block_quantity.result) (quantity m k) (value c.index-blocks-at.result) (accepted x k)
+    let at_unit : (slice_index_or c.slice-block-items.result.now k none).unit < length c.args.worths.now = omega (arith, c.requires.worths, unit) in
+    let here = λ (d : Duals Fraction) (all : map value c.args.worths.now ≡ map (energy_worth m d) (places (length m.units))).
+    support_same _ (block_at m k).side (value c.block_price.result) (price m k) (value c.index-worths-block.result) (energy_worth m d (block_at m k).unit) (value c.block_quantity.result) (quantity m k) (value c.index-blocks-at.result) (accepted (dispatch_by (map value c.args.blocks.now)) k)
     (ap (λ (b : Block). b.side) read) (c.block_price.ensures ∙ ap (λ (b : Block). whole b.price) read)
-    (put_read value c.args.prices.now _ c.index-prices-block.result at_unit c.index-prices-block.is ∙ ap (λ (b : Block). put_in (map value c.args.prices.now) b.unit) read
-    ∙ filled_at (unit_price m d) (map value c.args.prices.now) (length m.units) zero all (block_at m k).unit (block_unit-in m c.units-units.ensures.market k inside))
+    (put_read value c.args.worths.now _ c.index-worths-block.result at_unit c.index-worths-block.is ∙ ap (λ (b : Block). put_in (map value c.args.worths.now) b.unit) read
+    ∙ filled_at (energy_worth m d) (map value c.args.worths.now) (length m.units) zero all (block_at m k).unit (block_unit-in m c.units-units.ensures.market k inside))
     (c.block_quantity.ensures ∙ ap (λ (b : Block). whole b.quantity) read)
     (put_read value c.args.blocks.now k c.index-blocks-at.result (omega (arith, inside, c.requires.blocks)) c.index-blocks-at.is) in
-    λ d all. place_more (λ (j : ℕ). reason.Support (j + 1)) (is_unsupported m x d) k (c.loop-at.invariant d all) (sym (here d all) ∙ sym c.breaks_support.ensures ∙ c.if-breaks_support.false)
+    λ d reserve all. let x = dispatch_with (map value c.args.blocks.now) reserve in place_more (λ (j : ℕ). reason.Support (j + 1)) (is_unsupported m x d) k (c.loop-at.invariant d reserve all) (sym (here d all) ∙ sym c.breaks_support.ensures ∙ c.if-breaks_support.false)

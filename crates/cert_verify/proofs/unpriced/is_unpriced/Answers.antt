@@ -1,11 +1,10 @@
-use Rattle.std.proofs.Common.{rules, Err, ◌≡◌, ◌∙◌, ap, ap₂, map, sym, w64}
+use Rattle.std.proofs.Common.{rules, Err, ◌≡◌, ◌∙◌, [], ap, ap₂, map, sym, w64}
 use Rattle.std.proofs.lemmas.Int.{to_z-of_z}
 use mir.Val.{to_z, of_z}
 use Rattle.fraction_theory.specs.Fraction.{Fraction, whole}
 use Rattle.market_model.specs.Dispatch.{zero}
-use Rattle.market_model.specs.Valued.{dual_at, passed_at}
+use Rattle.market_model.specs.Valued.{dual_at, energy_duals, passed_at}
 use Rattle.cert_sums.proofs.CarriedLemmas.{flow_there, refused_there}
-use Rattle.cert_verify.specs.Certificates.{named_duals}
 use Rattle.cert_verify.specs.Reasons.{passes}
 use Rattle.cert_verify.proofs.NamingLemmas.{names_by}
 use Rattle.cert_verify.proofs.RowLemmas.{unpriced_free, unpriced_hard, unpriced_named}
@@ -19,7 +18,7 @@ pub returns-then-is_some-clause-unpriced : goal.returns-then-is_some-clause-unpr
 returns-then-is_some-clause-unpriced g c = λ x ds are is.
     let m = c.args.market.now in
     let limits = map (dual_at g.N.Exact.value) ds in
-    let named = names_by g.N.Exact.value m (named_duals zero limits) c.args.row c.named_at.result (c.named_at.ensures ds zero is) in
+    let named = names_by g.N.Exact.value m (energy_duals zero limits) c.args.row c.named_at.result (c.named_at.ensures ds zero zero [] is) in
     sym (unpriced_named m x limits c.args.row (named ∙ sym c.is_some.ensures ∙ c.if-is_some.true))
 
 pub returns-in_err-flow-clause-cause : goal.returns-in_err-flow-clause-cause
@@ -33,7 +32,7 @@ returns-clause-unpriced g c = λ x ds are is.
     let value = g.N.Exact.value in
     let limits = map (dual_at value) ds in
     let known : to_z w64 (of_z w64 c.limit_at.result) ≡ c.limit_at.result = to_z-of_z w64 c.limit_at.result (record { sfits = c.limit_at.type_inv }) in
-    let named = names_by value m (named_duals zero limits) c.args.row c.named_at.result (c.named_at.ensures ds zero is) in
+    let named = names_by value m (energy_duals zero limits) c.args.row c.named_at.result (c.named_at.ensures ds zero zero [] is) in
     c.passes.ensures
     ∙ ap₂ (λ (f l : Fraction). passes f l)
     (c.in_ok-flow.ensures.flow ∙ flow_there m x (map value c.args.carried.now) are c.args.row c.requires.line c.requires.lost) (c.datum.ensures ∙ ap whole known ∙ c.limit_at.ensures.limit)

@@ -1,12 +1,13 @@
 use Rattle.std.proofs.Common.{rules, ◌≡◌, ◌∙◌, None, ap, map, ℕ, sym, subst}
 use Rattle.std.proofs.lemmas.Result.{err_from_is_err_and}
+use Rattle.std.specs.Prelude.{option_map}
 use Rattle.fraction_theory.specs.Fraction.{Fraction}
 use Rattle.market_model.specs.declared.participants.Parts.{Parts}
 use Rattle.market_model.specs.declared.stops.Stop.{Stop}
 use Rattle.market_model.specs.declared.stops.Stop.TheVariants as stop
 use Rattle.market_model.specs.Stops.{StopsBy}
 use Rattle.market_model.specs.Valued.{dual_at, passed_at}
-use Rattle.cert_format.specs.Certificates.{cert_at, places_of}
+use Rattle.cert_format.specs.Certificates.{cert_at, cleared_reserve_at, places_of, reserve_duals_at}
 use Rattle.cert_format.specs.declared.certificate.Cert.{Cert}
 use Rattle.cert_format.specs.declared.certificate.Cert.TheVariants.{Optimal, Farkas}
 use Rattle.cert_verify.specs.Stops.{IsKindStop, IsVerifyStop, told_stop}
@@ -23,7 +24,7 @@ pub returns-in_err-reason-in-Optimal-clause-cause : goal.returns-in_err-reason-i
 returns-in_err-reason-in-Optimal-clause-cause g c =
     let value = g.N.Exact.value in
     let p = err_from_is_err_and c.from_residual.result c.from_residual.ensures.1 in
-    let same : cert_at value c.args.cert.now ≡ Optimal (map value c.slice.result.now) (value c.in-Optimal.energy) (map (dual_at value) c.slice-in-Optimal.result.now) c.in-Optimal.places = search rules in
+    let same : cert_at value c.args.cert.now ≡ Optimal (map value c.slice.result.now) (value c.in-Optimal.energy) (map (dual_at value) c.slice-in-Optimal.result.now) c.in-Optimal.places (option_map (cleared_reserve_at value) c.in-Optimal.reserve) = search rules in
     let seen : places_reason c.args.market.now (places_of c.args.cert.now) ≡ None = ap (places_reason c.args.market.now) (sym c.places.ensures) ∙ sym c.other_places.ensures ∙ c.in_default.is in
     let places = places_at value c.args.cert.now ∙ places_to c.args.market.now (places_of c.args.cert.now) seen in
     rw (p.1, p.2)
@@ -33,7 +34,7 @@ pub returns-in_err-reason-in-Farkas-clause-cause : goal.returns-in_err-reason-in
 returns-in_err-reason-in-Farkas-clause-cause g c =
     let value = g.N.Exact.value in
     let p = err_from_is_err_and c.from_residual-in_err-reason-in-Farkas.result c.from_residual-in_err-reason-in-Farkas.ensures.1 in
-    let same : cert_at value c.args.cert.now ≡ Farkas (value c.in-Farkas.energy) (map (dual_at value) c.slice-in-Farkas.result.now) c.in-Farkas.places = search rules in
+    let same : cert_at value c.args.cert.now ≡ Farkas (value c.in-Farkas.energy) (map (dual_at value) c.slice-in-Farkas.result.now) c.in-Farkas.places (option_map (reserve_duals_at value) c.in-Farkas.reserve) = search rules in
     let seen : places_reason c.args.market.now (places_of c.args.cert.now) ≡ None = ap (places_reason c.args.market.now) (sym c.places.ensures) ∙ sym c.other_places.ensures ∙ c.in_default.is in
     let places = places_at value c.args.cert.now ∙ places_to c.args.market.now (places_of c.args.cert.now) seen in
     rw (p.1, p.2)

@@ -1,4 +1,4 @@
-use Rattle.std.proofs.Common.{◌≡◌, [], ◌∷◌, ap, sym, subst, w64}
+use Rattle.std.proofs.Common.{◌≡◌, [], ◌∷◌, sym, subst, w64}
 use Rattle.std.proofs.lemmas.Int.{to_z-of_z}
 use Rattle.std.proofs.lemmas.Result.{IfOk-weaker}
 use Rattle.market_model.specs.declared.participants.Parts.{Parts}
@@ -33,8 +33,4 @@ returns c =
       to_z-of_z w64 price c.ranges.price,
       to_z-of_z w64 excess c.ranges.excess,
     ) at c.assemble.ensures in
-    record {
-      named = IfOk-weaker c.assemble.result (λ (m : Parts). m ≡ worked price excess) _
-          (λ m e. (base_row ∷ [], subst (λ (p : Parts). AreNamesOf p (base_row ∷ []) (record { branch = 2; outage = 0; unit = 0 } ∷ [])) (sym e) named)) same;
-      energy_alone = IfOk-weaker c.assemble.result (λ (m : Parts). m ≡ worked price excess) _ (λ m e. ap (λ (p : Parts). p.reserve.listed) e) same;
-    }
+    IfOk-weaker c.assemble.result (λ (m : Parts). m ≡ worked price excess) _ (λ m e. (base_row ∷ [], subst (λ (p : Parts). AreNamesOf p (base_row ∷ []) (record { branch = 2; outage = 0; unit = 0 } ∷ [])) (sym e) named)) same

@@ -12,7 +12,8 @@ returns-clause-app c =
     let lodf = c.in_ok-command-4.ensures.app ∙ ap (λ a. with_table a (codes "lodf")) offers in
     let contingencies = c.in_ok-command-5.ensures.app ∙ ap (λ a. with_table a (codes "contingencies")) lodf in
     let unit_outages = c.in_ok-command-6.ensures.app ∙ ap (λ a. with_table a (codes "unit-outages")) contingencies in
-    let offsets = c.in_ok-command-7.ensures.app ∙ ap (λ a. with_table a (codes "offsets")) unit_outages in
-    let penalties = c.in_ok-command-8.ensures.app ∙ ap (λ a. with_table a (codes "penalties")) offsets in
-    let rating = c.in_ok-command-9.ensures.shape c.choice_option.ensures.local ∙ ap₂ with_rule penalties c.choice_option.ensures.rule in
+    let reserves = c.in_ok-command-7.ensures.app ∙ ap (λ a. with_table a (codes "reserves")) unit_outages in
+    let offsets = c.in_ok-command-8.ensures.app ∙ ap (λ a. with_table a (codes "offsets")) reserves in
+    let penalties = c.in_ok-command-9.ensures.app ∙ ap (λ a. with_table a (codes "penalties")) offsets in
+    let rating = c.in_ok-command-10.ensures.shape c.choice_option.ensures.local ∙ ap₂ with_rule penalties c.choice_option.ensures.rule in
     IfOk-weaker c.with_places.result _ _ (λ r h. h ∙ ap (λ a. with_places a c.args.places) rating) c.with_places.ensures.app

@@ -1,5 +1,7 @@
-use Rattle.std.proofs.Common.{◌≡◌, ◌∙◌, ap, Ok, Err, rules, subst, sym}
+use Rattle.std.proofs.Common.{◌≡◌, ◌∙◌, Ok, Err, rules, subst, sym}
+use Rattle.std.specs.Prelude.{◌↔◌}
 use Rattle.market_model.specs.Market.{IsMarket}
+use Rattle.market_model.specs.Reserves.{no_reserve}
 use Rattle.market_tables.specs.Tables.{tables_lent}
 use Rattle.market_model.specs.declared.participants.Parts.{Parts}
 use Rattle.market_inputs.specs.Cases.{IsReadNetwork}
@@ -7,6 +9,7 @@ use Rattle.market_inputs.specs.Clearing.{AreMarketParts, IsClearMarket}
 use Rattle.market_inputs.specs.Files.{sized_tables}
 use Rattle.market_inputs.specs.Steps.{Then}
 use Rattle.market_inputs.specs.Stops.{IsToldAs}
+use Rattle.market_inputs.specs.Tables.{ListsNoReserve}
 use Rattle.market_inputs.proofs.ClearLemmas.{market-read}
 use Rattle.market_inputs.proofs.StepLemmas.{goes-on, made-then, stops, told-as}
 use Rattle.market_inputs.proofs.clearing.clear_market.Goals as goal
@@ -45,4 +48,5 @@ pub returns-clause-kept : goal.returns-clause-kept
 returns-clause-kept c = subst IsMarket (sym c.in_ok-assemble.ensures) c.in_ok-parts.ensures.kept
 
 pub returns-clause-energy_alone : goal.returns-clause-energy_alone
-returns-clause-energy_alone c = ap (λ (m : Parts). m.reserve) c.in_ok-assemble.ensures ∙ c.in_ok-parts.ensures.energy_alone
+returns-clause-energy_alone c =
+    subst (λ (m : Parts). (m.reserve ≡ no_reserve) ↔ ListsNoReserve c.args.bytes.now.reserves.now) (sym c.in_ok-assemble.ensures) c.in_ok-parts.ensures.energy_alone

@@ -19,7 +19,7 @@ returns-in_err-dict-clause-clear g c =
     let p = err_from_is_err_and c.from_residual-in_err-dict.result c.from_residual-in_err-dict.ensures.1 in
     let given : c.from_residual-in_err-dict.result ≡ Err (fault_of c.in_err-dict.field-0.0) = p.1 ∙ ap Err p.2 in
     rw given
-    (stopped_clear value g.N.Exact.bound m (c.lines-lines.ensures.market.reserve.unlisted c.requires.energy_alone) before.taken.rows c.replace-before.new.dest.taken.rows (start_rows m before.taken before.dict c.requires.frame) c.in_err-dict.field-0.0
+    (stopped_clear value g.N.Exact.bound m before.taken.rows c.replace-before.new.dest.taken.rows (start_rows m before.taken before.dict c.requires.frame) c.in_err-dict.field-0.0
     (ap (λ (k : Kept). k.taken.rows) (c.replace-before.ensures.after ∙ c.unused.ensures)) (subst (λ rs. StopsInRange value g.N.Exact.bound m rs c.in_err-dict.field-0.0) first c.in_err-dict.ensures.cause))
 
 pub returns-in_err-hand-clause-clear : goal.returns-in_err-hand-clause-clear
@@ -32,7 +32,7 @@ returns-in_err-hand-clause-clear g c =
     let p = err_from_is_err_and c.from_residual.result c.from_residual.ensures.1 in
     let given : c.from_residual.result ≡ Err (fault_of c.in_err-hand.field-0.0) = p.1 ∙ ap Err p.2 in
     rw given
-    (stopped_clear value g.N.Exact.bound m (c.lines-lines.ensures.market.reserve.unlisted c.requires.energy_alone) before.taken.rows c.replace-before.new.dest.taken.rows (start_rows m before.taken before.dict c.requires.frame) c.in_err-hand.field-0.0
+    (stopped_clear value g.N.Exact.bound m before.taken.rows c.replace-before.new.dest.taken.rows (start_rows m before.taken before.dict c.requires.frame) c.in_err-hand.field-0.0
     (ap (λ (k : Kept). k.taken.rows) (c.replace-before.ensures.after ∙ c.unused.ensures)) (subst (λ rs. StopsInRange value g.N.Exact.bound m rs c.in_err-hand.field-0.0) first c.in_err-hand.ensures.cause))
 
 pub returns-in_err-dict-clause-kept : goal.returns-in_err-dict-clause-kept
@@ -47,7 +47,7 @@ returns-in-Ok-clause-clear g c =
     let before : Kept = c.args.self.now in
     let first : limits_of c.in_ok-hand.hand.taken.takings ≡ before.taken.rows =
     ap (λ (t : Taken). limits_of t.takings) (c.in_ok-hand.ensures.taken ∙ ap (λ (k : Kept). k.taken) c.replace-before.ensures.value) ∙ sym (start_listed m before.taken before.dict c.requires.frame).rows in
-    answered_clear g.N.Exact.value g.N.Exact.bound m (c.lines-lines.ensures.market.reserve.unlisted c.requires.energy_alone) before.taken.rows c.keeping.result.taken.rows (start_rows m before.taken before.dict c.requires.frame) c.in_ok-dict.field-0 c.in_ok-dict.ensures.ended
+    answered_clear g.N.Exact.value g.N.Exact.bound m before.taken.rows c.keeping.result.taken.rows (start_rows m before.taken before.dict c.requires.frame) c.in_ok-dict.field-0 c.in_ok-dict.ensures.ended
     (subst (λ rs. Growth m rs (limits_of c.in_ok-dict.field-0.taken.takings)) first c.in_ok-dict.ensures.taken) (ap (λ (k : Kept). k.taken.rows) c.keeping.ensures ∙ c.in_ok-dict.ensures.ended.listed.rows) c.in-Ok.answer c.in-Ok.is
 
 pub returns-in-Err-clause-clear : goal.returns-in-Err-clause-clear
@@ -56,5 +56,5 @@ returns-in-Err-clause-clear g c =
     let before : Kept = c.args.self.now in
     let first : limits_of c.in_ok-hand.hand.taken.takings ≡ before.taken.rows =
     ap (λ (t : Taken). limits_of t.takings) (c.in_ok-hand.ensures.taken ∙ ap (λ (k : Kept). k.taken) c.replace-before.ensures.value) ∙ sym (start_listed m before.taken before.dict c.requires.frame).rows in
-    infeasible_clear g.N.Exact.value g.N.Exact.bound m (c.lines-lines.ensures.market.reserve.unlisted c.requires.energy_alone) before.taken.rows c.keeping.result.taken.rows (start_rows m before.taken before.dict c.requires.frame) c.in_ok-dict.field-0 c.in_ok-dict.ensures.ended
+    infeasible_clear g.N.Exact.value g.N.Exact.bound m before.taken.rows c.keeping.result.taken.rows (start_rows m before.taken before.dict c.requires.frame) c.in_ok-dict.field-0 c.in_ok-dict.ensures.ended
     (subst (λ rs. Growth m rs (limits_of c.in_ok-dict.field-0.taken.takings)) first c.in_ok-dict.ensures.taken) (ap (λ (k : Kept). k.taken.rows) c.keeping.ensures ∙ c.in_ok-dict.ensures.ended.listed.rows) c.in-Err.farkas c.in-Err.is

@@ -1,5 +1,3 @@
-use Rattle.std.proofs.Common.{ap, sym, ◌∙◌}
-use Rattle.market_model.specs.declared.participants.Parts.{Parts}
 use Rattle.offer_book.specs.Edits.{step_of}
 use Rattle.offer_book.proofs.FrameOfEdits.{law_of_the_edited_frame}
 use Rattle.clear_loop.proofs.FrameLemmas.{law_of_the_start}
@@ -10,7 +8,4 @@ pub invariant_of-self : goal.invariant_of-self
 invariant_of-self g c =
     let m = c.self.inside.market in
     rw c.edit.ensures.changed
-    (let same = law_of_the_edited_frame m c.args.asked.now in (
-      law_of_the_start m (step_of m c.args.asked.now) c.self.inside.clearer same c.self.invariant.0,
-      sym (ap (λ (p : Parts). p.reserve.listed) same) ∙ c.self.invariant.1,
-    ))
+    (law_of_the_start m (step_of m c.args.asked.now) c.self.inside.clearer (law_of_the_edited_frame m c.args.asked.now) c.self.invariant)
