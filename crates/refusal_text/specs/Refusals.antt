@@ -156,6 +156,7 @@ key_name key.Energy = codes "energy"
 key_name key.Blocks = codes "blocks"
 key_name key.Limits = codes "limits"
 key_name key.Places = codes "places"
+key_name key.Reserve = codes "reserve"
 key_name key.Extra = codes "extra"
 
 abbrev pub input_name : Input → List ℕ

@@ -358,6 +358,7 @@ fn key_word(key: Key) -> &'static [u8]
         Key::Blocks => b"blocks",
         Key::Limits => b"limits",
         Key::Places => b"places",
+        Key::Reserve => b"reserve",
         Key::Extra => b"extra",
     }
 }
