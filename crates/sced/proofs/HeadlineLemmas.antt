@@ -1,18 +1,22 @@
 -- The laws of every run.
-use Rattle.std.specs.Prelude.{◌≡◌, ◌≢◌, ◌⊎◌, ℕ, Bool, true, false, if◌then◌else◌, List, [], ◌∷◌, ◌++◌, Option, Some, None, Ok, Err, Result, codes, length, nat_lt, option_and_then, option_map, unwrap_or}
+use Rattle.std.specs.Prelude.{◌≡◌, ◌≢◌, ◌⊎◌, ℕ, Bool, true, false, if◌then◌else◌, List, [], ◌∷◌, ◌++◌, Option, Some, None, Ok, Err, Result, codes, length, map, nat_lt, option_and_then, option_map, unwrap_or}
 use Rattle.std.proofs.Common.{inl, inr, refl, sym, subst, ap, ◌∙◌}
-use Rattle.fraction_theory.specs.Fraction.{Fraction}
+use Rattle.fraction_theory.specs.Fraction.{Fraction, ◌+ℚ◌}
+use Rattle.fraction_theory.specs.Sums.{sum_by}
 use Rattle.exact_fraction.specs.declared.Passed.{Passed}
 use Rattle.outside_store.specs.Files.{Files, SameFiles}
 use Rattle.market_model.specs.declared.answered.Answer.{Answer}
 use Rattle.market_model.specs.declared.answered.Outcome.{Outcome}
 use Rattle.market_model.specs.declared.answered.Outcome.TheVariants as outcome
+use Rattle.market_model.specs.declared.answered.ReservePay.{ReservePay}
 use Rattle.market_model.specs.declared.participants.Parts.{Parts}
 use Rattle.market_model.specs.declared.participants.TransmissionRight.{TransmissionRight}
 use Rattle.rights_test.specs.declared.right_parts.Fit.TheVariants as fit
+use Rattle.market_model.specs.Laws.{LawOfTheReserve}
 use Rattle.market_model.specs.Market.{IsMarket}
+use Rattle.market_model.specs.Reserves.{offer_places}
 use Rattle.market_model.specs.RightAnswers.{IsRight, dispatch_in}
-use Rattle.market_model.specs.Settlement.{surplus}
+use Rattle.market_model.specs.Settlement.{pay_of_reserve, surplus}
 use Rattle.market_model.proofs.FarkasLaw.{law_of_infeasibility}
 use Rattle.market_model.proofs.Optimum.{law_of_the_optimum, law_of_the_surplus}
 use Rattle.market_system.specs.WorkingPairs.{IsRangeOf}
@@ -77,13 +81,20 @@ use Rattle.sced.proofs.FailureLemmas.{silent-or}
 use Rattle.sced.proofs.RunLemmas.{IsPrinted, cleared-at, edit-at, printed, refused-at, refused-status, reported}
 
 -- ---- cleared and infeasible
-pub right-best : (m : Parts) (a : Answer Fraction) → IsMarket m → IsRight m a → HasGreatestWelfare m (dispatch_in a) × IsPriced m a
+-- a sum over what is made of each
+sum_by-map : {S T : Type 0} (f : T → Fraction) (g : S → T) (xs : List S) → sum_by f (map g xs) ≡ sum_by (λ x. f (g x)) xs
+sum_by-map f g [] = refl
+sum_by-map f g (x ∷ xs) = ap (λ t. f (g x) +ℚ t) (sum_by-map f g xs)
+
+pub right-best : LawOfTheReserve → (m : Parts) (a : Answer Fraction) → IsMarket m → IsRight m a → HasGreatestWelfare m (dispatch_in a) × IsPriced m a
 unfolding surplus
-right-best m a market right = (
+right-best law_of_reserve m a market right = (
   record {
     offered = right.feasible.blocks;
     balances = right.feasible.balanced;
     within = right.feasible.limits;
+    need = right.feasible.need;
+    rooms = right.feasible.rooms;
     greatest = λ y feasible. law_of_the_optimum m a.duals (dispatch_in a) y market right.feasible right.supported feasible;
   },
   record {
@@ -93,13 +104,16 @@ right-best m a market right = (
     worth = ap (λ (b : Answer Fraction). b.welfare) right.made;
     money = ap (λ (b : Answer Fraction). b.money) right.made;
     surplus = ap (λ (b : Answer Fraction). b.money.surplus) right.made ∙ law_of_the_surplus m a.duals (dispatch_in a) market right.feasible right.supported;
+    reserve_paid = ap (λ (b : Answer Fraction). sum_by (λ (p : ReservePay Fraction). p.paid) b.money.reserve) right.made
+        ∙ sum_by-map (λ (p : ReservePay Fraction). p.paid) (pay_of_reserve (dispatch_in a) a.duals) (offer_places m)
+        ∙ law_of_reserve m a.duals (dispatch_in a) market right.feasible right.supported;
   },
 )
 
-pub law_of_cleared : LawOfCleared
-law_of_cleared words files text s m a place prints reports =
+pub law_of_cleared : LawOfTheReserve → LawOfCleared
+law_of_cleared law_of_reserve words files text s m a place prints reports =
     let is = reported words files text s m (outcome.Cleared a) place _ (printed words files text s prints) reports in
-    right-best m a is.market is.right
+    right-best law_of_reserve m a is.market is.right
 
 pub law_of_infeasible : LawOfInfeasible
 law_of_infeasible words files text s m f place prints reports =
@@ -528,19 +542,19 @@ ring-answer : (bound buses seed : ℕ) (t : Telling) → MakesTo bound buses see
 ring-answer bound buses seed t (making.cleared a market right is) = inl (a, market, right, is)
 ring-answer bound buses seed t (making.passed q pair within is) = inr (q, pair, within, is)
 
-ring-made : (buses seed : ℕ) (t : Telling) (text : List ℕ) (s : Status) → t.text ≡ text → t.status ≡ s
+ring-made : LawOfTheReserve → (buses seed : ℕ) (t : Telling) (text : List ℕ) (s : Status) → t.text ≡ text → t.status ≡ s
     → ((a : Answer Fraction) × IsMarket (ring_of buses seed) × IsRight (ring_of buses seed) a × (t ≡ uncertified status.Done (making.ring_line buses seed ++ making.summary a)))
     ⊎ ((p : Passed Fraction) × IsRangeOf (ring_of buses seed) [] most_size p × ArePassedWithin most_size p × (t ≡ uncertified status.Range (making.ring_line buses seed ++ range_text p))) → IsMade buses seed text s
-ring-made buses seed t text s words ends (inl (a, market, right, is)) =
-    let best = right-best (ring_of buses seed) a market right in
+ring-made law_of_reserve buses seed t text s words ends (inl (a, market, right, is)) =
+    let best = right-best law_of_reserve (ring_of buses seed) a market right in
     subst (IsMade buses seed text) (sym (ap (λ (x : Telling). x.status) is) ∙ ends) (cleared_ring a best.0 best.1 (sym words ∙ ap (λ (x : Telling). x.text) is))
-ring-made buses seed t text s words ends (inr (p, pair, within, is)) =
+ring-made law_of_reserve buses seed t text s words ends (inr (p, pair, within, is)) =
     subst (IsMade buses seed text) (sym (ap (λ (x : Telling). x.status) is) ∙ ends) (range_ring p pair within (sym words ∙ ap (λ (x : Telling). x.text) is))
 
-pub law_of_make : LawOfMake
-law_of_make words files text s buses seed prints asks =
+pub law_of_make : LawOfTheReserve → LawOfMake
+law_of_make law_of_reserve words files text s buses seed prints asks =
     let p = printed words files text s prints in
-    ring-made buses seed p.telling text s p.text_is p.status_is (ring-answer most_size buses seed p.telling (make-told (Some files) words p.telling buses seed asks p.written p.answers))
+    ring-made law_of_reserve buses seed p.telling text s p.text_is p.status_is (ring-answer most_size buses seed p.telling (make-told (Some files) words p.telling buses seed asks p.written p.answers))
 
 -- ---- outside
 -- each file that is written is one of these
