@@ -5,8 +5,6 @@ use command_answers::Status;
 use std::process::Abort;
 use std::test::Fail;
 
-const HEADER: &str = "kind,unit,mw,price\n";
-
 /// Unit 1 offers 50 at 2 and unit 2 offers 50 at 5, of which 60 are needed.
 const RESERVES: &str = "offer,1,50,2\noffer,2,50,5\nneed,,60,\n";
 
@@ -47,7 +45,7 @@ fn expect_reserve<R: Abort + AllocGlobal>(
     want: Want<'_>,
 ) -> Result<(), Fail> {
     let case = case(rt, BUSES, UNITS, "0 0 0 0 0")?;
-    let table = format!(in rt.alloc(); "{HEADER}{records}")?;
+    let table = format!(in rt.alloc(); "kind,unit,mw,price\n{records}")?;
     let line = format!(in rt.alloc();
         "sced {words} --case case.m --ptdf shift.csv --offers offers.csv"
     )?;
