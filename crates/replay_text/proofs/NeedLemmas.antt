@@ -2,7 +2,7 @@
 use Rattle.std.specs.Prelude.{◌≡◌, ℕ, ℤ, pos, Bool, true, false, Option, Some, None, is_some, if◌then◌else◌, refl}
 use Rattle.std.specs.Int.Signed.{lt_z}
 use Rattle.std.specs.Option.{option_map_or}
-use Rattle.std.proofs.Common.{ap, sym, subst, ◌∙◌}
+use Rattle.std.proofs.Common.{ap, sym, ◌∙◌}
 use Rattle.market_model.specs.declared.participants.Parts.{Parts}
 use Rattle.market_model.specs.Changes.{with_demand, with_limit, with_need, with_price, with_quantity}
 use Rattle.market_model.specs.Frame.{SameFrame}
@@ -23,14 +23,14 @@ kept m changed each false None = refl
 kept m changed each false (Some j) = each j
 
 -- an edit of something else than the need
-abbrev pub IsOther : Edit → Type 0
+abbrev IsOther : Edit → Type 0
 IsOther (edit.Price row side block price) = Unit {0}
 IsOther (edit.Quantity row side block mw) = Unit {0}
 IsOther (edit.Demand bus mw) = Unit {0}
 IsOther (edit.Limit branch post mw) = Unit {0}
 IsOther (edit.Need mw) = ⊥
 
-pub other_keeps : (m : Parts) (e : Edit) → IsOther e → m.reserve.need ≡ (step_of m e).reserve.need
+other_keeps : (m : Parts) (e : Edit) → IsOther e → m.reserve.need ≡ (step_of m e).reserve.need
 other_keeps m (edit.Price row side block price) other = kept m (λ j. with_price m j price) (λ j. refl) (is_some (judge m (edit.Price row side block price))) (place_of_block m row side block)
 other_keeps m (edit.Quantity row side block mw) other = kept m (λ j. with_quantity m j mw) (λ j. refl) (is_some (judge m (edit.Quantity row side block mw))) (place_of_block m row side block)
 other_keeps m (edit.Demand bus mw) other = kept m (λ i. with_demand m i mw) (λ i. refl) (is_some (judge m (edit.Demand bus mw))) (place_of_bus m bus)
@@ -42,24 +42,9 @@ other_keeps m (edit.Need mw) none = absurd none
 abbrev why : Bool → Bool → Option EditFault
 why listed below = if listed then (if below then Some fault.Negative else None) else Some fault.NoReserve
 
-module _ (m : Parts) (mw : ℤ) where
-  -- it is set where reserve is listed and the number is not below 0
-  pub need_set : m.reserve.listed ≡ true → lt_z mw (pos 0) ≡ false → mw ≡ (step_of m (edit.Need mw)).reserve.need
-  need_set listed above = sym (ap (λ (b : Bool). (if is_some (why b (lt_z mw (pos 0))) then m else with_need m mw).reserve.need) listed ∙ ap (λ (b : Bool). (if is_some (why true b) then m else with_need m mw).reserve.need) above)
-
-  pub unlisted_keeps : m.reserve.listed ≡ false → m.reserve.need ≡ (step_of m (edit.Need mw)).reserve.need
-  unlisted_keeps listed = sym (ap (λ (b : Bool). (if is_some (why b (lt_z mw (pos 0))) then m else with_need m mw).reserve.need) listed)
-
-  pub below_keeps : lt_z mw (pos 0) ≡ true → m.reserve.need ≡ (step_of m (edit.Need mw)).reserve.need
-  below_keeps below = by m.reserve.listed ∙ ap (λ (b : Bool). (if is_some (why m.reserve.listed b) then m else with_need m mw).reserve.need) (sym below)
-    where
-      by : (listed : Bool) → m.reserve.need ≡ (if is_some (why listed true) then m else with_need m mw).reserve.need
-      by true = refl
-      by false = refl
-
 -- ---- of markets of one frame
 -- both list reserve or neither does
-pub as_listed : (m n : Parts) → SameFrame m n → m.reserve.listed ≡ n.reserve.listed
+as_listed : (m n : Parts) → SameFrame m n → m.reserve.listed ≡ n.reserve.listed
 as_listed m n same = ap (λ (p : Parts). p.reserve.listed) same
 
 -- where they need as much they need as much after an edit and after a step
