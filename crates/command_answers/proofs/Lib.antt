@@ -1,4 +1,5 @@
 pub mod IfOkLemmas
+pub mod ListingLemmas
 pub mod ReplayLemmas
 pub mod RightsLemmas
 pub mod RightsReading

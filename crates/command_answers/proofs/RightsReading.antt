@@ -184,8 +184,8 @@ outcome_told bound m rights (outcome.Range p) t fits e = record { report = range
 
 pub law_of_the_rights_telling : LawOfTheRightsTelling
 law_of_the_rights_telling bound m rights others t u x y e =
-    let first = outcome_told bound m rights x.outcome t (outcome_fits _ m x.outcome x.energy_alone x.right) x.told in
-    let second = outcome_told bound m others y.outcome u (outcome_fits _ m y.outcome y.energy_alone y.right) y.told in
+    let first = outcome_told bound m rights x.outcome t (outcome_fits _ m x.outcome x.right) x.told in
+    let second = outcome_told bound m others y.outcome u (outcome_fits _ m y.outcome y.right) y.told in
     let same : first.report ≡ second.report = law_of_the_rights_text m first.report second.report first.fits second.fits
     (sym (ap (λ (z : Telling). z.text) first.told) ∙ e ∙ ap (λ (z : Telling). z.text) second.told) in
     (sym first.outcome ∙ ap outcome_in same ∙ second.outcome, first.told ∙ ap (λ (r : RightsReport). uncertified (status_of r) (rights_report_text m r)) same ∙ sym second.told)

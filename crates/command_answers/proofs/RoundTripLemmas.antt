@@ -9,8 +9,8 @@ use Rattle.market_model.specs.declared.answered.Outcome.{Outcome}
 use Rattle.market_model.specs.declared.answered.Outcome.TheVariants as outcome
 use Rattle.market_model.specs.declared.limits.Row.{Row}
 use Rattle.market_model.specs.declared.participants.Parts.{Parts}
+use Rattle.market_model.specs.Frame.{SameFrame}
 use Rattle.market_model.specs.Market.{IsMarket}
-use Rattle.market_model.specs.Reserves.{no_reserve}
 use Rattle.market_system.specs.Outcomes.{IsRightOutcome}
 use Rattle.cert_format.specs.declared.certificate.Cert.{Cert}
 use Rattle.cert_format.specs.Certificates.{NumbersFit, RowsAreDistinct, cert_against, cert_of, cert_of_outcome, most_part}
@@ -51,23 +51,26 @@ use Rattle.command_answers.proofs.ReplayLemmas.{last_first, last_none}
 
 -- ---- of one clear
 -- the text of a certificate that fits and holds
-certified : (m : Parts) (c : Cert Fraction) (text : List ℕ) → m.reserve ≡ no_reserve → RowsAreDistinct c × (verdict_of (first_reason m c) ≡ Yes) → NumbersFit most_part c → Some (cert_text c) ≡ Some text → Certifies m text c
-certified m c text alone right fits is =
+certified : (m : Parts) (c : Cert Fraction) (text : List ℕ) → RowsAreDistinct c × (verdict_of (first_reason m c) ≡ Yes) → NumbersFit most_part c → Some (cert_text c) ≡ Some text → Certifies m text c
+certified m c text right fits is =
     let text_is : cert_text c ≡ text = cc is in record {
       read = sym (ap cert_read text_is) ∙ reads-back c (record { numbers = fits; distinct = right.0 });
-      holds = (law_of_the_verdict m c alone right.0).0 right.1;
+      holds = (law_of_the_verdict m c right.0).0 right.1;
       yes = right.1;
     }
 
 -- that of a right outcome
-of_outcome : (m : Parts) (taken : List Row) (o : Outcome Fraction) (text : List ℕ) → IsMarket m → m.reserve ≡ no_reserve → IsRightOutcome most_size m taken o → IfSome (cert_of_outcome m.places o) (NumbersFit most_size) → certificate_of m.places o ≡ Some text
-    → (c : Cert Fraction) × (cert_of_outcome m.places o ≡ Some c) × Certifies m text c
-of_outcome m taken (outcome.Cleared a) text market alone right fits is = (cert_of m.places a, refl, certified m (cert_of m.places a) text alone (law_of_right_answers m a market alone right) fits is)
-of_outcome m taken (outcome.Infeasible f) text market alone right fits is = (cert_against m.places f, refl, certified m (cert_against m.places f) text alone (law_of_farkas_duals m f market alone right) fits is)
-of_outcome m taken (outcome.Range p) text market alone right fits is = cc is
+of_outcome : (m : Parts) (taken : List Row) (o : Outcome Fraction) (text : List ℕ) → IsMarket m → IsRightOutcome most_size m taken o
+    → IfSome (cert_of_outcome m.places m.reserve.listed o) (NumbersFit most_size) → certificate_of m.places m.reserve.listed o ≡ Some text
+    → (c : Cert Fraction) × (cert_of_outcome m.places m.reserve.listed o ≡ Some c) × Certifies m text c
+of_outcome m taken (outcome.Cleared a) text market right fits is =
+    let c = cert_of m.places m.reserve.listed a in (c, refl, certified m c text (law_of_right_answers m a market right) fits is)
+of_outcome m taken (outcome.Infeasible f) text market right fits is =
+    let c = cert_against m.places m.reserve.listed f in (c, refl, certified m c text (law_of_farkas_duals m f market right) fits is)
+of_outcome m taken (outcome.Range p) text market right fits is = cc is
 
 pub law_of_the_round_trip : LawOfTheRoundTrip
-law_of_the_round_trip m t text (market, clears) is = of_outcome m [] clears.outcome text market clears.energy_alone clears.right clears.certificate_fits (sym (ap (λ (o : Outputs (List ℕ)). o.certificate) clears.certificate_is) ∙ is)
+law_of_the_round_trip m t text (market, clears) is = of_outcome m [] clears.outcome text market clears.right clears.certificate_fits (sym (ap (λ (o : Outputs (List ℕ)). o.certificate) clears.certificate_is) ∙ is)
 
 -- ---- of the last clear of a replay
 -- an outcome is that of the last clear of steps
@@ -78,7 +81,6 @@ record IsOfLast (bound : ℕ) (m : Parts) (steps : List Step) (o : Outcome Fract
   last : All IsEdit rest
   taken : List Row
   right : IsRightOutcome bound (edited_by m front) taken o
-  energy_alone : (edited_by m front).reserve ≡ no_reserve
 
 -- or there is no clear, and it is what there was before
 abbrev LastOr : ℕ → Parts → List Step → Option (Outcome Fraction) → Outcome Fraction → Type 0
@@ -86,18 +88,18 @@ LastOr bound m steps prior o = ((prior ≡ Some o) × All IsEdit steps) ⊎ IsOf
 
 module _ (bound : ℕ) (m : Parts) (s : Step) (steps : List Step) (o : Outcome Fraction) where
   behind : IsOfLast bound (stepped m s) steps o → IsOfLast bound m (s ∷ steps) o
-  behind h = record { front = s ∷ h.front; rest = h.rest; steps_are = ap (λ (ss : List Step). s ∷ ss) h.steps_are; last = h.last; taken = h.taken; right = h.right; energy_alone = h.energy_alone }
+  behind h = record { front = s ∷ h.front; rest = h.rest; steps_are = ap (λ (ss : List Step). s ∷ ss) h.steps_are; last = h.last; taken = h.taken; right = h.right }
 
 edit_first : (bound : ℕ) (m : Parts) (e : _) (steps : List Step) (prior : Option (Outcome Fraction)) (o : Outcome Fraction) → LastOr bound (step_of m e) steps prior o → LastOr bound m (edit.Edit e ∷ steps) prior o
 edit_first bound m e steps prior o (inl (is, all)) = inl (is, All-cons IsEdit (edit.Edit e) steps tt all)
 edit_first bound m e steps prior o (inr h) = inr (behind bound m (edit.Edit e) steps o h)
 
-clear_first : (bound : ℕ) (m : Parts) (taken : List Row) (steps : List Step) (prior : Option (Outcome Fraction)) (q o : Outcome Fraction) → m.reserve ≡ no_reserve → IsRightOutcome bound m taken q → LastOr bound m steps (Some q) o
+clear_first : (bound : ℕ) (m : Parts) (taken : List Row) (steps : List Step) (prior : Option (Outcome Fraction)) (q o : Outcome Fraction) → IsRightOutcome bound m taken q → LastOr bound m steps (Some q) o
     → LastOr bound m (edit.Clear ∷ steps) prior o
-clear_first bound m taken steps prior q o alone right (inl (is, all)) =
+clear_first bound m taken steps prior q o right (inl (is, all)) =
     let same : q ≡ o = cc is in
-    inr (record { front = []; rest = steps; steps_are = refl; last = all; taken = taken; right = subst (IsRightOutcome bound m taken) same right; energy_alone = alone })
-clear_first bound m taken steps prior q o alone right (inr h) = inr (behind bound m edit.Clear steps o h)
+    inr (record { front = []; rest = steps; steps_are = refl; last = all; taken = taken; right = subst (IsRightOutcome bound m taken) same right })
+clear_first bound m taken steps prior q o right (inr h) = inr (behind bound m edit.Clear steps o h)
 
 last_of : (bound : ℕ) (m : Parts) (before after : List Row) (steps : List Step) (outcomes : List (StepOutcome Fraction)) (prior : Option (Outcome Fraction)) (o : Outcome Fraction)
     → IsReplay bound m before steps outcomes after → last_clear prior outcomes ≡ Some o → LastOr bound m steps prior o
@@ -112,28 +114,33 @@ last_of bound m before after (edit.Edit e ∷ steps) (step.Refused f ∷ outcome
 last_of bound m before after (edit.Clear ∷ steps) (step.Accepted ∷ outcomes) prior o replay is = absurd replay.1
 last_of bound m before after (edit.Clear ∷ steps) (step.Refused f ∷ outcomes) prior o replay is = absurd replay.1
 last_of bound m before after (edit.Clear ∷ steps) (step.Clear q ∷ outcomes) prior o replay is =
-    clear_first bound m before steps prior q o replay.1.energy_alone replay.1.right (last_of bound m replay.0 after steps outcomes (Some q) o replay.2 (sym (last_first prior (step.Clear q) outcomes) ∙ is))
+    clear_first bound m before steps prior q o replay.1.right (last_of bound m replay.0 after steps outcomes (Some q) o replay.2 (sym (last_first prior (step.Clear q) outcomes) ∙ is))
 
 module _ (r : MarketSteps) (t : Telling) (text : List ℕ) (replays : ReplaysTo most_size r.market r.steps t) where
-  -- edits change no places of factors
-  same_places : (steps : List Step) → r.market.places ≡ (edited_by r.market steps).places
-  same_places steps = ap (λ (p : Parts). p.places) (steps_frame r.market steps)
+  -- the certificate of an outcome of a market, and its text: edits change neither how many places factors have nor whether reserve is listed
+  abbrev cert_in : Parts → Outcome Fraction → Option (Cert Fraction)
+  cert_in m = cert_of_outcome m.places m.reserve.listed
 
-  last_certifies : (o : Outcome Fraction) → IsOfLast most_size r.market r.steps o → IfSome (cert_of_outcome r.market.places o) (NumbersFit most_size) → certificate_of r.market.places o ≡ Some text
-      → (c : Cert Fraction) × (cert_of_outcome r.market.places o ≡ Some c) × CertifiesLast r text c
+  abbrev text_in : Parts → Outcome Fraction → Option (List ℕ)
+  text_in m = certificate_of m.places m.reserve.listed
+
+  last_certifies : (o : Outcome Fraction) → IsOfLast most_size r.market r.steps o → IfSome (cert_in r.market o) (NumbersFit most_size) → text_in r.market o ≡ Some text
+      → (c : Cert Fraction) × (cert_in r.market o ≡ Some c) × CertifiesLast r text c
   last_certifies o h fits is =
       let front_is : take (length h.front) r.steps ≡ h.front = ap (take (length h.front)) h.steps_are ∙ take-append_seam h.front (edit.Clear ∷ h.rest) in
       let market = subst (λ (ss : List Step). IsMarket (edited_by r.market ss)) front_is (replays.markets (length h.front)) in
-      let same = same_places h.front in
-      let k = of_outcome (edited_by r.market h.front) h.taken o text market h.energy_alone h.right (subst (λ n. IfSome (cert_of_outcome n o) (NumbersFit most_size)) same fits) (subst (λ n. certificate_of n o ≡ Some text) same is) in
-      (k.0, subst (λ n. cert_of_outcome n o ≡ Some k.0) (sym same) k.1, record { front = h.front; rest = h.rest; steps_are = h.steps_are; last = h.last; certifies = k.2 })
+      let last : Parts = edited_by r.market h.front in
+      let same : SameFrame r.market last = steps_frame r.market h.front in
+      let cert = ap (λ (p : Parts). cert_in p o) same in
+      let k = of_outcome last h.taken o text market h.right (subst (λ (c : Option (Cert Fraction)). IfSome c (NumbersFit most_size)) cert fits) (sym (ap (λ (p : Parts). text_in p o) same) ∙ is) in
+      (k.0, cert ∙ k.1, record { front = h.front; rest = h.rest; steps_are = h.steps_are; last = h.last; certifies = k.2 })
 
-  by_last : (last : Option (Outcome Fraction)) → last_clear None replays.outcomes ≡ last → IfSome (option_and_then (cert_of_outcome r.market.places) last) (NumbersFit most_size) → option_and_then (certificate_of r.market.places) last ≡ Some text
-      → (c : Cert Fraction) × (option_and_then (cert_of_outcome r.market.places) last ≡ Some c) × CertifiesLast r text c
+  by_last : (last : Option (Outcome Fraction)) → last_clear None replays.outcomes ≡ last → IfSome (option_and_then (cert_in r.market) last) (NumbersFit most_size) → option_and_then (text_in r.market) last ≡ Some text
+      → (c : Cert Fraction) × (option_and_then (cert_in r.market) last ≡ Some c) × CertifiesLast r text c
   by_last None e fits is = cc is
   by_last (Some o) e fits is = from (last_of most_size r.market [] replays.taken r.steps replays.outcomes None o replays.right e)
     where
-      from : LastOr most_size r.market r.steps None o → (c : Cert Fraction) × (cert_of_outcome r.market.places o ≡ Some c) × CertifiesLast r text c
+      from : LastOr most_size r.market r.steps None o → (c : Cert Fraction) × (cert_in r.market o ≡ Some c) × CertifiesLast r text c
       from (inl (none, all)) = cc none
       from (inr h) = last_certifies o h fits is
 
@@ -143,8 +150,8 @@ law_of_the_replay r t text (market, replays) is = by_last r t text replays (last
 -- ---- of verifying
 pub law_of_yes : LawOfYes
 unfolding verdict_line
-law_of_yes m text c t certifies (market, judged is, alone) = inl (is ∙ ap (λ why. uncertified (verdict_status why) (verdict_line why)) (yes_none (first_reason m c) certifies.yes))
-law_of_yes m text c t certifies (market, passed p stop within is, alone) = inr (ap (λ (s : Telling). s.status) is)
+law_of_yes m text c t certifies (market, judged is) = inl (is ∙ ap (λ why. uncertified (verdict_status why) (verdict_line why)) (yes_none (first_reason m c) certifies.yes))
+law_of_yes m text c t certifies (market, passed p stop within is) = inr (ap (λ (s : Telling). s.status) is)
 
 -- ---- with the same files
 -- a text that is no longer than a file may be is read as its certificate

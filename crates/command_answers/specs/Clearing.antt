@@ -6,7 +6,6 @@ use Rattle.market_model.specs.declared.participants.Parts.{Parts}
 use Rattle.market_model.specs.declared.answered.Outcome.{Outcome}
 use Rattle.market_model.specs.declared.answered.Outcome.TheVariants as outcome
 use Rattle.market_model.specs.Market.{IsMarket}
-use Rattle.market_model.specs.Reserves.{no_reserve}
 use Rattle.market_system.specs.Outcomes.{IsRightOutcome}
 use Rattle.report_text.specs.Reports.{report_text}
 use Rattle.cert_format.specs.Certificates.{NumbersFit, cert_of_outcome, most_part}
@@ -39,21 +38,20 @@ AreSidesWithin bound (outcome.Range p) = ArePassedWithin bound p
 pub record TellsCertified (bound : ℕ) (m : Parts) (o : Outcome Fraction) (t : Telling) : Type 0 where
   pub status_is : t.status ≡ status_of o
   pub text_is : t.text ≡ report_text m o
-  pub certificate_is : t.outputs ≡ certified (certificate_of m.places o)
-  pub certificate_fits : IfSome (cert_of_outcome m.places o) (NumbersFit bound)
+  pub certificate_is : t.outputs ≡ certified (certificate_of m.places m.reserve.listed o)
+  pub certificate_fits : IfSome (cert_of_outcome m.places m.reserve.listed o) (NumbersFit bound)
 
 -- What is told is that of a right outcome of the market, with no limits taken before: the report of a right answer, of duals that show
 -- that no dispatch is feasible, or of two numbers of the market, each within the bound, whose outcome passes it. Its certificate is that
--- of the answer, or of the duals, and its numbers are within their bounds. The market is of energy alone.
+-- of the answer, or of the duals, with a part on reserve where the market lists it, and its numbers are within their bounds.
 pub record ClearsTo (bound : ℕ) (m : Parts) (t : Telling) : Type 0 where
   pub outcome : Outcome Fraction
   pub right : IsRightOutcome bound m [] outcome
   pub sides : AreSidesWithin bound outcome
   pub status_is : t.status ≡ status_of outcome
   pub text_is : t.text ≡ report_text m outcome
-  pub certificate_is : t.outputs ≡ certified (certificate_of m.places outcome)
-  pub certificate_fits : IfSome (cert_of_outcome m.places outcome) (NumbersFit bound)
-  pub energy_alone : m.reserve ≡ no_reserve
+  pub certificate_is : t.outputs ≡ certified (certificate_of m.places m.reserve.listed outcome)
+  pub certificate_fits : IfSome (cert_of_outcome m.places m.reserve.listed outcome) (NumbersFit bound)
 
 -- the greatest size of a numerator or denominator, in what is told and in certificates
 abbrev pub most_size : ℕ

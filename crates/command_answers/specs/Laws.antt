@@ -1,5 +1,5 @@
 -- What the certificates that are written say of their markets.
-use Rattle.std.specs.Prelude.{◌≡◌, ◌⊎◌, ◌++◌, ◌≤◌, [], ◌∷◌, ℕ, List, All, Some, None, Ok, codes, length, option_and_then}
+use Rattle.std.specs.Prelude.{◌≡◌, ◌↔◌, ◌⊎◌, ◌++◌, ◌≤◌, [], ◌∷◌, ℕ, List, All, Some, None, Ok, codes, length, option_and_then}
 use Rattle.fraction_theory.specs.Fraction.{Fraction}
 use Rattle.exact_fraction.specs.declared.Passed.{Passed}
 use Rattle.market_model.specs.declared.answered.Answer.{Answer}
@@ -7,6 +7,7 @@ use Rattle.market_model.specs.declared.answered.Farkas.{Farkas}
 use Rattle.market_model.specs.declared.answered.Outcome.TheVariants as outcome
 use Rattle.market_model.specs.declared.participants.Parts.{Parts}
 use Rattle.market_model.specs.declared.participants.TransmissionRight.{TransmissionRight}
+use Rattle.market_model.specs.Reserves.{no_reserve}
 use Rattle.cert_format.specs.declared.certificate.Cert.{Cert}
 use Rattle.cert_format.specs.Certificates.{cert_of_outcome}
 use Rattle.cert_format.specs.Grammar.{cert_read}
@@ -19,9 +20,10 @@ use Rattle.edit_replay.specs.Replays.{edited_by}
 use Rattle.market_tables.specs.Tables.{MarketTexts}
 use Rattle.market_inputs.specs.Files.{most_file, sized}
 use Rattle.market_inputs.specs.Replaying.{steps_in}
+use Rattle.market_inputs.specs.Tables.{ListsNoReserve}
 use Rattle.market_data.specs.declared.scales.FactorPlaces.{FactorPlaces}
 use Rattle.net_case.specs.declared.live_parts.PostRating.{PostRating}
-use Rattle.report_text.specs.ReportLaws.{AreOfEnergy, FitsReport}
+use Rattle.report_text.specs.ReportLaws.{DualsFitReport, FitsReport}
 use Rattle.report_text.specs.Reports.{range_text, report_text}
 use Rattle.rights_test.specs.declared.right_parts.Fit.{Fit}
 use Rattle.rights_test.specs.declared.right_parts.Payments.{Payments}
@@ -36,6 +38,12 @@ use Rattle.command_answers.specs.Tellings.{Telling, Tells, uncertified}
 use Rattle.command_answers.specs.Verifying.{TellsVerdict}
 use Rattle.command_answers.specs.declared.status.Status.TheVariants as status
 
+-- ---- files
+-- the market that files stand for is of energy alone exactly where their table of reserves has no records
+abbrev pub LawOfListedReserve : Type 0
+LawOfListedReserve = (rating : PostRating) (places : FactorPlaces) (files : MarketTexts) (m : Parts) → IsLimited rating places files (Ok m) → (m.reserve ≡ no_reserve) ↔ ListsNoReserve files.reserves
+
+-- ---- certificates
 -- a text is read as this certificate, which is true of the market, and the verdict on it is yes
 pub record Certifies (m : Parts) (text : List ℕ) (c : Cert Fraction) : Type 0 where
   pub read : cert_read text ≡ Ok c
@@ -45,7 +53,7 @@ pub record Certifies (m : Parts) (text : List ℕ) (c : Cert Fraction) : Type 0 
 -- what a clear of a market writes is read as the certificate of what it came to, which is true of the market
 abbrev pub LawOfTheRoundTrip : Type 0
 LawOfTheRoundTrip =
-    (m : Parts) (t : Telling) (text : List ℕ) (tells : TellsClear m t) → t.outputs.certificate ≡ Some text → (c : Cert Fraction) × (cert_of_outcome m.places tells.1.outcome ≡ Some c) × Certifies m text c
+    (m : Parts) (t : Telling) (text : List ℕ) (tells : TellsClear m t) → t.outputs.certificate ≡ Some text → (c : Cert Fraction) × (cert_of_outcome m.places m.reserve.listed tells.1.outcome ≡ Some c) × Certifies m text c
 
 abbrev pub IsEdit : Step → Type 0
 IsEdit (step.Edit e) = Unit {0}
@@ -63,7 +71,7 @@ pub record CertifiesLast (r : MarketSteps) (text : List ℕ) (c : Cert Fraction)
 abbrev pub LawOfTheReplay : Type 0
 LawOfTheReplay =
     (r : MarketSteps) (t : Telling) (text : List ℕ) (tells : TellsReplay r t) → t.outputs.certificate ≡ Some text
-    → (c : Cert Fraction) × (option_and_then (cert_of_outcome r.market.places) (last_clear None tells.1.outcomes) ≡ Some c) × CertifiesLast r text c
+    → (c : Cert Fraction) × (option_and_then (cert_of_outcome r.market.places r.market.reserve.listed) (last_clear None tells.1.outcomes) ≡ Some c) × CertifiesLast r text c
 
 -- ---- when it is verified
 -- yes is told, or that numbers are too large
@@ -97,11 +105,11 @@ rights_report_text m (unpaid a p) = report_text m (outcome.Cleared a) ++ range_t
 rights_report_text m (infeasible f) = report_text m (outcome.Infeasible f)
 rights_report_text m (range p) = report_text m (outcome.Range p)
 
--- its answer, where there is one, fits the market's report, and Farkas duals are of energy alone; nothing is asked of the fit and the payments
+-- its answer, where there is one, fits the market's report, and so do Farkas duals; nothing is asked of the fit and the payments
 abbrev pub FitsRightsReport : Parts → RightsReport → Type 0
 FitsRightsReport m (paid a f p) = FitsReport m a
 FitsRightsReport m (unpaid a p) = FitsReport m a
-FitsRightsReport m (infeasible f) = AreOfEnergy f.duals
+FitsRightsReport m (infeasible f) = DualsFitReport m f.duals
 FitsRightsReport m (range p) = Unit {0}
 
 -- two of these that fit a market and have one text are of the same kind with the same contents

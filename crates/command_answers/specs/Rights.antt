@@ -7,7 +7,6 @@ use Rattle.market_model.specs.declared.answered.Outcome.TheVariants as outcome
 use Rattle.market_model.specs.declared.participants.Parts.{Parts}
 use Rattle.market_model.specs.declared.participants.TransmissionRight.{TransmissionRight}
 use Rattle.market_model.specs.Market.{IsMarket}
-use Rattle.market_model.specs.Reserves.{no_reserve}
 use Rattle.market_model.specs.Rights.{IsTransmissionRight}
 use Rattle.market_model.specs.Valued.{total_at}
 use Rattle.market_system.specs.Outcomes.{IsRightOutcome}
@@ -46,13 +45,12 @@ TellsOutcome bound m rights (outcome.Cleared a) t = TellsFit bound m rights (tot
 TellsOutcome bound m rights (outcome.Infeasible f) t = t ≡ uncertified status.Infeasible (report_text m (outcome.Infeasible f))
 TellsOutcome bound m rights (outcome.Range p) t = t ≡ uncertified status.Range (report_text m (outcome.Range p))
 
--- what is told is that of a right outcome of the market, which is of energy alone, with no limits taken before, as for a clear
+-- what is told is that of a right outcome of the market with no limits taken before, as for a clear
 pub record EntitlesTo (bound : ℕ) (m : Parts) (rights : List TransmissionRight) (t : Telling) : Type 0 where
   pub outcome : Outcome Fraction
   pub right : IsRightOutcome bound m [] outcome
   pub sides : AreSidesWithin bound outcome
   pub told : TellsOutcome bound m rights outcome t
-  pub energy_alone : m.reserve ≡ no_reserve
 
 -- the same of a market, which keeps what every market keeps, and of rights between its buses, by numbers of 127 bits
 pub record TellsRights (r : MarketRights) (t : Telling) : Type 0 where

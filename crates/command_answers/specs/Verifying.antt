@@ -4,7 +4,6 @@ use Rattle.fraction_theory.specs.Fraction.{Fraction}
 use Rattle.exact_fraction.specs.declared.Passed.{Passed}
 use Rattle.market_model.specs.declared.participants.Parts.{Parts}
 use Rattle.market_model.specs.Market.{IsMarket}
-use Rattle.market_model.specs.Reserves.{no_reserve}
 use Rattle.report_text.specs.Reports.{range_text}
 use Rattle.cert_format.specs.declared.certificate.Cert.{Cert}
 use Rattle.cert_verify.specs.Certificates.{first_reason}
@@ -28,6 +27,6 @@ pub data VerifiesTo (bound : ℕ) (m : Parts) (c : Cert Fraction) (t : Telling) 
   judged : t ≡ uncertified (verdict_status (first_reason m c)) (verdict_line (first_reason m c)) → VerifiesTo bound m c t
   passed : (p : Passed Fraction) → IsCertificateStop m bound c p → ArePassedWithin bound p → t ≡ uncertified status.Range (range_text p) → VerifiesTo bound m c t
 
--- the same of a market, which keeps what every market keeps and is of energy alone, by numbers of 127 bits
+-- the same of a market, which keeps what every market keeps, by numbers of 127 bits
 abbrev pub TellsVerdict : MarketCertificate → Telling → Type 0
-TellsVerdict v t = IsMarket v.market × VerifiesTo most_size v.market v.certificate t × (v.market.reserve ≡ no_reserve)
+TellsVerdict v t = IsMarket v.market × VerifiesTo most_size v.market v.certificate t

@@ -4,7 +4,6 @@ ghost use Rattle.std.specs.Prelude.{◌≡◌, [], IfOk};
 ghost use Rattle.market_tables.specs.Tables.{tables_lent};
 ghost use Rattle.market_model.specs.Fitting.{FitsOutcome};
 ghost use Rattle.market_model.specs.Market.{IsMarket};
-ghost use Rattle.market_model.specs.Reserves.{no_reserve};
 ghost use Rattle.market_model.specs.Valued.{outcome_at, passed_at};
 ghost use Rattle.market_system.specs.Outcomes.{IsRightOutcome};
 ghost use Rattle.report_text.specs.Reports.{range_text};
@@ -28,7 +27,6 @@ use std::alloc::Global;
 
 /// What a market is cleared to.
 pub(crate) fn cleared<N: Exact>(alloc: Global, market: &Market) -> Result<Outcome<N>, Memory>
-    requires energy_alone { market.now.reserve ≡ no_reserve }
     ensures fits { IfOk result (FitsOutcome market.now) }
     ensures right { IfOk result (λ outcome. IsRightOutcome N.bound market.now [] (outcome_at N.value outcome)) }
     ensures sides { IfOk result (λ outcome. AreSidesWithin N.bound (outcome_at N.value outcome)) }
@@ -71,7 +69,7 @@ fn outcome_told<N: Exact>(
     ensures tells { IfOk result (λ told. TellsCertified N.bound market.now (outcome_at N.value outcome.now) (telling_of told)) }
 {
     let text = report(alloc, market, outcome)?;
-    let certificate = outcome_json(alloc, market.places(), outcome)?;
+    let certificate = outcome_json(alloc, market.places(), market.reserve().listed, outcome)?;
     Ok(Told {
         status: clear_status(outcome),
         text,
@@ -81,7 +79,6 @@ fn outcome_told<N: Exact>(
 
 /// What clearing a market comes to.
 fn clear_outcome<N: Exact>(alloc: Global, market: &Market) -> Result<Told, Memory>
-    requires energy_alone { market.now.reserve ≡ no_reserve }
     ensures status { IfOk result (λ told. IsOfWork told.status) }
     ensures clears { IfOk result (λ told. ClearsTo N.bound market.now (telling_of told)) }
 {
@@ -91,7 +88,7 @@ fn clear_outcome<N: Exact>(alloc: Global, market: &Market) -> Result<Told, Memor
 
 /// What a market comes to, or why none was made.
 fn market_told(alloc: Global, made: Result<Market, InputStop>) -> Result<Told, Memory>
-    requires { IfOk made (λ m. IsMarket m × (m.reserve ≡ no_reserve)) }
+    requires { IfOk made IsMarket }
     ensures status { IfOk result (λ told. IsOfWork told.status) }
     ensures tells { IfOk result (λ told. MadeTo TellsClear made (telling_of told)) }
 {

@@ -1,6 +1,11 @@
 //! Laws of what commands come to, each the contract of a function that does nothing.
 
-ghost use Rattle.command_answers.specs.Laws.{LawOfTheReplay, LawOfTheRightsTelling, LawOfTheRightsText, LawOfTheRoundTrip, LawOfTheSameFiles, LawOfYes};
+ghost use Rattle.command_answers.specs.Laws.{LawOfListedReserve, LawOfTheReplay, LawOfTheRightsTelling, LawOfTheRightsText, LawOfTheRoundTrip, LawOfTheSameFiles, LawOfYes};
+
+/// The market that files stand for is of energy alone exactly where their table of reserves has no records.
+pub fn no_records_no_reserve()
+    ensures { LawOfListedReserve }
+{}
 
 /// What a clear of a market writes is read back as the certificate of what it came to, which is true of the market: the verdict on it is yes.
 pub fn certificates_come_back()

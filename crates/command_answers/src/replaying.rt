@@ -8,10 +8,10 @@ ghost use Rattle.edit_replay.specs.Replays.{FitsStep, step_outcome_at};
 ghost use Rattle.edit_table.specs.EditTable.{AreSteps, IsStep};
 ghost use Rattle.market_tables.specs.Tables.{tables_lent};
 ghost use Rattle.market_inputs.specs.Stops.{IsToldAs};
+ghost use Rattle.market_model.specs.Changes.{with_need};
 ghost use Rattle.market_model.specs.Frame.{SameFrame};
 ghost use Rattle.market_model.specs.Market.{IsMarket};
 ghost use Rattle.market_model.specs.declared.participants.Parts.{Parts};
-ghost use Rattle.market_model.specs.Reserves.{no_reserve};
 ghost use Rattle.market_model.specs.Valued.{outcome_at};
 ghost use Rattle.command_answers.specs.Inputs.{IsReplayed, steps_with};
 ghost use Rattle.command_answers.specs.Replaying.{ReplaysTo, TellsReplay, TellsSteps, clear_or, is_done, last_clear, replay_status, step_status};
@@ -49,7 +49,6 @@ pub(crate) fn replay_inputs(
 ) -> Result<Replayed, InputStop>
     ensures told { IsToldAs (IsReplayed rating places (tables_lent bytes.now) edits.now) (steps_with result) }
     ensures kept { IfOk result (λ made. IsMarket made.market × AreSteps made.steps) }
-    ensures energy_alone { IfOk result (λ made. made.market.reserve ≡ no_reserve) }
 {
     let market = clear_market(alloc, bytes, rating, places)?;
     let steps = edit_steps(alloc, edits)?;
@@ -101,39 +100,42 @@ fn clear_or<'a, N>(
     }
 }
 
-/// The certificate of the last clear, of a market whose factors have so many places.
+/// The certificate of the last clear, of a market whose factors have so many places and whose reserve is listed or not.
 fn last_certificate<N: Exact>(
     alloc: Global,
     outcomes: &Outcomes<N>,
     places: FactorPlaces,
+    listed: bool,
 ) -> Result<Option<Vec<u8>>, Memory>
-    ensures text { IfOk result (λ made. option_map (λ bytes. bytes.items) made ≡ option_and_then (certificate_of places) (last_clear None (map (step_outcome_at N.value) outcomes.now))) }
-    ensures fits { OnOk result (IfSome (option_and_then (cert_of_outcome places) (last_clear None (map (step_outcome_at N.value) outcomes.now))) (NumbersFit N.bound)) }
+    ensures text { IfOk result (λ made. option_map (λ bytes. bytes.items) made ≡ option_and_then (certificate_of places listed) (last_clear None (map (step_outcome_at N.value) outcomes.now))) }
+    ensures fits { OnOk result (IfSome (option_and_then (cert_of_outcome places listed) (last_clear None (map (step_outcome_at N.value) outcomes.now))) (NumbersFit N.bound)) }
 {
     let mut last = None;
     for outcome in outcomes.slice() {
         last = clear_or(last, outcome);
     }
     match last {
-        Some(outcome) => outcome_json(alloc, places, outcome),
+        Some(outcome) => outcome_json(alloc, places, listed, outcome),
         None => Ok(None),
     }
 }
 
-/// The text of the outcomes of steps, by a market of their frame, with their status and the certificate of the last clear.
+/// The text of the outcomes of steps, by a market of their frame and by the need of reserve before the first step, with their status and
+/// the certificate of the last clear.
 fn outcomes_told<N: Exact>(
     alloc: Global,
     market: &Market,
+    need: i64,
     steps: &Steps,
     outcomes: &Outcomes<N>,
 ) -> Result<Told, Memory>
     requires count { length outcomes.now ≡ length steps.now }
     requires fits { All (FitsStep market.now) outcomes.now }
     ensures status { IfOk result (λ told. IsOfWork told.status) }
-    ensures tells { (m : Parts) → SameFrame market.now m → IfOk result (λ told. TellsSteps N.bound m steps.now (map (step_outcome_at N.value) outcomes.now) (telling_of told)) }
+    ensures tells { (m : Parts) → SameFrame market.now m → IfOk result (λ told. TellsSteps N.bound (with_need m need) steps.now (map (step_outcome_at N.value) outcomes.now) (telling_of told)) }
 {
-    let text = replay_text(alloc, market, steps, outcomes)?;
-    let certificate = last_certificate(alloc, outcomes, market.places())?;
+    let text = replay_text(alloc, market, need, steps, outcomes)?;
+    let certificate = last_certificate(alloc, outcomes, market.places(), market.reserve().listed)?;
     Ok(Told {
         status: replay_status(outcomes),
         text,
@@ -141,17 +143,24 @@ fn outcomes_told<N: Exact>(
     })
 }
 
+/// How much reserve is needed, in 10^-9 MW.
+fn need_of(market: &Market) -> i64
+    ensures { result ≡ market.now.reserve.need }
+{
+    market.reserve().need
+}
+
 /// What replaying the steps of a market comes to.
 fn replay_outcome<N: Exact>(alloc: Global, market: Market, steps: &Steps) -> Result<Told, Memory>
     requires market { IsMarket market }
-    requires energy_alone { market.reserve ≡ no_reserve }
     requires steps { All IsStep steps.now }
     ensures status { IfOk result (λ told. IsOfWork told.status) }
     ensures replays { IfOk result (λ told. ReplaysTo N.bound market steps.now (telling_of told)) }
 {
+    let need = need_of(&market);
     let mut session = Session::<N>::new(market);
     let outcomes = session.replay(alloc, steps)?;
-    outcomes_told(alloc, session.market(), steps, &outcomes)
+    outcomes_told(alloc, session.market(), need, steps, &outcomes)
 }
 
 /// What the whole bytes of the files of a market and of a table of edits come to.

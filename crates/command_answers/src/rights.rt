@@ -6,7 +6,6 @@ ghost use Rattle.market_tables.specs.Tables.{tables_lent};
 ghost use Rattle.market_inputs.specs.Stops.{IsToldAs};
 ghost use Rattle.market_model.specs.Fitting.{FitsOutcome};
 ghost use Rattle.market_model.specs.Market.{IsMarket};
-ghost use Rattle.market_model.specs.Reserves.{no_reserve};
 ghost use Rattle.market_model.specs.Rights.{IsTransmissionRight};
 ghost use Rattle.market_model.specs.Stops.{StopsBy};
 ghost use Rattle.market_model.specs.Valued.{outcome_at, total_at};
@@ -48,7 +47,6 @@ fn rights_inputs(
     rights: &[u8],
 ) -> Result<Entitled, InputStop>
     ensures told { IsToldAs (AreEntitled rating places (tables_lent bytes.now) rights.now) (rights_with result) }
-    ensures energy_alone { IfOk result (λ made. made.market.reserve ≡ no_reserve) }
     ensures kept { IfOk result (λ made. IsMarket made.market × All (IsTransmissionRight (length made.market.buses)) made.rights) }
 {
     let market = clear_market(alloc, bytes, rating, places)?;
@@ -166,8 +164,7 @@ fn rights_outcome<N: Exact>(
     market: &Market,
     rights: &[TransmissionRight],
 ) -> Result<Told, Memory>
-    requires energy_alone { market.now.reserve ≡ no_reserve }
-    requires rights { All (IsTransmissionRight (length market.now.buses)) rights.now }
+    requires { All (IsTransmissionRight (length market.now.buses)) rights.now }
     ensures status { IfOk result (λ told. IsOfWork told.status) }
     ensures entitles { IfOk result (λ told. EntitlesTo N.bound market.now rights.now (telling_of told)) }
 {

@@ -3,7 +3,7 @@
 ghost use Rattle.std.specs.Prelude.{◌≡◌, ◌++◌, IfOk, Option, decimal};
 ghost use Rattle.cert_verify.specs.Reasons.{verdict_of};
 ghost use Rattle.cert_verify.specs.declared.verdicts.Reason.{Reason};
-ghost use Rattle.command_answers.specs.Verdicts.{reason_words, row_words, unit_words, verdict_line};
+ghost use Rattle.command_answers.specs.Verdicts.{reason_words, room_words, row_words, unit_words, verdict_line};
 
 use cert_verify::{Reason, Verdict};
 use line_text::Text;
@@ -34,12 +34,22 @@ fn at_row(text: &mut Text, name: &[u8], row: RowId) -> Result<(), Memory>
     unit_words(text, row.unit)
 }
 
-/// A reason by its name, and the block that it is of.
-fn at_block(text: &mut Text, name: &[u8], block: usize) -> Result<(), Memory>
-    ensures { IfOk result (λ _. text.new ≡ text.old ++ name.now ++ decimal block) }
+/// A reason by its name, and the unit whose room it is of.
+#[tactic(auto, using(std::proofs::Common::append_assoc))]
+fn at_room(text: &mut Text, name: &[u8], unit: u32) -> Result<(), Memory>
+    ensures { IfOk result (λ _. text.new ≡ text.old ++ (name.now ++ room_words unit)) }
 {
     text.word(name)?;
-    text.number(block)
+    text.word(b" unit ")?;
+    text.number(unit as usize)
+}
+
+/// A reason by its name, and the block or the offer that it is of.
+fn at_place(text: &mut Text, name: &[u8], place: usize) -> Result<(), Memory>
+    ensures { IfOk result (λ _. text.new ≡ text.old ++ name.now ++ decimal place) }
+{
+    text.word(name)?;
+    text.number(place)
 }
 
 #[tactic(auto, using(std::proofs::Common::append_assoc), unfolding(crate::specs::Verdicts::reason_words))]
@@ -50,12 +60,21 @@ fn write_reason(text: &mut Text, reason: Reason) -> Result<(), Memory>
         Reason::Places => text.word(b"Places"),
         Reason::Count => text.word(b"Count"),
         Reason::NoRow { row } => at_row(text, b"NoRow", row),
+        Reason::NoUnit { unit } => at_room(text, b"NoUnit", unit),
         Reason::Sign { row } => at_row(text, b"Sign", row),
-        Reason::Block { n } => at_block(text, b"Block ", n),
+        Reason::NeedSign => text.word(b"NeedSign"),
+        Reason::RoomSign { unit } => at_room(text, b"RoomSign", unit),
+        Reason::Block { n } => at_place(text, b"Block ", n),
+        Reason::Reserve { n } => at_place(text, b"Reserve ", n),
         Reason::Balance => text.word(b"Balance"),
+        Reason::Need => text.word(b"Need"),
         Reason::Limit { row } => at_row(text, b"Limit", row),
+        Reason::Room { unit } => at_room(text, b"Room", unit),
         Reason::Slack { row } => at_row(text, b"Slack", row),
-        Reason::Support { n } => at_block(text, b"Support ", n),
+        Reason::NeedSlack => text.word(b"NeedSlack"),
+        Reason::RoomSlack { unit } => at_room(text, b"RoomSlack", unit),
+        Reason::Support { n } => at_place(text, b"Support ", n),
+        Reason::ReserveSupport { n } => at_place(text, b"ReserveSupport ", n),
         Reason::Bound => text.word(b"Bound"),
     }
 }

@@ -10,7 +10,6 @@ ghost use Rattle.edit_table.specs.EditTable.{IsStep};
 ghost use Rattle.market_tables.specs.Tables.{tables_lent};
 ghost use Rattle.market_inputs.specs.Stops.{IsToldAs};
 ghost use Rattle.market_model.specs.Market.{IsMarket};
-ghost use Rattle.market_model.specs.Reserves.{no_reserve};
 ghost use Rattle.command_answers.specs.Inputs.{IsCertified, certificate_with};
 ghost use Rattle.command_answers.specs.Status.{IsOfWork};
 ghost use Rattle.command_answers.specs.Tellings.{Tells, telling_of};
@@ -66,7 +65,6 @@ fn verify_inputs(
 ) -> Result<Certified<Frac>, InputStop>
     ensures told { IsToldAs (IsCertified rating places (tables_lent bytes.now) edits.now certificate.now) (certificate_with ⟦<Frac as Exact>⟧.value result) }
     ensures kept { IfOk result (λ made. IsMarket made.market) }
-    ensures energy_alone { IfOk result (λ made. made.market.reserve ≡ no_reserve) }
     ensures distinct { IfOk result (λ made. RowsAreDistinct (cert_at ⟦<Frac as Exact>⟧.value made.certificate)) }
 {
     let replayed = replay_inputs(alloc, bytes, rating, places, edits)?;

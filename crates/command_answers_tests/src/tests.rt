@@ -43,23 +43,28 @@ fn expect<R: Abort>(rt: &R, told: &Told, status: Status, start: &[u8]) {
     assert!(rt; told.text.starts_with(start));
 }
 
+/// The files of the market.
+fn market() -> MarketTables<&'static [u8]> {
+    MarketTables {
+        grid: GridTables {
+            case: CASE,
+            ptdf: PTDF,
+            lodf: b"branch,outage,factor\n",
+            contingencies: b"branch\n",
+        },
+        unit_outages: b"unit,taker,share\n",
+        offers: OFFERS,
+        reserves: b"kind,unit,mw,price\n",
+        offsets: b"branch,mw\n",
+        penalties: b"branch,limit,price,excess\n",
+    }
+}
+
 #[test]
 fn tells_of_each_command(rt: HostRuntime) -> Result<(), Fail> {
     let alloc = rt.alloc();
-    let grid = GridTables {
-        case: CASE,
-        ptdf: PTDF,
-        lodf: b"branch,outage,factor\n".as_slice(),
-        contingencies: b"branch\n".as_slice(),
-    };
-    let bytes = MarketTables {
-        grid,
-        unit_outages: b"unit,taker,share\n".as_slice(),
-        offers: OFFERS,
-        reserves: b"kind,unit,mw,price\n".as_slice(),
-        offsets: b"branch,mw\n".as_slice(),
-        penalties: b"branch,limit,price,excess\n".as_slice(),
-    };
+    let bytes = market();
+    let grid = bytes.grid;
     let edits = b"op,target,side,block,value\nclear,,,,\n";
     let done = Status::Done;
     let pooled = pool_told(alloc, CASE, OFFERS)?;
@@ -91,5 +96,68 @@ fn tells_of_each_command(rt: HostRuntime) -> Result<(), Fail> {
         done,
         b"ring 4 seed 7 buses 4 blocks 8 limits 16\n",
     );
+    Ok(())
+}
+
+/// Certificates of the market that are none, or tell a reason before any sum is made of numbers that are too large.
+#[test]
+fn refuses_certificates(rt: HostRuntime) -> Result<(), Fail> {
+    let vast = "170141183460469231731687303715884105727/1";
+    let edits = b"op,target,side,block,value\n";
+    let bytes = market();
+    for (certificate, status, text) in [
+        ("{", Status::Refused, "refused certificate Key json\n"),
+        (
+            "{\"energy\":\"2/4\",\"kind\":\"farkas\",\"limits\":[],\"version\":1}",
+            Status::Refused,
+            "refused certificate Key energy\n",
+        ),
+        (
+            "{\"energy\":\"10/1\",\"kind\":\"optimal\",\"limits\":[],\"version\":1}",
+            Status::Refused,
+            "refused certificate Key blocks\n",
+        ),
+        (
+            "{\"energy\":\"1/1\",\"kind\":\"farkas\",\"limits\":[],\"version\":2}",
+            Status::Refused,
+            "refused certificate Key places\n",
+        ),
+        (
+            "{\"energy\":\"1/1\",\"kind\":\"farkas\",\"limits\":[],\"version\":1,\"x\":0}",
+            Status::Refused,
+            "refused certificate Key extra\n",
+        ),
+        (
+            "{\"blocks\":[\"VAST\"],\"energy\":\"VAST\",\"kind\":\"optimal\",\"limits\":[],\"places\":9,\"version\":2}",
+            Status::Refuted,
+            "no Places\n",
+        ),
+        (
+            "{\"blocks\":[\"VAST\"],\"energy\":\"VAST\",\"kind\":\"optimal\",\"limits\":[],\"places\":6,\"version\":2}",
+            Status::Refuted,
+            "no Count\n",
+        ),
+        (
+            "{\"energy\":\"VAST\",\"kind\":\"farkas\",\"limits\":[{\"branch\":2,\"down\":\"-1/1\",\"outage\":0,\"up\":\"VAST\"}],\"places\":6,\"version\":2}",
+            Status::Refuted,
+            "no Sign branch 2 outage 0\n",
+        ),
+        (
+            "{\"energy\":\"VAST\",\"kind\":\"farkas\",\"limits\":[{\"branch\":2,\"down\":\"0/1\",\"outage\":0,\"up\":\"VAST\"}],\"places\":6,\"version\":2}",
+            Status::Range,
+            "range ",
+        ),
+    ] {
+        let certificate = certificate.replace(rt.alloc(), "VAST", vast)?;
+        let told = verify_told(
+            rt.alloc(),
+            &bytes,
+            PostRating::C,
+            FactorPlaces::Six,
+            edits,
+            certificate.as_bytes(),
+        )?;
+        expect(&rt, &told, status, text.as_bytes());
+    }
     Ok(())
 }

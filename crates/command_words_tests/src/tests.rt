@@ -2,23 +2,27 @@ use command_words::{WordsStop, request_of};
 use std::alloc::Global;
 use std::test::Fail;
 
-/// What words ask for, or the first line of the text that says how the program is used.
-fn told(alloc: Global, line: &str) -> Result<String, Fail> {
+/// What words ask for, or the text that says how the program is used.
+fn told_whole(alloc: Global, line: &str) -> Result<String, Fail> {
     let mut words = Vec::new(alloc);
     for word in line.split(' ') {
         words.push(String::from_str(alloc, word)?)?;
     }
     match request_of(alloc, words.as_slice()) {
         Ok(request) => Ok(format!(in alloc; "{request:?}")?),
-        Err(WordsStop::Usage(text)) => {
-            let first = text.lines().next().unwrap_or("");
-            Ok(String::from_str(alloc, first)?)
-        }
+        Err(WordsStop::Usage(text)) => Ok(text),
         Err(WordsStop::Memory) => Ok(String::from_str(alloc, "memory")?),
     }
 }
 
-const TABLE: [(&str, &str); 40] = [
+/// What words ask for, or the first line of the text that says how the program is used.
+fn told(alloc: Global, line: &str) -> Result<String, Fail> {
+    let text = told_whole(alloc, line)?;
+    let first = text.lines().next().unwrap_or("");
+    Ok(String::from_str(alloc, first)?)
+}
+
+const TABLE: [(&str, &str); 42] = [
     (
         "sced pool --case n.m --offers o.csv",
         "Pool(PoolFiles { case: \"n.m\", offers: \"o.csv\" })",
@@ -36,12 +40,12 @@ const TABLE: [(&str, &str); 40] = [
         "Clear(ClearFiles { market: MarketFiles { tables: MarketTables { grid: GridTables { case: \"n.m\", ptdf: \"p\", lodf: None, contingencies: None }, unit_outages: None, offers: \"o\", reserves: None, offsets: None, penalties: None }, rating: C, places: Six }, certificate: Some(\"x\") })",
     ),
     (
-        "sced replay --case n.m --ptdf p --offers o --edits e --certificate x --lodf l",
-        "Replay(ReplayFiles { market: MarketFiles { tables: MarketTables { grid: GridTables { case: \"n.m\", ptdf: \"p\", lodf: Some(\"l\"), contingencies: None }, unit_outages: None, offers: \"o\", reserves: None, offsets: None, penalties: None }, rating: C, places: Six }, edits: \"e\", certificate: Some(\"x\") })",
+        "sced replay --case n.m --ptdf p --offers o --reserves v --edits e --certificate x --lodf l",
+        "Replay(ReplayFiles { market: MarketFiles { tables: MarketTables { grid: GridTables { case: \"n.m\", ptdf: \"p\", lodf: Some(\"l\"), contingencies: None }, unit_outages: None, offers: \"o\", reserves: Some(\"v\"), offsets: None, penalties: None }, rating: C, places: Six }, edits: \"e\", certificate: Some(\"x\") })",
     ),
     (
-        "sced verify --case n.m --ptdf p --offers o --certificate x --post-rating b",
-        "Verify(VerifyFiles { market: MarketFiles { tables: MarketTables { grid: GridTables { case: \"n.m\", ptdf: \"p\", lodf: None, contingencies: None }, unit_outages: None, offers: \"o\", reserves: None, offsets: None, penalties: None }, rating: B, places: Six }, edits: None, certificate: \"x\" })",
+        "sced verify --case n.m --ptdf p --offers o --reserves=v --certificate x --post-rating b",
+        "Verify(VerifyFiles { market: MarketFiles { tables: MarketTables { grid: GridTables { case: \"n.m\", ptdf: \"p\", lodf: None, contingencies: None }, unit_outages: None, offers: \"o\", reserves: Some(\"v\"), offsets: None, penalties: None }, rating: B, places: Six }, edits: None, certificate: \"x\" })",
     ),
     (
         "sced verify --case n.m --ptdf p --offers o --certificate x --edits e",
@@ -56,8 +60,8 @@ const TABLE: [(&str, &str); 40] = [
         "Check(CheckFiles { tables: GridTables { case: \"n.m\", ptdf: \"p\", lodf: None, contingencies: None }, places: Nine })",
     ),
     (
-        "sced rights --case n.m --ptdf p --offers o --rights r",
-        "Rights(RightsFiles { market: MarketFiles { tables: MarketTables { grid: GridTables { case: \"n.m\", ptdf: \"p\", lodf: None, contingencies: None }, unit_outages: None, offers: \"o\", reserves: None, offsets: None, penalties: None }, rating: C, places: Six }, rights: \"r\" })",
+        "sced rights --case n.m --ptdf p --offers o --reserves v --rights r",
+        "Rights(RightsFiles { market: MarketFiles { tables: MarketTables { grid: GridTables { case: \"n.m\", ptdf: \"p\", lodf: None, contingencies: None }, unit_outages: None, offers: \"o\", reserves: Some(\"v\"), offsets: None, penalties: None }, rating: C, places: Six }, rights: \"r\" })",
     ),
     (
         "sced migrate --certificate a --out b",
@@ -128,6 +132,14 @@ const TABLE: [(&str, &str); 40] = [
         "error: unexpected argument '--ptdf' found",
     ),
     (
+        "sced pool --case n.m --offers o --reserves v",
+        "error: unexpected argument '--reserves' found",
+    ),
+    (
+        "sced clear --case n.m --ptdf p --offers o --reserves v --reserves v",
+        "error: the argument '--reserves <reserves>' cannot be used multiple times",
+    ),
+    (
         "sced",
         "error: 'sced' requires a subcommand but one was not provided",
     ),
@@ -173,6 +185,21 @@ const TABLE: [(&str, &str); 40] = [
 fn words_are_read(rt: HostRuntime) -> Result<(), Fail> {
     for (line, want) in TABLE {
         assert_eq!(rt; told(rt.alloc(), line)?.as_str(), want, "{line}");
+    }
+    Ok(())
+}
+
+/// The help of each command that reads a market tells of the table of reserve.
+#[test]
+fn help_tells_of_reserve(rt: HostRuntime) -> Result<(), Fail> {
+    for line in [
+        "sced clear --help",
+        "sced replay --help",
+        "sced verify --help",
+        "sced rights --help",
+    ] {
+        let help = told_whole(rt.alloc(), line)?;
+        assert!(rt; help.contains("--reserves <reserves>"), "{line}");
     }
     Ok(())
 }

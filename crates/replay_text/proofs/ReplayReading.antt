@@ -12,8 +12,8 @@ use Rattle.edit_replay.specs.declared.step_outcome.StepOutcome.{StepOutcome}
 use Rattle.edit_replay.specs.declared.step_outcome.StepOutcome.TheVariants as reply
 use Rattle.edit_replay.specs.Replays.{IsReplay, IsReply, stepped}
 use Rattle.report_text.specs.Reports.{report_text}
-use Rattle.report_text.proofs.LimitReading.{EndsLimits}
 use Rattle.report_text.proofs.OutcomeReading.{outcome_fits, outcomes_apart}
+use Rattle.report_text.proofs.ReserveReading.{EndsDuals}
 use Rattle.replay_text.specs.ReplayTexts.{came_to_text, fault_text, step_text, steps_text}
 use Rattle.replay_text.specs.ReplayTextLaws.{OutcomesFit, ReplaysApart, ReplaysReadApart, StepOutcomeFits}
 use Rattle.replay_text.proofs.FaultReading.{faults_apart, next_letter}
@@ -27,7 +27,7 @@ refused_apart m f g us vs e =
     in_order : (a t n ts : List ℕ) → (a ++ t ++ n) ++ ts ≡ a ++ (t ++ (n ++ ts))
     in_order a t n ts = Prim.simp append_assoc
 
-came_to_apart : (m : Parts) (o p : StepOutcome Fraction) → StepOutcomeFits m o → StepOutcomeFits m p → (us vs : List ℕ) → EndsLimits us → EndsLimits vs
+came_to_apart : (m : Parts) (o p : StepOutcome Fraction) → StepOutcomeFits m o → StepOutcomeFits m p → (us vs : List ℕ) → EndsDuals us → EndsDuals vs
     → came_to_text m o ++ us ≡ came_to_text m p ++ vs → (o ≡ p) × (us ≡ vs)
 came_to_apart m reply.Accepted reply.Accepted k l us vs g h e = (refl, append_cancel_left (codes " edit accepted\n") us vs e)
 came_to_apart m reply.Accepted (reply.Refused f) k l us vs g h e = absurd (Prim.omega (arith, next_letter (codes " edit ") 97 114 _ _ e))
@@ -41,7 +41,7 @@ came_to_apart m (reply.Clear a) (reply.Clear b) k l us vs g h e =
     let t = outcomes_apart m a b k l us vs g h (append_cancel_left (codes " clear\n") (report_text m a ++ us) (report_text m b ++ vs) e) in
     (ap reply.Clear t.0, t.1)
 
-step_apart : (number : ℕ) (m : Parts) (o p : StepOutcome Fraction) → StepOutcomeFits m o → StepOutcomeFits m p → (us vs : List ℕ) → EndsLimits us → EndsLimits vs
+step_apart : (number : ℕ) (m : Parts) (o p : StepOutcome Fraction) → StepOutcomeFits m o → StepOutcomeFits m p → (us vs : List ℕ) → EndsDuals us → EndsDuals vs
     → step_text number m o ++ us ≡ step_text number m p ++ vs → (o ≡ p) × (us ≡ vs)
 unfolding step_text
 step_apart number m o p k l us vs g h e =
@@ -53,12 +53,12 @@ step_apart number m o p k l us vs g h e =
     in_order a n c ts = Prim.simp append_assoc
 
 -- ---- steps
--- the text of steps does not go on with the line of a limit
-steps_end : (number : ℕ) (m : Parts) (steps : List Step) (os : List (StepOutcome Fraction)) → EndsLimits (steps_text number m steps os)
+-- the text of steps does not go on with the line of a limit or of a room
+steps_end : (number : ℕ) (m : Parts) (steps : List Step) (os : List (StepOutcome Fraction)) → EndsDuals (steps_text number m steps os)
 unfolding step_text
-steps_end number m [] os = tt
-steps_end number m (s ∷ steps) [] = tt
-steps_end number m (s ∷ steps) (o ∷ os) = λ e. Prim.omega (arith, e)
+steps_end number m [] os = (tt, tt)
+steps_end number m (s ∷ steps) [] = (tt, tt)
+steps_end number m (s ∷ steps) (o ∷ os) = (λ e. Prim.omega (arith, e), λ e. Prim.omega (arith, e))
 
 steps_apart : (number : ℕ) (m : Parts) (steps : List Step) (os ps : List (StepOutcome Fraction))
     → OutcomesFit m steps os → OutcomesFit m steps ps → steps_text number m steps os ≡ steps_text number m steps ps → os ≡ ps
@@ -87,7 +87,7 @@ reply_fits bound m before after (step.Edit e) (reply.Refused f) is = tt
 reply_fits bound m before after (step.Edit e) (reply.Clear o) none = absurd none
 reply_fits bound m before after step.Clear reply.Accepted none = absurd none
 reply_fits bound m before after step.Clear (reply.Refused f) none = absurd none
-reply_fits bound m before after step.Clear (reply.Clear o) is = outcome_fits _ m o is.energy_alone is.right
+reply_fits bound m before after step.Clear (reply.Clear o) is = outcome_fits _ m o is.right
 
 pub replay_fits : (bound : ℕ) (m : Parts) (before after : List Row) (steps : List Step) (os : List (StepOutcome Fraction)) → IsReplay bound m before steps os after → OutcomesFit m steps os
 replay_fits bound m before after [] [] replay = tt

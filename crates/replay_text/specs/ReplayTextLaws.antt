@@ -1,8 +1,9 @@
--- A report tells of its market only what no edit changes, and the text of a replay has one reading.
-use Rattle.std.specs.Prelude.{◌≡◌, ℕ, List, [], ◌∷◌}
+-- A report tells of its market only the need of reserve and what no edit changes, and the text of a replay has one reading.
+use Rattle.std.specs.Prelude.{◌≡◌, ℕ, ℤ, List, [], ◌∷◌}
 use Rattle.fraction_theory.specs.Fraction.{Fraction}
 use Rattle.market_model.specs.declared.answered.Outcome.{Outcome}
 use Rattle.market_model.specs.declared.participants.Parts.{Parts}
+use Rattle.market_model.specs.Changes.{with_need}
 use Rattle.market_model.specs.Frame.{SameFrame}
 use Rattle.market_model.specs.declared.limits.Row.{Row}
 use Rattle.edit_table.specs.declared.Step.{Step}
@@ -13,9 +14,9 @@ use Rattle.report_text.specs.ReportLaws.{OutcomeFitsReport}
 use Rattle.report_text.specs.Reports.{report_text}
 use Rattle.replay_text.specs.ReplayTexts.{replayed}
 
--- markets of one frame have the same reports
+-- markets of one frame have the same reports where they need as much reserve
 abbrev pub LawOfReports : Type 0
-LawOfReports = (m n : Parts) (o : Outcome Fraction) → SameFrame m n → report_text m o ≡ report_text n o
+LawOfReports = (m n : Parts) (need : ℤ) (o : Outcome Fraction) → SameFrame m n → report_text (with_need m need) o ≡ report_text (with_need n need) o
 
 -- ---- outcomes that fit
 -- what a clear of the market came to fits its report; nothing is asked of edits, nor that the step was an edit or a clear

@@ -32,11 +32,6 @@ came_to_text m (reply.Clear o) = codes " clear\n" ++ report_text m o
 unfoldable pub step_text : ℕ → Parts → StepOutcome Fraction → List ℕ
 step_text number m o = codes "step " ++ decimal number ++ came_to_text m o
 
--- outcomes of steps, the first of which has this number, by one market
-abbrev pub outcomes_text : ℕ → Parts → List (StepOutcome Fraction) → List ℕ
-outcomes_text number m [] = []
-outcomes_text number m (o ∷ outcomes) = step_text number m o ++ outcomes_text (number + 1) m outcomes
-
 -- the steps of a market, the first of which has this number, each of the market as the steps before it have edited it
 abbrev pub steps_text : ℕ → Parts → List Step → List (StepOutcome Fraction) → List ℕ
 steps_text number m [] outcomes = []

@@ -2,7 +2,7 @@
 
 ghost use Rattle.replay_text.specs.ReplayTextLaws.{LawOfReports, ReplaysApart, ReplaysReadApart};
 
-/// A report tells of its market only what no edit changes.
+/// A report tells of its market only the need of reserve and what no edit changes.
 pub fn report_is_of_the_frame()
     ensures { LawOfReports }
 {}

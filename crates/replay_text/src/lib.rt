@@ -3,6 +3,7 @@
 
 mod fault;
 pub mod laws;
+mod need;
 mod replay;
 
 pub use replay::replay_text;

@@ -1,19 +1,22 @@
 -- The laws of every run.
-use Rattle.std.specs.Prelude.{◌≡◌, ◌≢◌, ◌⊎◌, ℕ, Bool, true, false, if◌then◌else◌, List, [], ◌∷◌, ◌++◌, Option, Some, None, Ok, Err, Result, codes, length, nat_lt, option_and_then, option_map, unwrap_or}
+use Rattle.std.specs.Prelude.{◌≡◌, ◌≢◌, ◌⊎◌, ℕ, Bool, true, false, if◌then◌else◌, List, [], ◌∷◌, ◌++◌, Option, Some, None, Ok, Err, Result, codes, length, map, nat_lt, option_and_then, option_map, unwrap_or}
 use Rattle.std.proofs.Common.{inl, inr, refl, sym, subst, ap, ◌∙◌}
-use Rattle.fraction_theory.specs.Fraction.{Fraction}
+use Rattle.fraction_theory.specs.Fraction.{Fraction, ◌+ℚ◌}
+use Rattle.fraction_theory.specs.Sums.{sum_by}
 use Rattle.exact_fraction.specs.declared.Passed.{Passed}
 use Rattle.outside_store.specs.Files.{Files, SameFiles}
 use Rattle.market_model.specs.declared.answered.Answer.{Answer}
 use Rattle.market_model.specs.declared.answered.Outcome.{Outcome}
 use Rattle.market_model.specs.declared.answered.Outcome.TheVariants as outcome
+use Rattle.market_model.specs.declared.answered.ReservePay.{ReservePay}
 use Rattle.market_model.specs.declared.participants.Parts.{Parts}
 use Rattle.market_model.specs.declared.participants.TransmissionRight.{TransmissionRight}
 use Rattle.rights_test.specs.declared.right_parts.Fit.TheVariants as fit
+use Rattle.market_model.specs.Laws.{LawOfTheReserve}
 use Rattle.market_model.specs.Market.{IsMarket}
-use Rattle.market_model.specs.Reserves.{no_reserve}
+use Rattle.market_model.specs.Reserves.{offer_places}
 use Rattle.market_model.specs.RightAnswers.{IsRight, dispatch_in}
-use Rattle.market_model.specs.Settlement.{surplus}
+use Rattle.market_model.specs.Settlement.{pay_of_reserve, surplus}
 use Rattle.market_model.proofs.FarkasLaw.{law_of_infeasibility}
 use Rattle.market_model.proofs.Optimum.{law_of_the_optimum, law_of_the_surplus}
 use Rattle.market_system.specs.WorkingPairs.{IsRangeOf}
@@ -78,13 +81,20 @@ use Rattle.sced.proofs.FailureLemmas.{silent-or}
 use Rattle.sced.proofs.RunLemmas.{IsPrinted, cleared-at, edit-at, printed, refused-at, refused-status, reported}
 
 -- ---- cleared and infeasible
-pub right-best : (m : Parts) (a : Answer Fraction) → IsMarket m → IsRight m a → HasGreatestWelfare m (dispatch_in a) × IsPriced m a
+-- a sum over what is made of each
+sum_by-map : {S T : Type 0} (f : T → Fraction) (g : S → T) (xs : List S) → sum_by f (map g xs) ≡ sum_by (λ x. f (g x)) xs
+sum_by-map f g [] = refl
+sum_by-map f g (x ∷ xs) = ap (λ t. f (g x) +ℚ t) (sum_by-map f g xs)
+
+pub right-best : LawOfTheReserve → (m : Parts) (a : Answer Fraction) → IsMarket m → IsRight m a → HasGreatestWelfare m (dispatch_in a) × IsPriced m a
 unfolding surplus
-right-best m a market right = (
+right-best law_of_reserve m a market right = (
   record {
     offered = right.feasible.blocks;
     balances = right.feasible.balanced;
     within = right.feasible.limits;
+    need = right.feasible.need;
+    rooms = right.feasible.rooms;
     greatest = λ y feasible. law_of_the_optimum m a.duals (dispatch_in a) y market right.feasible right.supported feasible;
   },
   record {
@@ -94,13 +104,16 @@ right-best m a market right = (
     worth = ap (λ (b : Answer Fraction). b.welfare) right.made;
     money = ap (λ (b : Answer Fraction). b.money) right.made;
     surplus = ap (λ (b : Answer Fraction). b.money.surplus) right.made ∙ law_of_the_surplus m a.duals (dispatch_in a) market right.feasible right.supported;
+    reserve_paid = ap (λ (b : Answer Fraction). sum_by (λ (p : ReservePay Fraction). p.paid) b.money.reserve) right.made
+        ∙ sum_by-map (λ (p : ReservePay Fraction). p.paid) (pay_of_reserve (dispatch_in a) a.duals) (offer_places m)
+        ∙ law_of_reserve m a.duals (dispatch_in a) market right.feasible right.supported;
   },
 )
 
-pub law_of_cleared : LawOfCleared
-law_of_cleared words files text s m a place prints reports =
+pub law_of_cleared : LawOfTheReserve → LawOfCleared
+law_of_cleared law_of_reserve words files text s m a place prints reports =
     let is = reported words files text s m (outcome.Cleared a) place _ (printed words files text s prints) reports in
-    right-best m a is.market is.right
+    right-best law_of_reserve m a is.market is.right
 
 pub law_of_infeasible : LawOfInfeasible
 law_of_infeasible words files text s m f place prints reports =
@@ -117,7 +130,7 @@ law_of_range words files text s m p place prints reports =
 market-reported : (m : Parts) (t : Telling) (text : List ℕ) (s : Status) → t.text ≡ text → t.status ≡ s → TellsClear m t → IsReported m text s
 market-reported m t text s words ends (market, clears) = record {
   outcome = clears.outcome;
-  fits = outcome_fits _ m clears.outcome clears.energy_alone clears.right;
+  fits = outcome_fits _ m clears.outcome clears.right;
   text_is = sym words ∙ clears.text_is;
   status_is = sym ends ∙ clears.status_is;
 }
@@ -233,13 +246,13 @@ verdict-line-yes : verdict_line None ≡ codes "yes\n"
 unfolding verdict_line
 verdict-line-yes = refl
 
-module _ (m : Parts) (c : Cert Fraction) (alone : m.reserve ≡ no_reserve) (apart : RowsAreDistinct c) (text : List ℕ) where
+module _ (m : Parts) (c : Cert Fraction) (apart : RowsAreDistinct c) (text : List ℕ) where
   no-yes : (why : Reason) → verdict_of (Some why) ≡ verdict_of None → ⊥
   no-yes why bad = cc bad
 
   verdict-by : (r : Option Reason) → first_reason m c ≡ r → text ≡ verdict_line r → IsVerdict m c text (verdict_status r)
-  verdict-by None is line = yes ((law_of_the_verdict m c alone apart).0 (ap verdict_of is)) (line ∙ verdict-line-yes)
-  verdict-by (Some why) is line = no (λ holds. no-yes why (sym (ap verdict_of is) ∙ (law_of_the_verdict m c alone apart).1 holds)) (line ∙ ap verdict_line (sym is))
+  verdict-by None is line = yes ((law_of_the_verdict m c apart).0 (ap verdict_of is)) (line ∙ verdict-line-yes)
+  verdict-by (Some why) is line = no (λ holds. no-yes why (sym (ap verdict_of is) ∙ (law_of_the_verdict m c apart).1 holds)) (line ∙ ap verdict_line (sym is))
 
   verdict-of : (t : Telling) (s : Status) → t.text ≡ text → t.status ≡ s → VerifiesTo most_size m c t → IsVerdict m c text s
   verdict-of t s words ends (judged is) =
@@ -253,7 +266,7 @@ pub law_of_verify : LawOfVerify
 law_of_verify words files text s m c prints asks =
     let p = printed words files text s prints in
     let told = verify-told files words p.telling p.written (Ok (record { market = m; certificate = c })) p.answers asks in
-    verdict-of m c told.2 (cert_read-distinct asks.stand.certificate c (asked-read files words m c asks)) text p.telling s p.text_is p.status_is told.1
+    verdict-of m c (cert_read-distinct asks.stand.certificate c (asked-read files words m c asks)) text p.telling s p.text_is p.status_is told.1
 
 -- ---- round trip
 -- what is written of a clear is its certificate, where a file is named for it
@@ -268,16 +281,16 @@ clear-written files words t _ names file asks (migrated old out asked told) = ab
 clear-written files words t _ names file asks (checked names' asked told) = absurd (no-other words (codes "check") (codes "clear") asked.rows asks.rows refl asked.enters asks.enters)
 clear-written files words t _ names file asks (made buses seed asked told) = absurd (no-other words (codes "make") (codes "clear") asked.rows asks.rows refl asked.enters asks.enters)
 
-has-certificate : (places : FactorPlaces) (o : Outcome Fraction) → (status_of o ≡ status.Done) ⊎ (status_of o ≡ status.Infeasible) → (bytes : List ℕ) × (certificate_of places o ≡ Some bytes)
-has-certificate places (outcome.Cleared a) is = (_, refl)
-has-certificate places (outcome.Infeasible f) is = (_, refl)
-has-certificate places (outcome.Range p) (inl is) = cc is
-has-certificate places (outcome.Range p) (inr is) = cc is
+has-certificate : (places : FactorPlaces) (listed : Bool) (o : Outcome Fraction) → (status_of o ≡ status.Done) ⊎ (status_of o ≡ status.Infeasible) → (bytes : List ℕ) × (certificate_of places listed o ≡ Some bytes)
+has-certificate places listed (outcome.Cleared a) is = (_, refl)
+has-certificate places listed (outcome.Infeasible f) is = (_, refl)
+has-certificate places listed (outcome.Range p) (inl is) = cc is
+has-certificate places listed (outcome.Range p) (inr is) = cc is
 
 told-certificate : (m : Parts) (t : Telling) (s : Status) → t.status ≡ s → (s ≡ status.Done) ⊎ (s ≡ status.Infeasible) → TellsClear m t → (bytes : List ℕ) × (t.outputs.certificate ≡ Some bytes)
 told-certificate m t s ends which (market, clears) =
     let is = sym clears.status_is ∙ ends in
-    let some = has-certificate m.places clears.outcome (subst (λ (x : Status). (x ≡ status.Done) ⊎ (x ≡ status.Infeasible)) (sym is) which) in
+    let some = has-certificate m.places m.reserve.listed clears.outcome (subst (λ (x : Status). (x ≡ status.Done) ⊎ (x ≡ status.Infeasible)) (sym is) which) in
     (some.0, ap (λ (o : Outputs (List ℕ)). o.certificate) clears.certificate_is ∙ some.1)
 
 -- a file has this text, or what it had where there is none
@@ -328,12 +341,12 @@ pub law_of_certificate : LawOfCertificate
 law_of_certificate words files later text s names file m o clear now asked market fits is =
     let p = printed words files text s clear in
     let tells = clear-told files words p.telling p.written (Ok m) p.answers market in
-    let same : tells.1.outcome ≡ o = reports_apart m tells.1.outcome o (outcome_fits _ m tells.1.outcome tells.1.energy_alone tells.1.right) fits (sym tells.1.text_is ∙ p.text_is ∙ is) in
-    let put : p.telling.outputs.certificate ≡ certificate_of m.places o = ap (λ (x : Outputs (List ℕ)). x.certificate) tells.1.certificate_is ∙ ap (certificate_of m.places) same in
+    let same : tells.1.outcome ≡ o = reports_apart m tells.1.outcome o (outcome_fits _ m tells.1.outcome tells.1.right) fits (sym tells.1.text_is ∙ p.text_is ∙ is) in
+    let put : p.telling.outputs.certificate ≡ certificate_of m.places m.reserve.listed o = ap (λ (x : Outputs (List ℕ)). x.certificate) tells.1.certificate_is ∙ ap (certificate_of m.places m.reserve.listed) same in
     let written = clear-written files words p.telling p.written names (Some file) asked p.answers ∙ ap (λ c. named_bytes (Some file) c []) put in
-    certificate-kept (Certifies m) (cert_of_outcome m.places o) (files file) (later file) (kept-as files later file (certificate_of m.places o) p.written clear.after.files written now p.kept)
+    certificate-kept (Certifies m) (cert_of_outcome m.places m.reserve.listed o) (files file) (later file) (kept-as files later file (certificate_of m.places m.reserve.listed o) p.written clear.after.files written now p.kept)
     (λ c some. (let trip = law_of_the_round_trip m p.telling (cert_text c) tells (put ∙ ap (option_map cert_text) some) in
-    let one : trip.0 ≡ c = one-certificate (cert_of_outcome m.places o) trip.0 c (ap (cert_of_outcome m.places) (sym same) ∙ trip.1) some in
+    let one : trip.0 ≡ c = one-certificate (cert_of_outcome m.places m.reserve.listed o) trip.0 c (ap (cert_of_outcome m.places m.reserve.listed) (sym same) ∙ trip.1) some in
     subst (Certifies m (cert_text c)) one trip.2))
 
 -- what is written of a replay is its certificate, where a file is named for it
@@ -350,9 +363,9 @@ replay-written files words t _ names edits file asks (checked names' asked told)
 replay-written files words t _ names edits file asks (made buses seed asked told) = absurd (no-other words (codes "make") (codes "replay") asked.rows asks.rows refl asked.enters asks.enters)
 
 -- the text of the certificate of an outcome that there may be
-text-of-last : (places : FactorPlaces) (o : Option (Outcome Fraction)) → option_and_then (certificate_of places) o ≡ option_map cert_text (option_and_then (cert_of_outcome places) o)
-text-of-last places None = refl
-text-of-last places (Some o) = refl
+text-of-last : (places : FactorPlaces) (listed : Bool) (o : Option (Outcome Fraction)) → option_and_then (certificate_of places listed) o ≡ option_map cert_text (option_and_then (cert_of_outcome places listed) o)
+text-of-last places listed None = refl
+text-of-last places listed (Some o) = refl
 
 pub law_of_last_certificate : LawOfLastCertificate
 law_of_last_certificate words files later text s names edits file r outcomes replay now asked steps fits is =
@@ -361,13 +374,13 @@ law_of_last_certificate words files later text s names edits file r outcomes rep
     let same : tells.1.outcomes ≡ outcomes =
     replays_read_apart r.market r.steps tells.1.outcomes outcomes (replay_fits most_size r.market [] tells.1.taken r.steps tells.1.outcomes tells.1.right) fits (sym tells.1.text_is ∙ p.text_is ∙ is) in
     let last = last_clear None outcomes in
-    let put : p.telling.outputs.certificate ≡ option_map cert_text (option_and_then (cert_of_outcome r.market.places) last) =
-    ap (λ (x : Outputs (List ℕ)). x.certificate) tells.1.certificate_is ∙ ap (λ os. option_and_then (certificate_of r.market.places) (last_clear None os)) same ∙ text-of-last r.market.places last in
+    let put : p.telling.outputs.certificate ≡ option_map cert_text (option_and_then (cert_of_outcome r.market.places r.market.reserve.listed) last) =
+    ap (λ (x : Outputs (List ℕ)). x.certificate) tells.1.certificate_is ∙ ap (λ os. option_and_then (certificate_of r.market.places r.market.reserve.listed) (last_clear None os)) same ∙ text-of-last r.market.places r.market.reserve.listed last in
     let written = replay-written files words p.telling p.written names edits (Some file) asked p.answers ∙ ap (λ c. named_bytes (Some file) c []) put in
-    certificate-kept (CertifiesLast r) (option_and_then (cert_of_outcome r.market.places) last) (files file) (later file)
-    (kept-as files later file (option_map cert_text (option_and_then (cert_of_outcome r.market.places) last)) p.written replay.after.files written now p.kept)
+    certificate-kept (CertifiesLast r) (option_and_then (cert_of_outcome r.market.places r.market.reserve.listed) last) (files file) (later file)
+    (kept-as files later file (option_map cert_text (option_and_then (cert_of_outcome r.market.places r.market.reserve.listed) last)) p.written replay.after.files written now p.kept)
     (λ c some. (let trip = law_of_the_replay r p.telling (cert_text c) tells (put ∙ ap (option_map cert_text) some) in
-    let one : trip.0 ≡ c = one-certificate (option_and_then (cert_of_outcome r.market.places) last) trip.0 c (ap (λ os. option_and_then (cert_of_outcome r.market.places) (last_clear None os)) (sym same) ∙ trip.1) some in
+    let one : trip.0 ≡ c = one-certificate (option_and_then (cert_of_outcome r.market.places r.market.reserve.listed) last) trip.0 c (ap (λ os. option_and_then (cert_of_outcome r.market.places r.market.reserve.listed) (last_clear None os)) (sym same) ∙ trip.1) some in
     subst (CertifiesLast r (cert_text c)) one trip.2))
 
 pub law_of_round_trip : LawOfRoundTrip
@@ -463,12 +476,12 @@ module _ (words : List (List ℕ)) (files : Files) (text : List ℕ) (s : Status
         inr (record { market = r.market; steps = r.steps; asks = asks; place = here.0; edit = edit.0; stands = edit.1; fault = here.1; refused = edit.2 })
 
     of-verdict : (v : MarketCertificate) → TellsVerdict v p.telling → Why
-    of-verdict v (market, judged is, alone) = verdict-status (first_reason v.market v.certificate) (sym (ap (λ (t : Telling). t.status) is) ∙ bad)
+    of-verdict v (market, judged is) = verdict-status (first_reason v.market v.certificate) (sym (ap (λ (t : Telling). t.status) is) ∙ bad)
       where
         verdict-status : (r : Option Reason) → verdict_status r ≡ status.Refused → Why
         verdict-status None wrong = cc wrong
         verdict-status (Some why) wrong = cc wrong
-    of-verdict v (market, passed q pair within is, alone) = absurd (range-refused (sym (ap (λ (t : Telling). t.status) is) ∙ bad))
+    of-verdict v (market, passed q pair within is) = absurd (range-refused (sym (ap (λ (t : Telling). t.status) is) ∙ bad))
       where
         range-refused : status.Range ≡ status.Refused → ⊥
         range-refused wrong = cc wrong
@@ -529,19 +542,19 @@ ring-answer : (bound buses seed : ℕ) (t : Telling) → MakesTo bound buses see
 ring-answer bound buses seed t (making.cleared a market right is) = inl (a, market, right, is)
 ring-answer bound buses seed t (making.passed q pair within is) = inr (q, pair, within, is)
 
-ring-made : (buses seed : ℕ) (t : Telling) (text : List ℕ) (s : Status) → t.text ≡ text → t.status ≡ s
+ring-made : LawOfTheReserve → (buses seed : ℕ) (t : Telling) (text : List ℕ) (s : Status) → t.text ≡ text → t.status ≡ s
     → ((a : Answer Fraction) × IsMarket (ring_of buses seed) × IsRight (ring_of buses seed) a × (t ≡ uncertified status.Done (making.ring_line buses seed ++ making.summary a)))
     ⊎ ((p : Passed Fraction) × IsRangeOf (ring_of buses seed) [] most_size p × ArePassedWithin most_size p × (t ≡ uncertified status.Range (making.ring_line buses seed ++ range_text p))) → IsMade buses seed text s
-ring-made buses seed t text s words ends (inl (a, market, right, is)) =
-    let best = right-best (ring_of buses seed) a market right in
+ring-made law_of_reserve buses seed t text s words ends (inl (a, market, right, is)) =
+    let best = right-best law_of_reserve (ring_of buses seed) a market right in
     subst (IsMade buses seed text) (sym (ap (λ (x : Telling). x.status) is) ∙ ends) (cleared_ring a best.0 best.1 (sym words ∙ ap (λ (x : Telling). x.text) is))
-ring-made buses seed t text s words ends (inr (p, pair, within, is)) =
+ring-made law_of_reserve buses seed t text s words ends (inr (p, pair, within, is)) =
     subst (IsMade buses seed text) (sym (ap (λ (x : Telling). x.status) is) ∙ ends) (range_ring p pair within (sym words ∙ ap (λ (x : Telling). x.text) is))
 
-pub law_of_make : LawOfMake
-law_of_make words files text s buses seed prints asks =
+pub law_of_make : LawOfTheReserve → LawOfMake
+law_of_make law_of_reserve words files text s buses seed prints asks =
     let p = printed words files text s prints in
-    ring-made buses seed p.telling text s p.text_is p.status_is (ring-answer most_size buses seed p.telling (make-told (Some files) words p.telling buses seed asks p.written p.answers))
+    ring-made law_of_reserve buses seed p.telling text s p.text_is p.status_is (ring-answer most_size buses seed p.telling (make-told (Some files) words p.telling buses seed asks p.written p.answers))
 
 -- ---- outside
 -- each file that is written is one of these

@@ -11,6 +11,7 @@ use Rattle.market_model.specs.declared.answered.Price.{Price}
 use Rattle.market_model.specs.declared.participants.Parts.{Parts}
 use Rattle.market_model.specs.declared.participants.TransmissionRight.{TransmissionRight}
 use Rattle.market_model.specs.Dispatch.{places, zero}
+use Rattle.market_model.specs.Laws.{LawOfTheReserve}
 use Rattle.market_model.specs.Market.{IsMarket}
 use Rattle.market_model.specs.Optimality.{bus_price, price_by}
 use Rattle.market_model.specs.RightAnswers.{IsRight, dispatch_in, price_made}
@@ -57,7 +58,7 @@ module _ (m : Parts) (rights : List TransmissionRight) (t : Telling) (text : Lis
   as-told e is here =
       subst (λ x. IsEntitled m rights x s) (sym (ap (λ (x : Telling). x.text) is) ∙ words) (subst (IsEntitled m rights e.text) (sym (ap (λ (x : Telling). x.status) is) ∙ ends) here)
 
-  module _ (law_of_payments : LawOfCoveredPayments) (market : IsMarket m) (held : All (IsTransmissionRight (length m.buses)) rights) where
+  module _ (law_of_reserve : LawOfTheReserve) (law_of_payments : LawOfCoveredPayments) (market : IsMarket m) (held : All (IsTransmissionRight (length m.buses)) rights) where
     -- rights that fit are paid no more than the surplus of the answer
     covered : (a : Answer Fraction) → IsRight m a → IsFit m rights fit.Fits → (payments_of (total_at (λ x. x) a.prices) rights).total ≤ℚ a.money.surplus
     unfolding surplus
@@ -68,17 +69,17 @@ module _ (m : Parts) (rights : List TransmissionRight) (t : Telling) (text : Lis
 
     of-answer : (a : Answer Fraction) → IsRight m a → TellsFit most_size m rights (total_at (λ x. x) a.prices) (report_text m (outcome.Cleared a)) t → IsEntitled m rights text s
     of-answer a right (fitted fit.Fits is-fit is) =
-        let best = right-best m a market right in
+        let best = right-best law_of_reserve m a market right in
         as-told _ is (rights_fit a best.0 best.1 ((law_of_the_fit m rights fit.Fits is-fit).0 refl) refl (covered a right is-fit))
     of-answer a right (fitted (fit.Breaks row flow) is-fit is) =
-        let best = right-best m a market right in
+        let best = right-best law_of_reserve m a market right in
         let law = law_of_the_fit m rights (fit.Breaks row flow) is-fit in
         as-told _ is (rights_break a row flow best.0 best.1 (λ feasible. other (law.1 feasible)) is-fit refl)
       where
         other : fit.Breaks row flow ≡ fit.Fits → ⊥
         other bad = cc bad
     of-answer a right (passed p pair within is) =
-        let best = right-best m a market right in
+        let best = right-best law_of_reserve m a market right in
         as-told _ is (rights_pass a p best.0 best.1 pair within refl)
 
     of-outcome : (o : Outcome Fraction) → IsRightOutcome most_size m [] o → AreSidesWithin most_size o → TellsOutcome most_size m rights o t → IsEntitled m rights text s
@@ -86,11 +87,11 @@ module _ (m : Parts) (rights : List TransmissionRight) (t : Telling) (text : Lis
     of-outcome (outcome.Infeasible f) right sides is = as-told _ is (nothing_qualifies f (λ x. law_of_infeasibility m f.duals x market right.shows) right refl)
     of-outcome (outcome.Range p) right sides is = as-told _ is (clear_passes p right sides refl)
 
-pub law_of_rights : LawOfCoveredPayments → LawOfRights
-law_of_rights law_of_payments words files text s m rights prints asks =
+pub law_of_rights : LawOfTheReserve → LawOfCoveredPayments → LawOfRights
+law_of_rights law_of_reserve law_of_payments words files text s m rights prints asks =
     let p = printed words files text s prints in
     let tells = rights-told files words p.telling p.written (Ok (record { market = m; rights = rights })) p.answers asks in
-    of-outcome m rights p.telling text s p.text_is p.status_is law_of_payments tells.market tells.rights tells.entitles.outcome tells.entitles.right tells.entitles.sides tells.entitles.told
+    of-outcome m rights p.telling text s p.text_is p.status_is law_of_reserve law_of_payments tells.market tells.rights tells.entitles.outcome tells.entitles.right tells.entitles.sides tells.entitles.told
 
 -- ---- migrate
 -- what is written is the certificate, to the file that is named for it

@@ -195,7 +195,7 @@ pub record IsOutcomeOf (words : List (List ℕ)) (files : Files) (text : List �
 module _ (words : List (List ℕ)) (files : Files) (text : List ℕ) (m : Parts) (o : Outcome Fraction) (t : Telling) where
   clear-outcome : AsksMarket files words m → OutcomeFitsReport m o → t.text ≡ report_text m o → TellsClear m t → IsOutcomeOf words files text m o 0
   clear-outcome asks fits is (market, clears) =
-      let same : clears.outcome ≡ o = reports_apart m clears.outcome o (outcome_fits _ m clears.outcome clears.energy_alone clears.right) fits (sym clears.text_is ∙ is) in
+      let same : clears.outcome ≡ o = reports_apart m clears.outcome o (outcome_fits _ m clears.outcome clears.right) fits (sym clears.text_is ∙ is) in
       record { market = market; taken = []; begins = in_clear asks; right = subst (IsRightOutcome most_size m []) same clears.right; sides = subst (AreSidesWithin most_size) same clears.sides }
 
   step-outcome : (start : Parts) (steps : List Step) (outcomes : List (StepOutcome Fraction)) (k : ℕ) → AsksSteps files words start steps → OutcomesFit start steps outcomes

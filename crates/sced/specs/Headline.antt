@@ -3,7 +3,7 @@
 -- Pricing of Electricity: prices and the surplus. Farkas: why no dispatch qualifies.
 use Rattle.std.specs.Prelude.{◌≡◌, ◌⊎◌, ℕ, List, [], ◌++◌, length, map, take, Contains, codes, slice_get, Option, Some, None, option_and_then, Ok, Err}
 use Rattle.std.specs.Option.{option_map_or}
-use Rattle.fraction_theory.specs.Fraction.{Fraction}
+use Rattle.fraction_theory.specs.Fraction.{Fraction, ◌*ℚ◌}
 use Rattle.fraction_theory.specs.Order.{◌≤ℚ◌}
 use Rattle.fraction_theory.specs.Sums.{sum_by}
 use Rattle.exact_fraction.specs.declared.Passed.{Passed}
@@ -21,6 +21,7 @@ use Rattle.market_model.specs.Dispatch.{Dispatch, IsDispatch, balance, places, z
 use Rattle.market_model.specs.Infeasibility.{IsFarkas}
 use Rattle.market_model.specs.LimitRows.{flow, most_flow, rows}
 use Rattle.market_model.specs.Optimality.{AreWithin, Feasible, ProperDuals, Supports, bus_price, welfare}
+use Rattle.market_model.specs.Reserves.{reserve, reserve_need, reserve_units, room, room_used}
 use Rattle.market_model.specs.RightAnswers.{dispatch_in, price_made, settlement_at}
 use Rattle.market_model.specs.Rights.{AreFeasibleTogether}
 use Rattle.market_model.specs.Settlement.{rent}
@@ -127,16 +128,19 @@ pub data BeginsWith (words : List (List ℕ)) (files : Files) (text : List ℕ) 
       → IsReplay most_size start [] (take k steps) (take k outcomes) taken → BeginsWith words files text m k taken
 
 -- ---- cleared
--- within the offers, in balance, and within every limit of the base and after every listed outage, up to its excess, whose penalty the welfare
--- bears; and no dispatch that is so is worth more
+-- within the offers of energy and of reserve, in balance, within every limit of the base and after every listed outage, up to its excess, whose
+-- penalty the welfare bears, with the reserve that is needed, and with no unit's room passed by its energy and its reserve together; and no
+-- dispatch that is so is worth more
 pub record HasGreatestWelfare (m : Parts) (x : Dispatch) : Type 0 where
   pub offered : IsDispatch m x
   pub balances : balance m x ≡ zero
   pub within : AreWithin (rows m) (most_flow m) (flow m x)
+  pub need : reserve_need m ≤ℚ reserve m x
+  pub rooms : (u : ℕ) → Contains (reserve_units m) u → room_used m x u ≤ℚ room m u
   pub greatest : (y : Dispatch) → Feasible m y → welfare m y ≤ℚ welfare m x
 
--- the prices are those of the duals, which support the dispatch and name rows of the market in its order, each with one price; the settlement
--- is at these prices, and its surplus is the sum of the rents
+-- The prices are those of the duals, which support the dispatch and name rows and rooms of the market in its order, each with one price. The
+-- settlement is at these prices: its surplus is the sum of the rents, and offers of reserve are paid the price of reserve for the need.
 pub record IsPriced (m : Parts) (a : Answer Fraction) : Type 0 where
   pub prices : a.prices ≡ map (price_made m a.duals) (places (length m.buses))
   pub supported : Supports m (dispatch_in a) a.duals
@@ -144,6 +148,7 @@ pub record IsPriced (m : Parts) (a : Answer Fraction) : Type 0 where
   pub worth : a.welfare ≡ welfare m (dispatch_in a)
   pub money : a.money ≡ settlement_at m (dispatch_in a) (bus_price m a.duals) a.duals
   pub surplus : a.money.surplus ≡ sum_by (rent m (dispatch_in a) a.duals) (rows m)
+  pub reserve_paid : sum_by (λ p. p.paid) a.money.reserve ≡ a.duals.reserve *ℚ reserve_need m
 
 -- what is printed as cleared is best, and priced by duals that support it
 abbrev pub LawOfCleared : Type 0
@@ -234,7 +239,7 @@ pub record HasCertificate (holds : List ℕ → Cert Fraction → Type 0) (certi
 abbrev pub LawOfCertificate : Type 0
 LawOfCertificate = (words : List (List ℕ)) (files later : Files) (text : List ℕ) (s : Status) (names : MarketNames) (file : List ℕ) (m : Parts)
     (o : Outcome Fraction) → (clear : Prints words files text s) → clear.after.files ≡ Some later → AsksClear words names (Some file) → AsksMarket files words m
-    → OutcomeFitsReport m o → text ≡ report_text m o → HasCertificate (Certifies m) (cert_of_outcome m.places o) (files file) (later file)
+    → OutcomeFitsReport m o → text ≡ report_text m o → HasCertificate (Certifies m) (cert_of_outcome m.places m.reserve.listed o) (files file) (later file)
 
 -- in a replay, that of the last clear and of the market as the steps before it edit it
 abbrev pub LawOfLastCertificate : Type 0
@@ -242,7 +247,7 @@ LawOfLastCertificate = (words : List (List ℕ)) (files later : Files) (text : L
     (r : MarketSteps) (outcomes : List (StepOutcome Fraction)) → (replay : Prints words files text s) → replay.after.files ≡ Some later
     → AsksReplay words names edits (Some file) → AsksToReplay files words (Ok r)
     → OutcomesFit r.market r.steps outcomes → text ≡ replayed r.market r.steps outcomes
-    → HasCertificate (CertifiesLast r) (option_and_then (cert_of_outcome r.market.places) (last_clear None outcomes)) (files file) (later file)
+    → HasCertificate (CertifiesLast r) (option_and_then (cert_of_outcome r.market.places r.market.reserve.listed) (last_clear None outcomes)) (files file) (later file)
 
 -- ---- round trip
 -- of what a clear of a market wrote `verify` says yes against that market, or that numbers are too large

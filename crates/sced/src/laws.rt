@@ -3,6 +3,7 @@
 
 ghost use Rattle.sced.specs.Headline.{LawOfAnswered, LawOfAsked, LawOfCauses, LawOfCertificate, LawOfCheck, LawOfCleared, LawOfComplete, LawOfCutShort, LawOfFaults, LawOfInfeasible, LawOfLastCertificate, LawOfMake, LawOfMigrate, LawOfMissing, LawOfOutside, LawOfRange, LawOfReplay, LawOfRights, LawOfRoundTrip, LawOfVerify};
 
+use market_model::laws::reserve_is_paid_for_the_need;
 use rights_test::laws::payments_are_covered;
 
 /// A run that puts a text was asked for nothing that the program does, for work on what the files stand for, for a ring, or on files with
@@ -11,12 +12,15 @@ pub fn asked()
     ensures { LawOfAsked }
 {}
 
-/// What is printed as cleared balances, is within the offers, meets every limit of the base and after every listed outage of the
-/// market as edited, up to its excess, whose penalty its welfare bears, and has the greatest welfare of all dispatches that do; its
-/// prices are those of its duals, which support it, and its surplus is the sum of its rents.
+/// What is printed as cleared balances, is within the offers of energy and of reserve, meets every limit of the base and after every
+/// listed outage of the market as edited, up to its excess, whose penalty its welfare bears, has the reserve that is needed within the
+/// rooms of the units, and has the greatest welfare of all dispatches that do; its prices are those of its duals, which support it, its
+/// surplus is the sum of its rents, and reserve is paid its price for the need.
 pub fn cleared()
     ensures { LawOfCleared }
-{}
+{
+    reserve_is_paid_for_the_need();
+}
 
 /// Where infeasible is printed no dispatch qualifies, and the printed duals show it with the printed bound.
 pub fn infeasible()
@@ -66,6 +70,7 @@ pub fn round_trip()
 pub fn rights()
     ensures { LawOfRights }
 {
+    reserve_is_paid_for_the_need();
     payments_are_covered();
 }
 
@@ -88,7 +93,9 @@ pub fn faults()
 /// A ring has the worth and the surplus of an answer that is best and priced, or two of its numbers that pass 127 bits.
 pub fn make()
     ensures { LawOfMake }
-{}
+{
+    reserve_is_paid_for_the_need();
+}
 
 /// No file is touched but those that the words name for writing.
 pub fn outside()

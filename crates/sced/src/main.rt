@@ -59,6 +59,8 @@ mod clear_tests;
 #[cfg(test)]
 mod fixture;
 #[cfg(test)]
+mod reserve_tests;
+#[cfg(test)]
 mod task_tests;
 #[cfg(test)]
 mod tests;

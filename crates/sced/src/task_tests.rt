@@ -168,67 +168,6 @@ fn writes_and_verifies_certificates(rt: HostRuntime) -> Result<(), Fail> {
     Ok(())
 }
 
-/// Certificates of the market with a limit of 40 that are none, or tell a reason before any sum is made of numbers that are too large.
-#[test]
-fn refuses_certificates(rt: HostRuntime) -> Result<(), Fail> {
-    let vast = "170141183460469231731687303715884105727/1";
-    let line = format!(in rt.alloc(); "sced verify {ALONE} --certificate in.json")?;
-    for (certificate, status, text) in [
-        ("{", Status::Refused, "refused certificate Key json\n"),
-        (
-            "{\"energy\":\"2/4\",\"kind\":\"farkas\",\"limits\":[],\"version\":1}",
-            Status::Refused,
-            "refused certificate Key energy\n",
-        ),
-        (
-            "{\"energy\":\"10/1\",\"kind\":\"optimal\",\"limits\":[],\"version\":1}",
-            Status::Refused,
-            "refused certificate Key blocks\n",
-        ),
-        (
-            "{\"energy\":\"1/1\",\"kind\":\"farkas\",\"limits\":[],\"version\":2}",
-            Status::Refused,
-            "refused certificate Key places\n",
-        ),
-        (
-            "{\"energy\":\"1/1\",\"kind\":\"farkas\",\"limits\":[],\"version\":1,\"x\":0}",
-            Status::Refused,
-            "refused certificate Key extra\n",
-        ),
-        (
-            "{\"blocks\":[\"VAST\"],\"energy\":\"VAST\",\"kind\":\"optimal\",\"limits\":[],\"places\":9,\"version\":2}",
-            Status::Refuted,
-            "no Places\n",
-        ),
-        (
-            "{\"blocks\":[\"VAST\"],\"energy\":\"VAST\",\"kind\":\"optimal\",\"limits\":[],\"places\":6,\"version\":2}",
-            Status::Refuted,
-            "no Count\n",
-        ),
-        (
-            "{\"energy\":\"VAST\",\"kind\":\"farkas\",\"limits\":[{\"branch\":2,\"down\":\"-1/1\",\"outage\":0,\"up\":\"VAST\"}],\"places\":6,\"version\":2}",
-            Status::Refuted,
-            "no Sign branch 2 outage 0\n",
-        ),
-        (
-            "{\"energy\":\"VAST\",\"kind\":\"farkas\",\"limits\":[{\"branch\":2,\"down\":\"0/1\",\"outage\":0,\"up\":\"VAST\"}],\"places\":6,\"version\":2}",
-            Status::Range,
-            "range ",
-        ),
-    ] {
-        let certificate = certificate.replace(rt.alloc(), "VAST", vast)?;
-        let want = Want {
-            status,
-            start: text,
-            end: "\n",
-            written: None,
-        };
-        let inputs = (OFFERS, "", certificate.as_str());
-        expect_task(&rt, line.as_str(), "40 0 0 0 0", inputs, ALL, want)?;
-    }
-    Ok(())
-}
-
 #[test]
 fn replays_edits(rt: HostRuntime) -> Result<(), Fail> {
     let done = Status::Done;

@@ -13,6 +13,5 @@ returns-clause-clears g c =
       text_is = is.text_is;
       certificate_is = is.certificate_is;
       certificate_fits = is.certificate_fits;
-      energy_alone = c.requires.energy_alone;
     })
     c.outcome_told.ensures.tells

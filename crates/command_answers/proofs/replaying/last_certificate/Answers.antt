@@ -25,8 +25,8 @@ returns-in-Some g c =
     let told : Some (outcome_at g.N.Exact.value c.in-Some.outcome.now) ≡ last_clear None (map (step_outcome_at g.N.Exact.value) c.args.outcomes.now) =
     sym (ap (option_map (λ o. outcome_at g.N.Exact.value o.now)) c.in-Some.is) ∙ last in
     record {
-      text = subst (λ o. IfOk c.outcome_json.result (λ made. option_map (λ bytes. bytes.items) made ≡ option_and_then (certificate_of c.args.places) o)) told c.outcome_json.ensures.text;
-      fits = subst (λ o. OnOk c.outcome_json.result (IfSome (option_and_then (cert_of_outcome c.args.places) o) (NumbersFit g.N.Exact.bound))) told c.outcome_json.ensures.fits;
+      text = subst (λ o. IfOk c.outcome_json.result (λ made. option_map (λ bytes. bytes.items) made ≡ option_and_then (certificate_of c.args.places c.args.listed) o)) told c.outcome_json.ensures.text;
+      fits = subst (λ o. OnOk c.outcome_json.result (IfSome (option_and_then (cert_of_outcome c.args.places c.args.listed) o) (NumbersFit g.N.Exact.bound))) told c.outcome_json.ensures.fits;
     }
 
 pub returns-in-None : goal.returns-in-None
@@ -36,6 +36,6 @@ returns-in-None g c =
     let last = last_over g.N.Exact.value c.args.outcomes.now c.loop-outcome.outcome-index over _ _ c.loop-outcome.invariant in
     let told : None ≡ last_clear None (map (step_outcome_at g.N.Exact.value) c.args.outcomes.now) = sym (ap (option_map (λ o. outcome_at g.N.Exact.value o.now)) c.in-None.is) ∙ last in
     record {
-      text = ap (option_and_then (certificate_of c.args.places)) told;
-      fits = subst (λ o. IfSome (option_and_then (cert_of_outcome c.args.places) o) (NumbersFit g.N.Exact.bound)) told tt;
+      text = ap (option_and_then (certificate_of c.args.places c.args.listed)) told;
+      fits = subst (λ o. IfSome (option_and_then (cert_of_outcome c.args.places c.args.listed) o) (NumbersFit g.N.Exact.bound)) told tt;
     }

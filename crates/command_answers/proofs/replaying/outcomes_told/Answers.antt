@@ -1,8 +1,9 @@
-use Rattle.std.proofs.Common.{◌≡◌, ◌∙◌, None, ap, map, subst}
+use Rattle.std.proofs.Common.{◌≡◌, ◌∙◌, None, ap, ap₂, map, subst}
 use Rattle.std.specs.Prelude.{IfSome, option_and_then}
 use Rattle.cert_format.specs.Certificates.{NumbersFit, cert_of_outcome}
 use Rattle.cert_format.specs.Written.{certificate_of}
 use Rattle.market_model.specs.declared.participants.Parts.{Parts}
+use Rattle.market_model.specs.declared.participants.Reserve.{Reserve}
 use Rattle.edit_replay.specs.Replays.{step_outcome_at}
 use Rattle.command_answers.specs.Replaying.{last_clear}
 use Rattle.command_answers.proofs.TellingLemmas.{certified-as}
@@ -13,9 +14,10 @@ returns-clause-tells g c =
     let last = last_clear None (map (step_outcome_at g.N.Exact.value) c.args.outcomes.now) in
     λ m same.
     let places : c.places.result ≡ m.places = c.places.ensures ∙ ap (λ (p : Parts). p.places) same in
+    let listed : c.reserve.result.now.listed ≡ m.reserve.listed = ap (λ (r : Reserve). r.listed) c.reserve.ensures.reserve ∙ ap (λ (p : Parts). p.reserve.listed) same in
     record {
       status_is = c.replay_status.ensures.status;
       text_is = c.in_ok-text.ensures m same;
-      certificate_is = certified-as (λ v. v.items) _ _ _ c.certified.ensures (c.in_ok-certificate.ensures.text ∙ ap (λ p. option_and_then (certificate_of p) last) places);
-      certificate_fits = subst (λ p. IfSome (option_and_then (cert_of_outcome p) last) (NumbersFit g.N.Exact.bound)) places c.in_ok-certificate.ensures.fits;
+      certificate_is = certified-as (λ v. v.items) _ _ _ c.certified.ensures (c.in_ok-certificate.ensures.text ∙ ap₂ (λ p l. option_and_then (certificate_of p l) last) places listed);
+      certificate_fits = subst (λ cert. IfSome cert (NumbersFit g.N.Exact.bound)) (ap₂ (λ p l. option_and_then (cert_of_outcome p l) last) places listed) c.in_ok-certificate.ensures.fits;
     }

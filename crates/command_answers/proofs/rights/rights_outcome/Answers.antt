@@ -10,6 +10,5 @@ returns-clause-entitles g c =
       right = c.in_ok-outcome.ensures.right;
       sides = c.in_ok-outcome.ensures.sides;
       told = is;
-      energy_alone = c.requires.energy_alone;
     })
     c.outcome_told.ensures.tells

@@ -4,5 +4,5 @@ use Rattle.command_answers.proofs.verifying.verify_told.Goals as goal
 pub returns-in-Ok-clause-tells : goal.returns-in-Ok-clause-tells
 returns-in-Ok-clause-tells c =
     if_ok-map _ _ c.verdict_told.result
-    (λ told is. record { told = _; stands = c.in-Ok.ensures.told; comes = (c.in-Ok.ensures.kept, is, c.in-Ok.ensures.energy_alone) })
+    (λ told is. record { told = _; stands = c.in-Ok.ensures.told; comes = (c.in-Ok.ensures.kept, is) })
     c.verdict_told.ensures.verifies

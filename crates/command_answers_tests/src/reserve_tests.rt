@@ -1,0 +1,206 @@
+//! Spinning reserve on the case of three buses without limits, with texts worked by hand: 60 MW of load at bus 3, units 1 and 2 of 100 MW
+//! at 10 and at 30, which offer 50 MW of reserve at 2 and at 5.
+//!
+//! Where 60 MW are needed, energy and reserve share unit 1's room: a MW less of reserve there costs 3 more at unit 2, and so does a MW
+//! more of energy.
+
+use command_answers::{Status, Told, clear_told, replay_told, verify_told};
+use market_data::FactorPlaces;
+use market_tables::{GridTables, MarketTables};
+use net_case::PostRating;
+use std::process::Abort;
+use std::test::Fail;
+
+const CASE: &[u8] = b"function mpc = t3
+mpc.version = '2';
+mpc.baseMVA = 100;
+mpc.bus = [
+1 3 0 0 0 0 1 1 0 230 1 1.1 0.9;
+2 1 0 0 0 0 1 1 0 230 1 1.1 0.9;
+3 1 60 0 0 0 1 1 0 230 1 1.1 0.9;
+];
+mpc.gen = [
+1 0 0 0 0 1 100 1 100 0;
+2 0 0 0 0 1 100 1 100 0;
+];
+mpc.branch = [
+1 2 0 0.2 0 0 0 0 0 0 1 -360 360;
+1 3 0 0.1 0 0 0 0 0 0 1 -360 360;
+2 3 0 0.1 0 0 0 0 0 0 1 -360 360;
+];
+";
+
+const PTDF: &[u8] =
+    b"branch,bus,factor\n1,2,-0.5\n2,2,-0.5\n3,2,0.5\n1,3,-0.25\n2,3,-0.75\n3,3,-0.25\n";
+
+const NEED_60: &[u8] = b"kind,unit,mw,price\noffer,1,50,2\noffer,2,50,5\nneed,,60,\n";
+
+const NEED_20: &[u8] = b"kind,unit,mw,price\noffer,1,50,2\noffer,2,50,5\nneed,,20,\n";
+
+/// More than the offers have.
+const NEED_110: &[u8] = b"kind,unit,mw,price\noffer,1,50,2\noffer,2,50,5\nneed,,110,\n";
+
+const SHARED: &str =
+    "cleared\nwelfare -780\nenergy 13\nreserve price 5 need 60\nbus 1 price 13 congestion 0\nbus 2 price 13 congestion 0\nbus 3 price 13 congestion 0\nblock 1 sell 1 mw 60\nblock 2 sell 1 mw 0\nroom 1 dual 3\nunit 1 mw 60 paid 780\nunit 2 mw 0 paid 0\nreserve 1 mw 40 paid 200\nreserve 2 mw 20 paid 100\nload 1 mw 0 pays 0\nload 2 mw 0 pays 0\nload 3 mw 60 pays 780\nsurplus 0\n";
+
+const SHARED_CERTIFICATE: &str =
+    "{\"blocks\":[\"60000000000/1\",\"0/1\"],\"energy\":\"13000000/1\",\"kind\":\"optimal\",\"limits\":[],\"places\":6,\"reserve\":{\"price\":\"5000000/1\",\"quantities\":[\"40000000000/1\",\"20000000000/1\"],\"units\":[{\"dual\":\"3000000/1\",\"unit\":1}]},\"version\":3}";
+
+const TOO_MUCH: &str = "infeasible\nbound -10\nenergy 0\nreserve dual 1\n";
+
+const TOO_MUCH_CERTIFICATE: &str =
+    "{\"energy\":\"0/1\",\"kind\":\"farkas\",\"limits\":[],\"places\":6,\"reserve\":{\"price\":\"1/1\",\"units\":[]},\"version\":3}";
+
+/// Unit 1 has room for 20 MW beside its energy.
+const RAISED_AND_LET_DOWN: &str =
+    "step 1 clear\ncleared\nwelfare -640\nenergy 10\nreserve price 2 need 20\nbus 1 price 10 congestion 0\nbus 2 price 10 congestion 0\nbus 3 price 10 congestion 0\nblock 1 sell 1 mw 60\nblock 2 sell 1 mw 0\nunit 1 mw 60 paid 600\nunit 2 mw 0 paid 0\nreserve 1 mw 20 paid 40\nreserve 2 mw 0 paid 0\nload 1 mw 0 pays 0\nload 2 mw 0 pays 0\nload 3 mw 60 pays 600\nsurplus 0\nstep 2 edit accepted\nstep 3 edit refused Negative\nstep 4 clear\ncleared\nwelfare -780\nenergy 13\nreserve price 5 need 60\nbus 1 price 13 congestion 0\nbus 2 price 13 congestion 0\nbus 3 price 13 congestion 0\nblock 1 sell 1 mw 60\nblock 2 sell 1 mw 0\nroom 1 dual 3\nunit 1 mw 60 paid 780\nunit 2 mw 0 paid 0\nreserve 1 mw 40 paid 200\nreserve 2 mw 20 paid 100\nload 1 mw 0 pays 0\nload 2 mw 0 pays 0\nload 3 mw 60 pays 780\nsurplus 0\nstep 5 edit accepted\nstep 6 clear\ncleared\nwelfare -640\nenergy 10\nreserve price 2 need 20\nbus 1 price 10 congestion 0\nbus 2 price 10 congestion 0\nbus 3 price 10 congestion 0\nblock 1 sell 1 mw 60\nblock 2 sell 1 mw 0\nunit 1 mw 60 paid 600\nunit 2 mw 0 paid 0\nreserve 1 mw 20 paid 40\nreserve 2 mw 0 paid 0\nload 1 mw 0 pays 0\nload 2 mw 0 pays 0\nload 3 mw 60 pays 600\nsurplus 0\n";
+
+/// The case with a table of reserves.
+fn tables(reserves: &[u8]) -> MarketTables<&[u8]> {
+    let grid = GridTables {
+        case: CASE,
+        ptdf: PTDF,
+        lodf: b"branch,outage,factor\n".as_slice(),
+        contingencies: b"branch\n".as_slice(),
+    };
+    MarketTables {
+        grid,
+        unit_outages: b"unit,taker,share\n".as_slice(),
+        offers: b"unit,side,mw,price\n1,sell,100,10\n2,sell,100,30\n".as_slice(),
+        reserves,
+        offsets: b"branch,mw\n".as_slice(),
+        penalties: b"branch,limit,price,excess\n".as_slice(),
+    }
+}
+
+/// Whether a command ended with a status and a text.
+fn tells(told: &Told, status: Status, text: &str) -> bool {
+    told.status == status && told.text.as_slice() == text.as_bytes()
+}
+
+/// Compares what a verification tells.
+fn verifies<R: Abort + AllocGlobal>(
+    rt: &R,
+    reserves: &[u8],
+    certificate: &[u8],
+    status: Status,
+    text: &str,
+) -> Result<(), Fail> {
+    let edits = b"op,target,side,block,value\n".as_slice();
+    let verdict = verify_told(
+        rt.alloc(),
+        &tables(reserves),
+        PostRating::C,
+        FactorPlaces::Six,
+        edits,
+        certificate,
+    )?;
+    assert!(rt; tells(&verdict, status, text));
+    Ok(())
+}
+
+#[test]
+fn clears_with_reserve(rt: HostRuntime) -> Result<(), Fail> {
+    for (reserves, status, text, certificate) in [
+        (NEED_60, Status::Done, SHARED, SHARED_CERTIFICATE),
+        (NEED_110, Status::Infeasible, TOO_MUCH, TOO_MUCH_CERTIFICATE),
+    ] {
+        let told = clear_told(
+            rt.alloc(),
+            &tables(reserves),
+            PostRating::C,
+            FactorPlaces::Six,
+        )?;
+        assert!(rt; tells(&told, status, text));
+        assert!(rt; told.outputs.certificate.is_some());
+        if let Some(written) = &told.outputs.certificate {
+            assert!(rt; written.as_slice() == certificate.as_bytes());
+            verifies(&rt, reserves, written.as_slice(), Status::Done, "yes\n")?;
+        }
+    }
+    Ok(())
+}
+
+#[test]
+fn replays_the_need(rt: HostRuntime) -> Result<(), Fail> {
+    let edits =
+        b"op,target,side,block,value\nclear,,,,\nneed,,,,60\nneed,,,,-1\nclear,,,,\nneed,,,,20\nclear,,,,\n";
+    let replayed = replay_told(
+        rt.alloc(),
+        &tables(NEED_20),
+        PostRating::C,
+        FactorPlaces::Six,
+        edits,
+    )?;
+    assert!(rt; tells(&replayed, Status::Refused, RAISED_AND_LET_DOWN));
+    Ok(())
+}
+
+/// What a certificate tells of reserve.
+#[derive(Clone, Copy)]
+struct Part<'a> {
+    price: &'a str,
+    quantities: &'a str,
+    units: &'a str,
+}
+
+/// That of the market that needs 60 MW.
+const RIGHT: Part = Part {
+    price: "5000000/1",
+    quantities: "\"40000000000/1\",\"20000000000/1\"",
+    units: "{\"dual\":\"3000000/1\",\"unit\":1}",
+};
+
+#[test]
+fn refutes_by_reserve(rt: HostRuntime) -> Result<(), Fail> {
+    let quantities = |quantities| Part {
+        quantities,
+        ..RIGHT
+    };
+    let units = |units| Part { units, ..RIGHT };
+    let price = |price| Part { price, ..RIGHT };
+    for (part, line) in [
+        (quantities("\"40000000000/1\""), "no Count\n"),
+        (
+            units("{\"dual\":\"3000000/1\",\"unit\":0}"),
+            "no NoUnit unit 0\n",
+        ),
+        (price("-1/1"), "no NeedSign\n"),
+        (
+            units("{\"dual\":\"-1/1\",\"unit\":1}"),
+            "no RoomSign unit 1\n",
+        ),
+        (
+            quantities("\"40000000000/1\",\"60000000000/1\""),
+            "no Reserve 2\n",
+        ),
+        (
+            quantities("\"40000000000/1\",\"10000000000/1\""),
+            "no Need\n",
+        ),
+        (
+            quantities("\"50000000000/1\",\"10000000000/1\""),
+            "no Room unit 1\n",
+        ),
+        (
+            quantities("\"40000000000/1\",\"30000000000/1\""),
+            "no NeedSlack\n",
+        ),
+        (
+            quantities("\"30000000000/1\",\"30000000000/1\""),
+            "no RoomSlack unit 1\n",
+        ),
+        (price("6000000/1"), "no ReserveSupport 1\n"),
+    ] {
+        let Part {
+            price,
+            quantities,
+            units,
+        } = part;
+        let certificate = format!(in rt.alloc();
+            "{{\"blocks\":[\"60000000000/1\",\"0/1\"],\"energy\":\"13000000/1\",\"kind\":\"optimal\",\"limits\":[],\"places\":6,\"reserve\":{{\"price\":\"{price}\",\"quantities\":[{quantities}],\"units\":[{units}]}},\"version\":3}}"
+        )?;
+        verifies(&rt, NEED_60, certificate.as_bytes(), Status::Refuted, line)?;
+    }
+    Ok(())
+}
