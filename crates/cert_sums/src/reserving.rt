@@ -8,8 +8,8 @@ ghost use Rattle.market_model.specs.declared.participants.Parts.{Parts};
 ghost use Rattle.market_model.specs.Dispatch.{zero, block_term, blocks_of, dispatch_with};
 ghost use Rattle.market_model.specs.NamedSums.{IsRefusal, IsRefusedIn};
 ghost use Rattle.market_model.specs.PutIn.{dispatch_of};
-ghost use Rattle.market_model.specs.Reserves.{offers_among, offers_reserve as offers_reserve_of, reserve as reserve_of, reserve_units, room_terms, room_used as room_used_of};
-ghost use Rattle.market_model.specs.SumTables.{IsRefusedAmong, ReserveSum};
+ghost use Rattle.market_model.specs.Reserves.{offers_among, offers_reserve as offers_reserve_of, reserve as reserve_of, reserve_terms, reserve_units, room_terms, room_used as room_used_of};
+ghost use Rattle.market_model.specs.SumTables.{IsRefusedAmong, RoomSum};
 ghost use Rattle.market_model.specs.Valued.{passed_at};
 
 use exact_fraction::{Exact, Passed, exact_sum};
@@ -37,7 +37,7 @@ pub fn offers_reserve(market: &Market, unit: usize) -> bool
 /// The reserve that is accepted in all, of what is accepted of each offer, in 10^-9 MW.
 pub fn reserve_in_all<N: Exact>(reserve: &[N]) -> Result<N, Passed<N>>
     ensures sum { (m : Parts) (blocks : List Fraction) → length reserve.now ≡ length m.reserve.offers → IfOk result (λ sum. N.value sum ≡ reserve_of m (dispatch_with blocks (map N.value reserve.now))) }
-    ensures cause { (m : Parts) (blocks : List Fraction) → length reserve.now ≡ length m.reserve.offers → IfErr result (λ passed. IsRefusedAmong (ReserveSum m (dispatch_with blocks (map N.value reserve.now))) N.bound (passed_at N.value passed)) }
+    ensures cause { (m : Parts) (blocks : List Fraction) → length reserve.now ≡ length m.reserve.offers → IfErr result (λ passed. IsRefusedIn (reserve_terms m (dispatch_with blocks (map N.value reserve.now))) N.bound (passed_at N.value passed)) }
 {
     let mut sum: N = datum(0);
     for mw in reserve {
@@ -83,7 +83,7 @@ pub fn room_used<N: Exact>(
     requires dispatch { length dispatch.now ≡ length market.now.blocks }
     requires reserve { length reserve.now ≡ length market.now.reserve.offers }
     ensures used { IfOk result (λ used. N.value used ≡ room_used_of market.now (dispatch_with (map N.value dispatch.now) (map N.value reserve.now)) unit) }
-    ensures cause { IfErr result (λ passed. IsRefusedAmong (ReserveSum market.now (dispatch_with (map N.value dispatch.now) (map N.value reserve.now))) N.bound (passed_at N.value passed)) }
+    ensures cause { IfErr result (λ passed. IsRefusedAmong (RoomSum market.now (dispatch_with (map N.value dispatch.now) (map N.value reserve.now))) N.bound (passed_at N.value passed)) }
 {
     let mut mw = raised(market, unit, dispatch)?;
     for (at, offer) in market.reserve().offers.slice().iter().enumerate() {

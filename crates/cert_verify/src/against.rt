@@ -8,7 +8,7 @@ ghost use Rattle.market_model.specs.Dispatch.{dispatch_with, places, zero};
 ghost use Rattle.market_model.specs.Optimality.{energy_worth};
 ghost use Rattle.market_model.specs.Reserves.{reserve};
 ghost use Rattle.market_model.specs.Stops.{StopsBy};
-ghost use Rattle.market_model.specs.SumTables.{IsRefusedAmong, ReserveSum};
+ghost use Rattle.market_model.specs.SumTables.{IsRefusedAmong, RoomSum};
 ghost use Rattle.market_model.specs.Valued.{dual_at, passed_at, room_dual_at};
 ghost use Rattle.cert_format.specs.Certificates.{NamesNoRowTwice};
 ghost use Rattle.cert_sums.specs.Named.{AreNamed, AreNamedRooms};
@@ -94,7 +94,7 @@ fn wrong_slack<N: Exact>(
     ensures first { N.value accepted ≡ reserve market.now (dispatch_with (map N.value blocks.now) (map N.value quantities.now))
         → IfOk result (λ first. first ≡ first_of (need_slack_reason market.now (dispatch_with (map N.value blocks.now) (map N.value quantities.now)) (N.value price)
         ∷ room_slack_reason market.now (dispatch_with (map N.value blocks.now) (map N.value quantities.now)) (map (room_dual_at N.value) rooms.now) ∷ [])) }
-    ensures cause { IfErr result (λ passed. IsRefusedAmong (ReserveSum market.now (dispatch_with (map N.value blocks.now) (map N.value quantities.now))) N.bound (passed_at N.value passed)) }
+    ensures cause { IfErr result (λ passed. IsRefusedAmong (RoomSum market.now (dispatch_with (map N.value blocks.now) (map N.value quantities.now))) N.bound (passed_at N.value passed)) }
 {
     if let Some(reason) = slack_need(market, price, accepted) {
         return Ok(Some(reason));

@@ -5,7 +5,7 @@ ghost use Rattle.fraction_theory.specs.Fraction.{Fraction};
 ghost use Rattle.market_model.specs.declared.answered.Duals.{Duals};
 ghost use Rattle.market_model.specs.Dispatch.{dispatch_with};
 ghost use Rattle.market_model.specs.Optimality.{names_room};
-ghost use Rattle.market_model.specs.SumTables.{IsRefusedAmong, ReserveSum};
+ghost use Rattle.market_model.specs.SumTables.{IsRefusedAmong, RoomSum};
 ghost use Rattle.market_model.specs.Valued.{passed_at, room_dual_at};
 ghost use Rattle.cert_sums.specs.Named.{AreNamedRooms};
 ghost use Rattle.cert_verify.specs.Naming.{IsPriceOf};
@@ -77,7 +77,7 @@ pub(crate) fn overfull_room<N: Exact>(
     requires blocks { length blocks.now ≡ length market.now.blocks }
     requires quantities { length quantities.now ≡ length market.now.reserve.offers }
     ensures first { IfOk result (λ first. first ≡ room_reason market.now (dispatch_with (map N.value blocks.now) (map N.value quantities.now))) }
-    ensures cause { IfErr result (λ passed. IsRefusedAmong (ReserveSum market.now (dispatch_with (map N.value blocks.now) (map N.value quantities.now))) N.bound (passed_at N.value passed)) }
+    ensures cause { IfErr result (λ passed. IsRefusedAmong (RoomSum market.now (dispatch_with (map N.value blocks.now) (map N.value quantities.now))) N.bound (passed_at N.value passed)) }
 {
     for (at, unit) in market.units().slice().iter().enumerate() {
         if offers_reserve(market, at) {
@@ -100,7 +100,7 @@ fn has_room_slack<N: Exact>(
     requires blocks { length blocks.now ≡ length market.now.blocks }
     requires quantities { length quantities.now ≡ length market.now.reserve.offers }
     ensures slack { IfOk result (λ slack. slack ≡ has_room_slack market.now (dispatch_with (map N.value blocks.now) (map N.value quantities.now)) (room_dual_at N.value dual.now)) }
-    ensures cause { IfErr result (λ passed. IsRefusedAmong (ReserveSum market.now (dispatch_with (map N.value blocks.now) (map N.value quantities.now))) N.bound (passed_at N.value passed)) }
+    ensures cause { IfErr result (λ passed. IsRefusedAmong (RoomSum market.now (dispatch_with (map N.value blocks.now) (map N.value quantities.now))) N.bound (passed_at N.value passed)) }
 {
     for (at, unit) in market.units().slice().iter().enumerate() {
         if unit.row == dual.unit && offers_reserve(market, at) {
@@ -123,7 +123,7 @@ pub(crate) fn slack_room<N: Exact>(
     requires blocks { length blocks.now ≡ length market.now.blocks }
     requires quantities { length quantities.now ≡ length market.now.reserve.offers }
     ensures first { IfOk result (λ first. first ≡ room_slack_reason market.now (dispatch_with (map N.value blocks.now) (map N.value quantities.now)) (map (room_dual_at N.value) rooms.now)) }
-    ensures cause { IfErr result (λ passed. IsRefusedAmong (ReserveSum market.now (dispatch_with (map N.value blocks.now) (map N.value quantities.now))) N.bound (passed_at N.value passed)) }
+    ensures cause { IfErr result (λ passed. IsRefusedAmong (RoomSum market.now (dispatch_with (map N.value blocks.now) (map N.value quantities.now))) N.bound (passed_at N.value passed)) }
 {
     for dual in rooms {
         let slack = has_room_slack(market, blocks, quantities, dual)?;

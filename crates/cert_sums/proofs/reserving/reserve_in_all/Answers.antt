@@ -4,7 +4,6 @@ use Rattle.fraction_theory.specs.Sums.{total}
 use Rattle.exact_fraction.specs.declared.Op.TheVariants.{Plus}
 use Rattle.market_model.specs.Dispatch.{dispatch_with, places}
 use Rattle.market_model.specs.Reserves.{reserve, reserve_terms, reserved_term}
-use Rattle.market_model.specs.SumTables.{reserve_of_all}
 use Rattle.market_model.specs.Valued.{passed_at}
 use Rattle.market_model.proofs.MorePlaces.{total-places_more}
 use Rattle.market_model.proofs.PutInSteps.{accepted_is}
@@ -35,10 +34,7 @@ returns-in_err-sum-clause-cause g c =
     λ m blocks count. rw given
     (let x = dispatch_with blocks (map value rs) in
     let below : k < length m.reserve.offers = omega (arith, c.loop-mw-test.true, count) in
-    let t = terms_at (reserved_term x) (length m.reserve.offers) k below in (
-      reserve_terms m x,
-      reserve_of_all,
-      plus_at (reserve_terms m x) (map (reserved_term x) (places k)) t.0 (reserved_term x k) t.1 g.N.Exact.bound (passed_at value c.in_err-sum.field-0.0) (value c.loop-mw.sum) (value c.mw-item.result)
-          c.loop-mw.invariant (sym (accepted_is value rs k c.mw-item.result c.loop-mw-test.true c.mw-item.is))
-          (refusal value g.N.Exact.bound Plus c.loop-mw.sum c.mw-item.result _ _ c.in_err-sum.field-0.0 refl refl c.in_err-sum.ensures),
-    ))
+    let t = terms_at (reserved_term x) (length m.reserve.offers) k below in
+    plus_at (reserve_terms m x) (map (reserved_term x) (places k)) t.0 (reserved_term x k) t.1 g.N.Exact.bound (passed_at value c.in_err-sum.field-0.0) (value c.loop-mw.sum) (value c.mw-item.result)
+    c.loop-mw.invariant (sym (accepted_is value rs k c.mw-item.result c.loop-mw-test.true c.mw-item.is))
+    (refusal value g.N.Exact.bound Plus c.loop-mw.sum c.mw-item.result _ _ c.in_err-sum.field-0.0 refl refl c.in_err-sum.ensures))
