@@ -15,7 +15,7 @@ use Rattle.market_model.specs.LimitRows.{carried, flow_terms, row_id, rows}
 use Rattle.market_model.specs.Market.{IsMarket}
 use Rattle.market_model.specs.NamedSums.{IsRefusedIn}
 use Rattle.market_model.proofs.SumParts.{flow_carried}
-use Rattle.market_model.specs.SumTables.{IsFlowRefusal, IsRefusedAmong, factor_of_pickup, flow_of_row, limited_row, FlowSum, flow_in_limits, PriceSum, ReserveSum, IsRefusedInPrices, left_of_all, paid_by_load, paid_for_reserve, paid_to_unit, rent_of_row, SettledSum, own_price_of_unit, paid_output, paid_price, demand_of_bus, payment, paid_row}
+use Rattle.market_model.specs.SumTables.{IsFlowRefusal, IsRefusedAmong, factor_of_pickup, flow_of_row, limited_row, FlowSum, flow_in_limits, PriceSum, reserve_in_room, RoomSum, IsRefusedInPrices, left_of_all, paid_by_load, paid_for_reserve, paid_to_unit, rent_of_row, SettledSum, own_price_of_unit, paid_output, paid_price, demand_of_bus, payment, paid_row}
 use Rattle.market_model.specs.Optimality.{names_row, Feasible, Supports, ProperDuals, bus_price, own_terms, welfare_terms}
 use Rattle.market_model.specs.Settlement.{load_terms, rent_terms, reserve_term, surplus_terms, unit_terms}
 use Rattle.market_system.specs.Growth.{BestFor, PricesOnly}
@@ -86,8 +86,8 @@ module _ (m : Parts) (ts : List Taking) (x : Dispatch) (d : Duals Fraction) (mar
     screen_range : IsScreenRefusal m (carried_at m (flows_at m x)) bound p → IsRangeOf m (limits_of ts) bound p
     screen_range (r, c, why) = row_sum r c (flow_refusal_same m (carried_at m (flows_at m x)) (carried m x) r bound p (row_terms m x (flows_at m x) refl r market c) why)
 
-    rooms_range : IsRefusedAmong (ReserveSum m x) bound p → IsRangeOf m (limits_of ts) bound p
-    rooms_range (terms, sum, a) = pairs.sum (Some Quantity) terms (of_reserve x terms injecting sum) a
+    rooms_range : IsRefusedAmong (RoomSum m x) bound p → IsRangeOf m (limits_of ts) bound p
+    rooms_range (terms, sum, a) = pairs.sum (Some Quantity) terms (of_reserve x terms injecting (reserve_in_room terms sum)) a
 
     pub look_range : IsLookRefusal m x bound p → IsRangeOf m (limits_of ts) bound p
     look_range (inl a) = flows_range a

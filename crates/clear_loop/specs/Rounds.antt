@@ -16,7 +16,7 @@ use Rattle.market_model.specs.LimitRows.{flow, rows}
 use Rattle.market_model.specs.Overrun.{IsWorst, Keeps}
 use Rattle.market_model.specs.Reserves.{room, room_used}
 use Rattle.market_model.specs.RightAnswers.{IsRight}
-use Rattle.market_model.specs.SumTables.{IsRefusedAmong, ReserveSum}
+use Rattle.market_model.specs.SumTables.{IsRefusedAmong, RoomSum}
 use Rattle.market_model.specs.Valued.{answer_at, duals_at, farkas_at}
 use Rattle.market_system.specs.Growth.{BestFor, Broken, PricesOnly}
 use Rattle.market_system.specs.WorkingPairs.{IsRangeOf}
@@ -86,7 +86,7 @@ IsScreened value m taken x (screened.Within flows) = KeepsAll m taken x × (map 
 
 -- an operation refused where all limits and rooms are looked at: in the flows of the dispatch, in that of a row, or in what is used of a room
 abbrev pub IsLookRefusal : Parts → Dispatch → ℕ → Passed Fraction → Type 0
-IsLookRefusal m x bound p = IsFlowsRefusal m x bound p ⊎ IsScreenRefusal m (carried_at m (flows_at m x)) bound p ⊎ IsRefusedAmong (ReserveSum m x) bound p
+IsLookRefusal m x bound p = IsFlowsRefusal m x bound p ⊎ IsScreenRefusal m (carried_at m (flows_at m x)) bound p ⊎ IsRefusedAmong (RoomSum m x) bound p
 
 -- a right answer, or duals that show that nothing is feasible, with prices of no other rows
 abbrev pub IsEnd : {N : Type 0} → (N → Fraction) → Parts → List Row → Result (Answer N) (Farkas N) → Type 0

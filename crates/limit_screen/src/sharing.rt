@@ -10,7 +10,7 @@ ghost use Rattle.market_model.specs.Dispatch.{Dispatch, zero, block_term, blocks
 ghost use Rattle.market_model.specs.NamedSums.{IsRefusal, IsRefusedIn};
 ghost use Rattle.market_model.specs.PutIn.{dispatch_of};
 ghost use Rattle.market_model.specs.Reserves.{offers_among, reserve_units, room, room_terms, room_used};
-ghost use Rattle.market_model.specs.SumTables.{IsRefusedAmong, ReserveSum};
+ghost use Rattle.market_model.specs.SumTables.{IsRefusedAmong, RoomSum};
 ghost use Rattle.market_model.specs.Valued.{passed_at};
 ghost use Rattle.limit_screen.specs.Rooms.{AllKeepRooms, IsWorstRoom, IsWorstRoomNamed, IsWorstRoomTo, room_overrun};
 
@@ -136,7 +136,7 @@ fn with_unit<N: Exact>(
     requires reserve { length reserve.now ≡ length market.now.reserve.offers }
     requires unit { unit < length market.now.units }
     ensures worst { let x = dispatch_with (map N.value dispatch.now) (map N.value reserve.now) in IsWorstRoomTo N.value market.now x unit worst → IfOk result (IsWorstRoomTo N.value market.now x (unit + 1)) }
-    ensures cause { let x = dispatch_with (map N.value dispatch.now) (map N.value reserve.now) in IfErr result (λ passed. IsRefusedAmong (ReserveSum market.now x) N.bound (passed_at N.value passed)) }
+    ensures cause { let x = dispatch_with (map N.value dispatch.now) (map N.value reserve.now) in IfErr result (λ passed. IsRefusedAmong (RoomSum market.now x) N.bound (passed_at N.value passed)) }
 {
     if !is_offered(market.reserve().offers.slice(), unit) {
         return Ok(worst);
@@ -158,7 +158,7 @@ pub fn worst_room<N: Exact>(
     requires dispatch { length dispatch.now ≡ length market.now.blocks }
     requires reserve { length reserve.now ≡ length market.now.reserve.offers }
     ensures worst { let x = dispatch_with (map N.value dispatch.now) (map N.value reserve.now) in IfOk result (λ worst. MatchOption worst (AllKeepRooms market.now x) (IsWorstRoom market.now x)) }
-    ensures cause { let x = dispatch_with (map N.value dispatch.now) (map N.value reserve.now) in IfErr result (λ passed. IsRefusedAmong (ReserveSum market.now x) N.bound (passed_at N.value passed)) }
+    ensures cause { let x = dispatch_with (map N.value dispatch.now) (map N.value reserve.now) in IfErr result (λ passed. IsRefusedAmong (RoomSum market.now x) N.bound (passed_at N.value passed)) }
 {
     let mut worst = None;
     for unit in 0..market.units().len() {
@@ -179,7 +179,7 @@ pub fn rooms<N: Exact>(
     requires dispatch { length dispatch.now ≡ length market.now.blocks }
     requires reserve { length reserve.now ≡ length market.now.reserve.offers }
     ensures worst { let x = dispatch_with (map N.value dispatch.now) (map N.value reserve.now) in IfOk result (λ worst. MatchOption worst (AllKeepRooms market.now x) (IsWorstRoomNamed market.now x)) }
-    ensures cause { let x = dispatch_with (map N.value dispatch.now) (map N.value reserve.now) in IfErr result (λ passed. IsRefusedAmong (ReserveSum market.now x) N.bound (passed_at N.value passed)) }
+    ensures cause { let x = dispatch_with (map N.value dispatch.now) (map N.value reserve.now) in IfErr result (λ passed. IsRefusedAmong (RoomSum market.now x) N.bound (passed_at N.value passed)) }
 {
     let _units = market.units();
     match worst_room(market, dispatch, reserve)? {

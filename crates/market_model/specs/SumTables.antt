@@ -84,10 +84,14 @@ IsFactorRefusal m g bound p = (r : Row) × Contains g r × IsRefusedAmong (Facto
 pub data OutputSum (m : Parts) (x : Dispatch) : List Term → Type 0 where
   output_of_unit : (u : ℕ) → u < length m.units → OutputSum m x (output_terms m x u)
 
--- of a dispatch: the reserve that is accepted in all, and what a unit that offers some uses of its room
+-- of a dispatch: what a unit that offers reserve uses of its room
+pub data RoomSum (m : Parts) (x : Dispatch) : List Term → Type 0 where
+  used_of_room : (u : ℕ) → Contains (reserve_units m) u → RoomSum m x (room_terms m x u)
+
+-- that, and the reserve that is accepted in all
 pub data ReserveSum (m : Parts) (x : Dispatch) : List Term → Type 0 where
+  reserve_in_room : (terms : List Term) → RoomSum m x terms → ReserveSum m x terms
   reserve_of_all : ReserveSum m x (reserve_terms m x)
-  room_of_unit : (u : ℕ) → Contains (reserve_units m) u → ReserveSum m x (room_terms m x u)
 
 -- ---- prices
 -- of duals: what limits take from the price at a bus, and that price

@@ -1,5 +1,5 @@
 -- No number that a clear of a modest market of energy alone without lines may have to write down is above 127 bits.
-use Rattle.std.specs.Prelude.{◌≡◌, ℕ, Bool, true, false, if◌then◌else◌, ◌+◌, ◌*◌, ◌-◌, ◌^◌, ◌≤◌, ◌<◌, pos, List, [], ◌∷◌, ◌++◌, length, map, filter, Option, Some, None, refl}
+use Rattle.std.specs.Prelude.{◌≡◌, ℕ, Bool, true, false, not, if◌then◌else◌, ◌+◌, ◌*◌, ◌-◌, ◌^◌, ◌≤◌, ◌<◌, pos, List, [], ◌∷◌, ◌++◌, length, map, filter, Option, Some, None, refl}
 use Rattle.std.specs.List.{Contains}
 use Rattle.std.proofs.Common.{arith, ap, ap₂, sym, ◌∙◌, subst, inl, inr}
 use Rattle.std.proofs.lemmas.List.{append-nil, length-append, length-map}
@@ -17,6 +17,7 @@ use Rattle.linear_system.specs.Systems.{System}
 use Rattle.linear_system.specs.Choices.{Choice, IsChoice, at_bound, basics, reduced, value, value_terms}
 use Rattle.linear_system.specs.Numbers.{Kind, Factor, Quantity, Price, SystemNumber, is_high, is_low, is_value, SolvingNumber, is_number, is_fall, is_rise, is_turned as turned_in_solving}
 use Rattle.linear_system.proofs.ChoiceLaws.{basics_are, is_other}
+use Rattle.simplex_theory.specs.Steps.{opposite_if}
 use Rattle.simplex_theory.specs.Stuck.{multiplier}
 use Rattle.simplex_theory.proofs.StuckRows.{multiplier-itself, multiplier-basic, multiplier-other}
 use Rattle.market_model.specs.declared.answered.Duals.{Duals}
@@ -36,7 +37,7 @@ use Rattle.market_model.specs.LimitRows.{rows, row_id, loses, lost_unit, row_fac
 use Rattle.market_model.specs.Optimality.{Taken, bus_price, block_value, energy_worth, congestion_terms, names_row, named_rows, own_price, own_terms, price_terms, net_shadow_price, penalty_terms, unit_price, value_terms as block_terms, welfare_terms}
 use Rattle.market_model.specs.Reserves.{no_reserve, reserved_term}
 use Rattle.market_model.specs.Settlement.{surplus_terms}
-use Rattle.market_model.specs.SumTables.{injection_at, balance_from_bus, balance_of_all, flow_of_line, limited_line, limited_row, output_of_lost, limited_unit, FlowSum, flow_in_balance, flow_in_limits, output_of_unit, BusPriceSum, own_price_of_unit, PriceSum, price_of_bus, price_of_unit, congestion_at, price_at, ReserveSum, reserve_of_all, room_of_unit, WorthSum, energy_of_unit, reserve_of_unit, farkas_bound_of_all, left_of_all, paid_by_load, paid_to_unit, rent_of_row, paid_for_reserve, SettledSum, paid_output, paid_price, demand_of_bus, payment, paid_row}
+use Rattle.market_model.specs.SumTables.{injection_at, balance_from_bus, balance_of_all, flow_of_line, limited_line, limited_row, output_of_lost, limited_unit, FlowSum, flow_in_balance, flow_in_limits, output_of_unit, BusPriceSum, own_price_of_unit, PriceSum, price_of_bus, price_of_unit, congestion_at, price_at, ReserveSum, reserve_of_all, reserve_in_room, used_of_room, WorthSum, energy_of_unit, reserve_of_unit, farkas_bound_of_all, left_of_all, paid_by_load, paid_to_unit, rent_of_row, paid_for_reserve, SettledSum, paid_output, paid_price, demand_of_bus, payment, paid_row}
 use Rattle.market_model.proofs.EnergyAlone.{no_offers, no_places, not_listed, no_units, no_unit, no_need, worth_is_price, welfare_alone}
 use Rattle.market_model.proofs.FarkasLaw.{farkas_terms-bare}
 use Rattle.market_model.proofs.RowLaws.{no_rows, no_row, bus_price-bare, congestion-bare, unit_price-bare}
@@ -201,7 +202,7 @@ module _ (m : Parts) (market : IsMarket m) (lines : m.lines ≡ []) (energy : m.
     reserve_sum_within : (x : Dispatch) (k : ℕ) (terms : List Term) → ReserveSum m x terms → IsWholeWithin most_value (prefix k terms)
     reserve_sum_within x k terms reserve_of_all = subst (λ (ns : List ℕ). IsWholeWithin most_value (prefix k (map (reserved_term x) ns))) (sym (no_places m energy))
         (wider (0 * 1) most_value (prefix k []) (Prim.omega arith) (prefix_within 0 1 k [] (Prim.omega arith) tt))
-    reserve_sum_within x k terms (room_of_unit u c) = absurd (no_unit m energy u c)
+    reserve_sum_within x k terms (reserve_in_room same (used_of_room u c)) = absurd (no_unit m energy u c)
 
     no_worth : (d : Duals Fraction) (terms : List Term) → WorthSum m d terms → ⊥
     no_worth d terms (energy_of_unit u c) = no_unit m energy u c
@@ -416,4 +417,4 @@ modest_markets_where free m market lines unlisted modest g h x reached is n =
     clearing_small m market lines energy modest g (nothing_in_order m market lines energy modest g none) h is (λ d f. free m g h d unlisted f) x n
 
 pub law_of_modest_markets : LawOfModestMarkets
-law_of_modest_markets = modest_markets_where (λ m g h d unlisted f. f.energy_alone unlisted)
+law_of_modest_markets = modest_markets_where (λ m g h d unlisted f. f.reserve ∙ ap (λ (t : Bool). if t then part_above (neg_ℚ (opposite_if (not f.above) (multiplier h f.basic (need_name m)))) else zero) unlisted)

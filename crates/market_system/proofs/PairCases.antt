@@ -40,7 +40,7 @@ use Rattle.market_model.specs.NamedSums.{SameSize, term_at, IsNextTerm, IsSumSte
 use Rattle.market_model.specs.Optimality.{Taken, net_shadow_price, up_of, down_of, bus_price, own_terms, unit_price, room_price, room_price_in, worth_terms, energy_worth, reserve_worth_terms, reserve_worth, welfare_terms}
 use Rattle.market_model.specs.Reserves.{offers_among, offers_reserve, offer_places, offers_of, reserve_need, reserve_units, reserved_term, room}
 use Rattle.market_model.specs.Infeasibility.{block_most, block_weight, offer_most, offer_weight, limit_terms, reserve_left_terms, nothing_terms, farkas_terms}
-use Rattle.market_model.specs.SumTables.{injection_at, balance_from_bus, balance_of_all, flow_of_line, flow_of_row, output_of_lost, limited_line, limited_unit, limited_row, FlowSum, flow_in_balance, flow_in_limits, offset_of_row, pickup_of_row, factor_at_bus, factor_of_pickup, output_of_unit, BusPriceSum, own_price_of_unit, PickupSum, PriceSum, price_of_bus, price_of_unit, congestion_at, price_at, ReserveSum, reserve_of_all, room_of_unit, WorthSum, energy_of_unit, reserve_of_unit, farkas_bound_of_all}
+use Rattle.market_model.specs.SumTables.{injection_at, balance_from_bus, balance_of_all, flow_of_line, flow_of_row, output_of_lost, limited_line, limited_unit, limited_row, FlowSum, flow_in_balance, flow_in_limits, offset_of_row, pickup_of_row, factor_at_bus, factor_of_pickup, output_of_unit, BusPriceSum, own_price_of_unit, PickupSum, PriceSum, price_of_bus, price_of_unit, congestion_at, price_at, ReserveSum, reserve_of_all, reserve_in_room, used_of_room, WorthSum, energy_of_unit, reserve_of_unit, farkas_bound_of_all}
 use Rattle.market_model.proofs.MarketSums.{block_unit-in, unit_bus-in}
 use Rattle.market_model.proofs.ReserveSums.{offer_unit-in}
 use Rattle.market_model.proofs.RowMembers.{at_places}
@@ -400,7 +400,7 @@ module _ (m : Parts) (taken : List Row) (g : Taken) (reached : Growth m taken g.
   -- ---- reserve
   reserves_scaled : (x : Dispatch) (terms : List Term) → ReserveSum m x terms → AreScaled Quantity terms
   reserves_scaled x terms reserve_of_all = scaled_map Quantity (reserved_term x) (offer_places m) (λ n c. tt)
-  reserves_scaled x terms (room_of_unit u k) =
+  reserves_scaled x terms (reserve_in_room same (used_of_room u k)) =
       scaled_append Quantity (map (block_term m x) (blocks_of m u)) (map (reserved_term x) (offers_of m u))
       (scaled_map Quantity (block_term m x) (blocks_of m u) (λ j c. tt))
       (scaled_map Quantity (reserved_term x) (offers_of m u) (λ n c. tt))

@@ -42,7 +42,7 @@ use Rattle.market_system.specs.MarketSystem.{name, balance_name, row_name, over_
 use Rattle.market_system.proofs.Clamps.{lack, lack-nil, lack-below, where_low, block_more, offer_more, sum_more, buys_fit}
 use Rattle.market_model.specs.NamedSums.{SameSize}
 use Rattle.market_system.specs.MarketNumbers.{IsFarkasOf}
-use Rattle.market_system.proofs.RowOrder.{RowsApart, in_order-filter, is_in-in, is_among-from, rooms_in_order-from, rooms_in_order-filter}
+use Rattle.market_system.proofs.RowOrder.{RowsApart, in_order-filter, is_in-in, is_among-in, is_among-from, rooms_in_order-from, rooms_in_order-filter}
 use Rattle.market_system.proofs.DualLists.{NamesApart, rows_apart, takes_room, rooms_in_order-places, room_price-made, one_is_nil, up_by, down_by, up_sign, down_sign, up_is_part, down_is_part, up-made, down-made, net_price-made, prices_only-made, proper-made}
 use Rattle.market_system.proofs.MarketPoints.{is_system_of, both_parts, low-block, high-block, low-balance, high-balance, low-row, high-row, low-over, low-under, high-over, high-under, low-offer, high-offer, low-need, high-need, low-room, high-room, over_column, under_column, over_variable, under_variable, block_in, balance_in, row_in, offer_in, need_in, room_in}
 use Rattle.market_system.proofs.RoomBounds.{reserve_unit-in}
@@ -558,27 +558,14 @@ module _ (m : Parts) (names : NamesApart m) (market : IsMarket m) (g : Taken) (h
       | inr e ↦ inr (down-made m names turned g r (all r c) ∙ ap (λ (t : Bool). if t then down_by (sign_of (costs r)) (costs r) else nil) (is_in-in g.limits r c) ∙ e)
     ];
     no_others = prices_only-made m names turned g;
-    reserve = reserve_size m.reserve.listed;
-    rooms = λ u c. room_size u (takes_room m g.rooms u) refl;
+    above = above;
+    reserve = refl;
+    rooms = λ u c k. room_price_is u ∙ ap (λ (t : Bool). part_above (kept t (turned (room_name m u)))) (takes u c k);
     no_other_rooms = λ u out. room_price_is u ∙ ap part_above (absent u out (is_among g.rooms u) refl (offers_reserve m u)) ∙ part_at_most nil (≤ℚ_refl nil);
-    energy_alone = stuck_proper.energy_alone;
   }
     where
-      reserve_size : (t : Bool) → ((if t then part_above need_price else nil) ≡ nil) ⊎ SameSize (if t then part_above need_price else nil) (multiplier h b (need_name m))
-      reserve_size true = elim (part_either need_price) [
-        | inl e ↦ inl e
-        | inr e ↦ inr (subst (λ x. SameSize x (multiplier h b (need_name m))) (sym e) (neg_size (turned (need_name m)) (multiplier h b (need_name m)) (turned_size (need_name m))))
-      ]
-      reserve_size false = inl refl
-
-      room_size : (u : ℕ) (t : Bool) → takes_room m g.rooms u ≡ t → (room_price m stuck_duals u ≡ nil) ⊎ SameSize (room_price m stuck_duals u) (multiplier h b (room_name m u))
-      room_size u true k =
-          let is : room_price m stuck_duals u ≡ part_above (turned (room_name m u)) = room_price_is u ∙ ap (λ (t : Bool). part_above (kept t (turned (room_name m u)))) k in
-          elim (part_either (turned (room_name m u))) [
-            | inl e ↦ inl (is ∙ e)
-            | inr e ↦ inr (subst (λ x. SameSize x (multiplier h b (room_name m u))) (sym (is ∙ e)) (turned_size (room_name m u)))
-          ]
-      room_size u false k = inl (room_price_is u ∙ ap (λ (t : Bool). part_above (kept t (turned (room_name m u)))) k ∙ part_at_most nil (≤ℚ_refl nil))
+      takes : (u : ℕ) → Contains g.rooms u → Contains (reserve_units m) u → takes_room m g.rooms u ≡ true
+      takes u c k = ap₂ ◌&&◌ (Contains-from_filter (offers_reserve m) (places (length m.units)) u k).1 (is_among-in g.rooms u c)
 
       absent : (u : ℕ) → ¬ (Contains g.rooms u) → (t : Bool) → is_among g.rooms u ≡ t → (o : Bool) → kept (o && is_among g.rooms u) (turned (room_name m u)) ≡ nil
       absent u out true k o = absurd (out (is_among-from g.rooms u k))

@@ -1,11 +1,13 @@
 -- The numbers of a market at a choice of its system, each of a kind. Money is of none: only its sums may stand in a pair.
 -- Source: own; the sums are those of the dispatch, of the prices and of the settlement.
-use Rattle.std.specs.Prelude.{◌≡◌, false, ℕ, ◌<◌, List, length, Option, Some, None, ◌⊎◌}
+use Rattle.std.specs.Prelude.{◌≡◌, Bool, not, ℕ, ◌<◌, List, length, Option, Some, None, ◌⊎◌, if◌then◌else◌}
 use Rattle.std.specs.List.{Contains}
 use Rattle.fraction_theory.specs.Fraction.{Fraction, whole, neg_ℚ}
+use Rattle.fraction_theory.specs.Signs.{part_above}
 use Rattle.fraction_theory.specs.Sums.{Term, prefix}
 use Rattle.linear_system.specs.Choices.{Choice, basics}
 use Rattle.linear_system.specs.Numbers.{Kind, Factor, Quantity, Price, SolvingNumber, SystemNumber}
+use Rattle.simplex_theory.specs.Steps.{opposite_if}
 use Rattle.simplex_theory.specs.Stuck.{multiplier}
 use Rattle.market_model.specs.declared.participants.Parts.{Parts}
 use Rattle.market_model.specs.declared.participants.Pickup.{Pickup}
@@ -31,8 +33,8 @@ abbrev pub IsInjecting : Parts → Taken → Choice → Dispatch → Type 0
 IsInjecting m g h x = (x ≡ empty m) ⊎ ((x ≡ choice_dispatch m g h) × BestFor m g x)
 
 -- duals that show that nothing is feasible, by one basic variable of the choice: the price of energy and those of limits are, up to sign,
--- what shows it, a limit has one on one side at most, and rows that were not taken have none; the prices of reserve and of rooms are likewise,
--- or 0, and without reserve its price is 0
+-- what shows it, a limit has one on one side at most, and rows that were not taken have none; the prices of reserve and of rooms are what shows
+-- it on the side on which the variable is stuck, each 0 where that is below 0, and without reserve its price is 0
 pub record IsFarkasOf (m : Parts) (g : Taken) (h : Choice) (d : Duals Fraction) : Type 0 where
   pub shows : ShowsInfeasible m d
   pub basic : ℕ
@@ -41,10 +43,10 @@ pub record IsFarkasOf (m : Parts) (g : Taken) (h : Choice) (d : Duals Fraction) 
   pub limits : (r : Row) → Contains g.limits r → SameSize (net_shadow_price m d r) (multiplier h basic (row_name m r))
   pub one_sided : (r : Row) → Contains g.limits r → (up_of m d r ≡ zero) ⊎ (down_of m d r ≡ zero)
   pub no_others : PricesOnly m g.limits d
-  pub reserve : (d.reserve ≡ zero) ⊎ SameSize d.reserve (multiplier h basic (need_name m))
-  pub rooms : (u : ℕ) → Contains g.rooms u → (room_price m d u ≡ zero) ⊎ SameSize (room_price m d u) (multiplier h basic (room_name m u))
+  pub above : Bool
+  pub reserve : d.reserve ≡ (if m.reserve.listed then part_above (neg_ℚ (opposite_if (not above) (multiplier h basic (need_name m)))) else zero)
+  pub rooms : (u : ℕ) → Contains g.rooms u → Contains (reserve_units m) u → room_price m d u ≡ part_above (opposite_if (not above) (multiplier h basic (room_name m u)))
   pub no_other_rooms : (u : ℕ) → ¬ (Contains g.rooms u) → room_price m d u ≡ zero
-  pub energy_alone : m.reserve.listed ≡ false → d.reserve ≡ zero
 
 -- The sums that may be added up at a choice: each with the kind of its first terms, its terms in order, and when it counts. What has no kind
 -- may stand in a pair only where it is added up.

@@ -6,7 +6,7 @@ use Rattle.market_model.specs.declared.participants.Reserve.{Reserve}
 use Rattle.market_model.specs.declared.participants.ReserveOffer.{ReserveOffer}
 use Rattle.market_model.specs.Dispatch.{block_term, blocks_of, dispatch_with, offer_at, reserved}
 use Rattle.market_model.specs.Reserves.{room_terms, room_used}
-use Rattle.market_model.specs.SumTables.{room_of_unit}
+use Rattle.market_model.specs.SumTables.{reserve_in_room, used_of_room}
 use Rattle.market_model.specs.Valued.{passed_at}
 use Rattle.market_model.proofs.PutInSteps.{accepted_is}
 use Rattle.cert_sums.proofs.RoomLemmas.{counted_refused, counted_step, counted_to}
@@ -52,7 +52,7 @@ returns-in_err-mw-2-clause-cause g c =
     let given : c.from_residual-in_err-mw-2.result ≡ Err c.in_err-mw-2.field-0.0 = search rules in
     rw given (
       room_terms m x u,
-      room_of_unit u c.requires.unit,
+      reserve_in_room (room_terms m x u) (used_of_room u c.requires.unit),
       counted_refused (map (block_term m x) (blocks_of m u)) (λ n. (offer_at m n).unit == u) (reserved x) [] (room_terms m x u) (length m.reserve.offers) k _
           (value c.index-reserve-at.result) (value c.loop-at.mw) g.N.Exact.bound (passed_at value c.in_err-mw-2.field-0.0) (sym (append-nil (room_terms m x u))) below
           (ap (λ (o : ReserveOffer). o.unit == u) offer) c.in_err-mw-2.ensures.counts (sym (accepted_is value rs k c.index-reserve-at.result inside c.index-reserve-at.is))
@@ -65,4 +65,4 @@ returns-in_err-mw-clause-cause g c =
     let value = g.N.Exact.value in
     let x = dispatch_with (map value c.args.dispatch.now) (map value c.args.reserve.now) in
     let given : c.from_residual.result ≡ Err c.in_err-mw.field-0.0 = search rules in
-    rw given (room_terms m x c.args.unit, room_of_unit c.args.unit c.requires.unit, c.in_err-mw.ensures.cause (map value c.args.reserve.now))
+    rw given (room_terms m x c.args.unit, reserve_in_room (room_terms m x c.args.unit) (used_of_room c.args.unit c.requires.unit), c.in_err-mw.ensures.cause (map value c.args.reserve.now))

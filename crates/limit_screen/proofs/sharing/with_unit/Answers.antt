@@ -6,7 +6,7 @@ use Rattle.market_model.specs.declared.participants.Reserve.{Reserve}
 use Rattle.market_model.specs.declared.participants.ReserveOffer.{ReserveOffer}
 use Rattle.market_model.specs.Dispatch.{dispatch_with}
 use Rattle.market_model.specs.Reserves.{offers_among, reserve_units, room_terms}
-use Rattle.market_model.specs.SumTables.{room_of_unit}
+use Rattle.market_model.specs.SumTables.{used_of_room}
 use Rattle.limit_screen.proofs.RoomLemmas.{not-listed, offers-listed, still_worst}
 use Rattle.limit_screen.proofs.sharing.with_unit.Given.{Over}
 use Rattle.limit_screen.proofs.sharing.with_unit.Goals as goal
@@ -32,7 +32,7 @@ returns-in_err-used-clause-cause g c =
     let value = g.N.Exact.value in
     let given : c.from_residual.result ≡ Err c.in_err-used.field-0.0 = search rules in
     rw given
-    (room_terms m (dispatch_with (map value c.args.dispatch.now) (map value c.args.reserve.now)) c.args.unit, room_of_unit c.args.unit (listed g (goal.at.returns-in_err-used-clause-cause g c).Else-not-is_offered), c.in_err-used.ensures.cause)
+    (room_terms m (dispatch_with (map value c.args.dispatch.now) (map value c.args.reserve.now)) c.args.unit, used_of_room c.args.unit (listed g (goal.at.returns-in_err-used-clause-cause g c).Else-not-is_offered), c.in_err-used.ensures.cause)
 
 pub returns-in-Some-clause-worst : goal.returns-in-Some-clause-worst
 returns-in-Some-clause-worst g c =
