@@ -2,7 +2,7 @@ pub mod FindLemmas
 pub mod LawLemmas
 pub mod NamingLemmas
 pub mod PlacesLemmas
-pub mod ReserveApart
+pub mod RoomLemmas
 pub mod RowLemmas
 pub mod TestLemmas
 pub mod UnitLemmas

@@ -2,14 +2,14 @@
 use Rattle.std.specs.Prelude.{◌≡◌, ◌≢◌, ◌&&◌, ◌||◌, pos, ℕ, Bool, true, false, not, List, [], ◌∷◌, ◌++◌, length, Contains, Option, Some, None, MatchOption, is_some, refl}
 use Rattle.std.specs.List.{list_any}
 use Rattle.std.proofs.Common.{inl, inr, ap, ap₂, sym, subst, ◌∙◌}
-use Rattle.std.proofs.lemmas.Bool.{and_parts, eqb-true, true≢false}
+use Rattle.std.proofs.lemmas.Bool.{true≢false}
 use Rattle.fraction_theory.specs.Fraction.{Fraction, neg_ℚ}
 use Rattle.fraction_theory.proofs.OrderLaws.{≤ℚ_of_same, ≤ℚ_refl, opposite_most}
 use Rattle.exact_fraction.specs.declared.Passed.{Passed}
 use Rattle.market_model.specs.declared.answered.Dual.{Dual}
 use Rattle.market_model.specs.declared.answered.Duals.{Duals}
 use Rattle.market_model.specs.declared.participants.Parts.{Parts}
-use Rattle.market_model.specs.Dispatch.{Dispatch, balance, zero}
+use Rattle.market_model.specs.Dispatch.{Dispatch, zero}
 use Rattle.market_model.specs.declared.limits.Row.{Row}
 use Rattle.market_model.specs.LimitRows.{carried, rows, row_id, limit, penalty, is_soft, most_flow, flow}
 use Rattle.market_model.specs.Market.{IsMarket}
@@ -21,11 +21,10 @@ use Rattle.limit_rows.proofs.ApartLemmas.{same_row}
 use Rattle.limit_rows.proofs.PlaceLemmas.{same_name}
 use Rattle.limit_rows.specs.Naming.{has_name}
 use Rattle.cert_sums.specs.Refusals.{IsCarriedRefusal}
-use Rattle.cert_verify.specs.declared.verdicts.Reason.TheVariants as reason
-use Rattle.cert_verify.specs.Reasons.{NoneOf, balance_reason, differ, has_no_row, has_slack, is_below, is_unpriced, need_reason, passes, breaks_row, breaks_side, part_reasons, sum_reasons}
+use Rattle.cert_verify.specs.Reasons.{NoneOf, balance_reason, differ, has_no_row, has_slack, is_below, is_unpriced, limit_reason, need_reason, passes, breaks_row, breaks_side, part_reasons, sum_reasons}
 use Rattle.cert_verify.specs.Stops.{IsLimitPair, of_flow, of_pickup}
-use Rattle.cert_verify.proofs.TestLemmas.{all_none, any_of, any_none, below_not, below_of, int_lt-true, neither, not_below, none_first, none_join, not_both, not_false, not_so, not_true, so_none}
-use Rattle.cert_verify.proofs.VerdictLemmas.{named}
+use Rattle.cert_verify.proofs.TestLemmas.{all_none, any_of, any_none, below_not, below_of, int_lt-true, neither, not_below, none_first, none_join, not_both, not_true}
+use Rattle.cert_verify.proofs.VerdictLemmas.{counts_to, named}
 
 -- ---- a row by its name
 -- no row of the market has the name of a dual
@@ -138,22 +137,18 @@ pub limit_pair : (m : Parts) (x : Dispatch) (r : Row) (bound : ℕ) (p : Passed 
 limit_pair m x r bound p listed (inl (terms, sum, why)) = of_flow (terms, limited_row r terms listed sum, why)
 limit_pair m x r bound p listed (inr why) = of_pickup r listed why
 
--- the reasons before reserve do not hold where a dispatch balances, as was seen by numbers
-pub before_need : (m : Parts) (x : Dispatch) (d : Duals Fraction) (all nothing : Fraction) → all ≡ balance m x → nothing ≡ zero → differ all nothing ≡ false → NoneOf (part_reasons m x d)
-    → NoneOf (part_reasons m x d ++ balance_reason m x ∷ [])
-before_need m x d all nothing is none same before =
-    let balanced : balance_reason m x ≡ None = so_none (differ (balance m x) zero) reason.Balance (sym (ap₂ (λ (a b : Fraction). differ a b) is none) ∙ same) in
-    none_join (part_reasons m x d) (balance_reason m x ∷ []) before (none_first (balance_reason m x ∷ []) (balanced, tt))
+-- where nothing is wrong with the parts, none of the reasons up to these holds where these do not
+module _ (m : Parts) (x : Dispatch) (d : Duals Fraction) (before : NoneOf (part_reasons m x d)) (balanced : balance_reason m x ≡ None) where
+  pub before_need : NoneOf (part_reasons m x d ++ balance_reason m x ∷ [])
+  before_need = none_join (part_reasons m x d) (balance_reason m x ∷ []) before (none_first (balance_reason m x ∷ []) (balanced, tt))
 
--- and those before flows where it has the reserve that is needed, too
-pub before_flows : (m : Parts) (x : Dispatch) (d : Duals Fraction) (all nothing : Fraction) → all ≡ balance m x → nothing ≡ zero → differ all nothing ≡ false → need_reason m x ≡ None → NoneOf (part_reasons m x d)
-    → NoneOf (part_reasons m x d ++ sum_reasons m x)
-before_flows m x d all nothing is none same met before =
-    let balanced : balance_reason m x ≡ None = so_none (differ (balance m x) zero) reason.Balance (sym (ap₂ (λ (a b : Fraction). differ a b) is none) ∙ same) in
-    none_join (part_reasons m x d) (sum_reasons m x) before (none_first (sum_reasons m x) (balanced, (met, tt)))
+  pub before_limits : need_reason m x ≡ None → NoneOf (part_reasons m x d ++ sum_reasons m x)
+  before_limits met = none_join (part_reasons m x d) (sum_reasons m x) before (none_first (sum_reasons m x) (balanced, (met, tt)))
 
--- where nothing is wrong with the parts, there is one quantity for each block and each offer
+  pub before_rooms : need_reason m x ≡ None → limit_reason m x ≡ None → NoneOf (part_reasons m x d ++ sum_reasons m x ++ limit_reason m x ∷ [])
+  before_rooms met within =
+      none_join (part_reasons m x d) (sum_reasons m x ++ limit_reason m x ∷ []) before (none_first (sum_reasons m x ++ limit_reason m x ∷ []) (balanced, (met, (within, tt))))
+
+-- and there is one quantity for each block and each offer
 pub counts : (m : Parts) (x : Dispatch) (d : Duals Fraction) → NoneOf (part_reasons m x d) → (length x.blocks ≡ length m.blocks) × (length x.reserve ≡ length m.reserve.offers)
-counts m x d none =
-    let p = and_parts _ _ (not_false _ (not_so _ reason.Count (all_none (part_reasons m x d) none).0)) in
-    (eqb-true _ _ p.0, eqb-true _ _ p.1)
+counts m x d none = counts_to m x (all_none (part_reasons m x d) none).0

@@ -184,6 +184,13 @@ first_join [] ps = refl
 first_join (None ∷ os) ps = first_join os ps
 first_join (Some r ∷ os) ps = refl
 
+-- one that is told behind others of which there is none, and what is told behind these
+pub first_at : (os ps : List (Option Reason)) (o : Option Reason) (why : Reason) → NoneOf os → o ≡ Some why → Some why ≡ first_of (os ++ o ∷ ps)
+first_at os ps o why none is = sym (first_join os (o ∷ ps) ∙ ap (λ p. option_or p (first_of (o ∷ ps))) none ∙ ap (λ p. option_or p (first_of ps)) is)
+
+pub first_after : (os ps : List (Option Reason)) → NoneOf os → first_of (os ++ ps) ≡ first_of ps
+first_after os ps none = first_join os ps ∙ ap (λ p. option_or p (first_of ps)) none
+
 pub or_none : (o : Option Reason) → option_or o None ≡ o
 or_none None = refl
 or_none (Some r) = refl

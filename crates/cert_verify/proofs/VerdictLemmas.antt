@@ -2,10 +2,10 @@
 use Rattle.std.specs.Prelude.{◌≡◌, ◌≢◌, ◌⊎◌, ◌==◌, ◌&&◌, ◌||◌, ◌<◌, ◌+◌, ℕ, Bool, true, false, not, List, [], ◌∷◌, length, AllPairs, Contains, None, if◌then◌else◌, refl}
 use Rattle.std.specs.List.{list_any}
 use Rattle.std.proofs.Common.{suc, arith, inl, inr, ap, sym, subst, subst₂, ◌∙◌}
-use Rattle.std.proofs.lemmas.Bool.{or_parts, eq-eqb, eqb-true}
+use Rattle.std.proofs.lemmas.Bool.{and_from, and_parts, or_parts, eq-eqb, eqb-true}
 use Rattle.std.proofs.lemmas.List.Elements.{All-contains}
 use Rattle.fraction_theory.specs.Fraction.{Fraction, neg_ℚ}
-use Rattle.fraction_theory.specs.Order.{◌≤ℚ◌}
+use Rattle.fraction_theory.specs.Order.{◌≤ℚ◌, ◌<ℚ◌}
 use Rattle.fraction_theory.proofs.ListSums.{Contains-head, Contains-cons, Contains-cases}
 use Rattle.fraction_theory.proofs.OrderLaws.{≤ℚ_refl}
 use Rattle.market_model.specs.declared.answered.Dual.{Dual}
@@ -14,20 +14,20 @@ use Rattle.market_model.specs.declared.answered.RowId.{RowId}
 use Rattle.market_model.specs.declared.participants.Parts.{Parts}
 use Rattle.market_model.specs.declared.participants.Side.{Side}
 use Rattle.market_model.specs.declared.participants.Side.TheVariants.{Sell, Buy}
-use Rattle.market_model.specs.Dispatch.{Dispatch, zero, places, block_at, accepted, quantity, balance}
+use Rattle.market_model.specs.Dispatch.{Dispatch, zero, places, block_at, offer_at, unit_at, accepted, quantity, reserved, reserve_quantity, balance}
 use Rattle.market_model.specs.Infeasibility.{farkas_bound}
 use Rattle.market_model.specs.declared.limits.Row.{Row}
 use Rattle.market_model.specs.LimitRows.{rows, row_id, limit, flow, most_flow, penalty}
-use Rattle.market_model.specs.Optimality.{BlockSupported, Gains, Loses, all_of, RowSupported, SideSupported, Supports, same_id, names_row, up_in, down_in, up_of, down_of, price, unit_price}
-use Rattle.market_model.specs.Reserves.{no_reserve}
-use Rattle.market_model.proofs.EnergyAlone.{block_alone, feasible_alone, full_alone, is_energy_dispatch, no_unit, none_alone, supports_alone}
+use Rattle.market_model.specs.Optimality.{BlockSupported, Feasible, Gains, Loses, OfferSupported, RowSupported, SideSupported, Supports, same_id, names_row, up_in, down_in, up_of, down_of, price, energy_worth, reserve_worth}
+use Rattle.market_model.specs.Reserves.{offer_places, offer_price, reserve, reserve_need, reserve_units, room, room_used}
 use Rattle.limit_rows.proofs.DualLemmas.{up_unnamed, down_unnamed}
 use Rattle.limit_rows.proofs.PlaceLemmas.{same_name}
 use Rattle.cert_verify.specs.declared.verdicts.Reason.TheVariants as reason
 use Rattle.cert_verify.specs.Certificates.{ProvesInfeasible, IsOptimum, NamesRows}
 use Rattle.limit_rows.specs.Naming.{has_name}
-use Rattle.cert_verify.specs.Reasons.{bound_reason, block_reason, breaks_row, breaks_side, count_reason, balance_reason, differ, farkas_reasons, first_of, gains, has_negative, has_no_row, has_slack, is_below, is_beyond, is_overloaded, is_unpriced, is_unsupported, limit_reason, loses, optimal_reasons, row_reason, sign_reason, slack_reason, support_reason, unpriced_reason}
+use Rattle.cert_verify.specs.Reasons.{NoneOf, bound_reason, block_reason, breaks_row, breaks_side, breaks_support, count_reason, balance_reason, differ, farkas_reasons, first_of, gains, has_negative, has_no_row, has_slack, is_below, is_beyond, is_offer_beyond, is_offer_unsupported, is_overfull, is_overloaded, is_slack, is_unpriced, is_unsupported, limit_reason, limit_reasons, loses, need_reason, need_sign_reason, need_slack_reason, optimal_reasons, reserve_reason, reserve_support_reason, room_reason, room_sign_reason, room_slack_reason, row_reason, sign_reason, slack_reason, slack_reasons, sum_reasons, support_reason, unit_reason, unpriced_reason}
 use Rattle.cert_verify.proofs.TestLemmas.{below_true, below_of, not_below, below_not, same_by, same_not, neither, not_both, then_not, not_false, not_true, any_true, any_of, any_false, any_none, all_by, in_places, from_places, none_of, of_none, not_so, so_none, all_none, none_first}
+use Rattle.cert_verify.proofs.RoomLemmas.{room_sign, room_signs_from, room_slack_from, rooms_from, rooms_to, used_up_to}
 use Rattle.market_model.specs.Overrun.{Within}
 
 -- ---- names and their prices
@@ -110,25 +110,52 @@ loses_true : (s : Side) (p w : Fraction) → loses s p w ≡ true → Loses s p 
 loses_true Sell p w e = below_true w p e
 loses_true Buy p w e = below_true p w e
 
+-- what gains is accepted whole, and what loses is not
+record IsSupported (s : Side) (p w q y : Fraction) : Type 0 where
+  pub full : Gains s p w → y ≡ q
+  pub empty : Loses s p w → y ≡ zero
+
+support_to : (s : Side) (p w q y : Fraction) → breaks_support s p w q y ≡ false → IsSupported s p w q y
+support_to s p w q y e =
+    let parts = or_parts (gains s p w && differ y q) (loses s p w && differ y zero) e in record {
+      full = λ h. same_by y q (then_not (gains s p w) (differ y q) parts.0 (gains_of s p w h));
+      empty = λ h. same_by y zero (then_not (loses s p w) (differ y zero) parts.1 (loses_of s p w h));
+    }
+
+support_from : (s : Side) (p w q y : Fraction) → IsSupported s p w q y → breaks_support s p w q y ≡ false
+support_from s p w q y h =
+    neither (gains s p w && differ y q) (loses s p w && differ y zero)
+    (not_both (gains s p w) (differ y q) (λ t. same_not y q (h.full (gains_true s p w t))))
+    (not_both (loses s p w) (differ y zero) (λ t. same_not y zero (h.empty (loses_true s p w t))))
+
 module _ (m : Parts) (x : Dispatch) (d : Duals Fraction) where
-  abbrev side_of : ℕ → Side
-  side_of j = (block_at m j).side
-
   abbrev worth_of : ℕ → Fraction
-  worth_of j = unit_price m d (block_at m j).unit
+  worth_of j = energy_worth m d (block_at m j).unit
 
-  block_to : m.reserve ≡ no_reserve → (j : ℕ) → is_unsupported m x d j ≡ false → BlockSupported m x d j
-  block_to alone j e =
-      let parts = or_parts (gains (side_of j) (price m j) (worth_of j) && differ (accepted x j) (quantity m j)) (loses (side_of j) (price m j) (worth_of j) && differ (accepted x j) zero) e in
-      block_alone m alone x d j
-      (λ h. same_by (accepted x j) (quantity m j) (then_not (gains (side_of j) (price m j) (worth_of j)) (differ (accepted x j) (quantity m j)) parts.0 (gains_of (side_of j) (price m j) (worth_of j) h)))
-      (λ h. same_by (accepted x j) zero (then_not (loses (side_of j) (price m j) (worth_of j)) (differ (accepted x j) zero) parts.1 (loses_of (side_of j) (price m j) (worth_of j) h)))
+  abbrev offer_worth : ℕ → Fraction
+  offer_worth n = reserve_worth m d (offer_at m n).unit
 
-  block_from : m.reserve ≡ no_reserve → (j : ℕ) → BlockSupported m x d j → is_unsupported m x d j ≡ false
-  block_from alone j h =
-      neither (gains (side_of j) (price m j) (worth_of j) && differ (accepted x j) (quantity m j)) (loses (side_of j) (price m j) (worth_of j) && differ (accepted x j) zero)
-      (not_both (gains (side_of j) (price m j) (worth_of j)) (differ (accepted x j) (quantity m j)) (λ t. same_not (accepted x j) (quantity m j) (full_alone m alone x d j h (gains_true (side_of j) (price m j) (worth_of j) t))))
-      (not_both (loses (side_of j) (price m j) (worth_of j)) (differ (accepted x j) zero) (λ t. same_not (accepted x j) zero (none_alone m alone x d j h (loses_true (side_of j) (price m j) (worth_of j) t))))
+  blocks_to : support_reason m x d ≡ None → (j : ℕ) → j < length m.blocks → BlockSupported m x d j
+  blocks_to e j lt =
+      let none = none_of (λ (j : ℕ). reason.Support (j + 1)) (is_unsupported m x d) (places (length m.blocks)) e j (in_places (length m.blocks) j lt) in
+      let s = support_to (block_at m j).side (price m j) (worth_of j) (quantity m j) (accepted x j) none in record { full = s.full; empty = s.empty }
+
+  blocks_from : ((j : ℕ) → j < length m.blocks → BlockSupported m x d j) → support_reason m x d ≡ None
+  blocks_from h =
+      of_none (λ (j : ℕ). reason.Support (j + 1)) (is_unsupported m x d) (places (length m.blocks))
+      (λ j c. let s = h j (from_places (length m.blocks) j c) in
+      support_from (block_at m j).side (price m j) (worth_of j) (quantity m j) (accepted x j) (record { full = s.full; empty = s.empty }))
+
+  offers_to : reserve_support_reason m x d ≡ None → (n : ℕ) → n < length m.reserve.offers → OfferSupported m x d n
+  offers_to e n lt =
+      let none = none_of (λ (n : ℕ). reason.ReserveSupport (n + 1)) (is_offer_unsupported m x d) (offer_places m) e n (in_places (length m.reserve.offers) n lt) in
+      let s = support_to Sell (offer_price m n) (offer_worth n) (reserve_quantity m n) (reserved x n) none in record { full = s.full; empty = s.empty }
+
+  offers_from : ((n : ℕ) → n < length m.reserve.offers → OfferSupported m x d n) → reserve_support_reason m x d ≡ None
+  offers_from h =
+      of_none (λ (n : ℕ). reason.ReserveSupport (n + 1)) (is_offer_unsupported m x d) (offer_places m)
+      (λ n c. let s = h n (from_places (length m.reserve.offers) n c) in
+      support_from Sell (offer_price m n) (offer_worth n) (reserve_quantity m n) (reserved x n) (record { full = s.full; empty = s.empty }))
 
 -- ---- duals
 -- the signs of a dual's prices
@@ -251,6 +278,57 @@ module _ (m : Parts) (x : Dispatch) where
       of_none (λ j. reason.Block (j + 1)) (is_beyond m x) (places (length m.blocks))
       (λ j c. let w = h j (from_places (length m.blocks) j c) in neither (is_below (accepted x j) zero) (is_below (quantity m j) (accepted x j)) (below_not (accepted x j) zero w.0) (below_not (quantity m j) (accepted x j) w.1))
 
+  offered_to : reserve_reason m x ≡ None → (n : ℕ) → n < length m.reserve.offers → (zero ≤ℚ reserved x n) × (reserved x n ≤ℚ reserve_quantity m n)
+  offered_to h n lt =
+      let parts = or_parts (is_below (reserved x n) zero) (is_below (reserve_quantity m n) (reserved x n)) (none_of (λ (n : ℕ). reason.Reserve (n + 1)) (is_offer_beyond m x) (offer_places m) h n (in_places (length m.reserve.offers) n lt)) in
+      (not_below (reserved x n) zero parts.0, not_below (reserve_quantity m n) (reserved x n) parts.1)
+
+  offered_from : ((n : ℕ) → n < length m.reserve.offers → (zero ≤ℚ reserved x n) × (reserved x n ≤ℚ reserve_quantity m n)) → reserve_reason m x ≡ None
+  offered_from h =
+      of_none (λ (n : ℕ). reason.Reserve (n + 1)) (is_offer_beyond m x) (offer_places m)
+      (λ n c. let w = h n (from_places (length m.reserve.offers) n c) in neither (is_below (reserved x n) zero) (is_below (reserve_quantity m n) (reserved x n)) (below_not (reserved x n) zero w.0) (below_not (reserve_quantity m n) (reserved x n) w.1))
+
+  filled_to : room_reason m x ≡ None → (u : ℕ) → Contains (reserve_units m) u → room_used m x u ≤ℚ room m u
+  filled_to h u c = not_below (room m u) (room_used m x u) (none_of (λ (u : ℕ). reason.Room (unit_at m u).row) (is_overfull m x) (reserve_units m) h u c)
+
+  filled_from : ((u : ℕ) → Contains (reserve_units m) u → room_used m x u ≤ℚ room m u) → room_reason m x ≡ None
+  filled_from h = of_none (λ (u : ℕ). reason.Room (unit_at m u).row) (is_overfull m x) (reserve_units m) (λ u c. below_not (room m u) (room_used m x u) (h u c))
+
+  met_to : need_reason m x ≡ None → reserve_need m ≤ℚ reserve m x
+  met_to h = not_below (reserve m x) (reserve_need m) (not_so (is_below (reserve m x) (reserve_need m)) reason.Need h)
+
+  met_from : reserve_need m ≤ℚ reserve m x → need_reason m x ≡ None
+  met_from h = so_none (is_below (reserve m x) (reserve_need m)) reason.Need (below_not (reserve m x) (reserve_need m) h)
+
+  counts_from : length x.blocks ≡ length m.blocks → length x.reserve ≡ length m.reserve.offers → count_reason m x ≡ None
+  counts_from e f =
+      so_none (not ((length x.blocks == length m.blocks) && (length x.reserve == length m.reserve.offers))) reason.Count
+      (not_true ((length x.blocks == length m.blocks) && (length x.reserve == length m.reserve.offers))
+      (and_from (length x.blocks == length m.blocks) (length x.reserve == length m.reserve.offers) (eq-eqb (length x.blocks) (length m.blocks) e) (eq-eqb (length x.reserve) (length m.reserve.offers) f)))
+
+  pub counts_to : count_reason m x ≡ None → (length x.blocks ≡ length m.blocks) × (length x.reserve ≡ length m.reserve.offers)
+  counts_to none =
+      let p = and_parts (length x.blocks == length m.blocks) (length x.reserve == length m.reserve.offers)
+      (not_false ((length x.blocks == length m.blocks) && (length x.reserve == length m.reserve.offers)) (not_so (not ((length x.blocks == length m.blocks) && (length x.reserve == length m.reserve.offers))) reason.Count none)) in
+      (eqb-true (length x.blocks) (length m.blocks) p.0, eqb-true (length x.reserve) (length m.reserve.offers) p.1)
+
+-- ---- the price of reserve
+need_sign_to : (price : Fraction) → need_sign_reason price ≡ None → zero ≤ℚ price
+need_sign_to price h = not_below price zero (not_so (is_below price zero) reason.NeedSign h)
+
+need_sign_from : (price : Fraction) → zero ≤ℚ price → need_sign_reason price ≡ None
+need_sign_from price h = so_none (is_below price zero) reason.NeedSign (below_not price zero h)
+
+module _ (m : Parts) (x : Dispatch) (price : Fraction) where
+  need_slack_to : need_slack_reason m x price ≡ None → zero <ℚ price → reserve m x ≡ reserve_need m
+  need_slack_to h above =
+      same_by (reserve m x) (reserve_need m) (then_not (is_below zero price) (differ (reserve m x) (reserve_need m)) (not_so (is_slack price (reserve m x) (reserve_need m)) reason.NeedSlack h) (below_of zero price above))
+
+  need_slack_from : (zero <ℚ price → reserve m x ≡ reserve_need m) → need_slack_reason m x price ≡ None
+  need_slack_from h =
+      so_none (is_slack price (reserve m x) (reserve_need m)) reason.NeedSlack
+      (not_both (is_below zero price) (differ (reserve m x) (reserve_need m)) (λ t. same_not (reserve m x) (reserve_need m) (h (below_true zero price t))))
+
 -- ---- the duals of rows of the market
 module _ (m : Parts) (d : Duals Fraction) where
   -- the prices of a dual of a row of the market
@@ -304,52 +382,105 @@ module _ (m : Parts) (x : Dispatch) (d : Duals Fraction) where
       unpriced_from m x d.limits
       (λ r c free. subst₂ (Unbroken m x r) (up_unnamed d.limits (row_id m r) free) (down_unnamed d.limits (row_id m r) free) (row_from r (s.rows r c)))
 
-  pub optimal_to : m.reserve ≡ no_reserve → x.reserve ≡ [] → d.reserve ≡ zero → first_of (optimal_reasons m x d) ≡ None → IsOptimum m x d
-  optimal_to alone energy free none =
-      let all = all_none (optimal_reasons m x d) none in
-      let counted : length x.blocks ≡ length m.blocks = eqb-true (length x.blocks) (length m.blocks) (not_false (length x.blocks == length m.blocks) (not_so (not (length x.blocks == length m.blocks)) reason.Count all.0)) in
-      let inside = inside_to m x all.1.1.1.0 in record {
-        rows = names_to m d.limits all.1.0;
-        feasible = feasible_alone m alone (all_of m) x (λ u c. c)
-            (is_energy_dispatch m alone x energy counted (λ j lt. (inside j lt).0) (λ j lt. (inside j lt).1))
-            (same_by (balance m x) zero (not_so (differ (balance m x) zero) reason.Balance all.1.1.1.1.0))
-            (limits_to m x all.1.1.1.1.1.0);
-        supported = supports_alone m alone x d free
-            (λ j lt. block_to m x d alone j (none_of (λ j. reason.Support (j + 1)) (is_unsupported m x d) (places (length m.blocks)) all.1.1.1.1.1.1.1.1.0 j (in_places (length m.blocks) j lt)))
-            (row_to all.1.1.0 all.1.1.1.1.1.1.0 all.1.1.1.1.1.1.1.0);
+  -- a dispatch with no reason against its parts, its sums and its limits is feasible
+  feasible_to : count_reason m x ≡ None → block_reason m x ≡ None → reserve_reason m x ≡ None → NoneOf (sum_reasons m x) → NoneOf (limit_reasons m x) → Feasible m x
+  feasible_to count blocks offers sums limits =
+      let n = counts_to m x count in
+      let accepts = inside_to m x blocks in
+      let reserves = offered_to m x offers in
+      let all = all_none (sum_reasons m x) sums in
+      let flows = all_none (limit_reasons m x) limits in record {
+        blocks = record {
+          count = n.0;
+          above = λ j lt. (accepts j lt).0;
+          within = λ j lt. (accepts j lt).1;
+          reserve_count = n.1;
+          reserve_above = λ k lt. (reserves k lt).0;
+          reserve_within = λ k lt. (reserves k lt).1;
+        };
+        balanced = same_by (balance m x) zero (not_so (differ (balance m x) zero) reason.Balance all.0);
+        limits = limits_to m x flows.0;
+        need = met_to m x all.1.0;
+        rooms = filled_to m x flows.1.0;
       }
 
-  pub optimal_from : m.reserve ≡ no_reserve → Apart d.limits → IsOptimum m x d → first_of (optimal_reasons m x d) ≡ None
-  optimal_from alone apart h =
-      let count : count_reason m x ≡ None = so_none (not (length x.blocks == length m.blocks)) reason.Count (not_true (length x.blocks == length m.blocks) (eq-eqb (length x.blocks) (length m.blocks) h.feasible.blocks.count)) in
+  -- duals with no reason against their signs, their slack and what they support support it
+  supports_to : NoneOf (sign_reason d.limits ∷ need_sign_reason d.reserve ∷ room_sign_reason d.rooms ∷ []) → NoneOf (slack_reasons m x d) → support_reason m x d ≡ None → reserve_support_reason m x d ≡ None → Supports m x d
+  supports_to signs slacks blocks offers =
+      let sign = all_none (sign_reason d.limits ∷ need_sign_reason d.reserve ∷ room_sign_reason d.rooms ∷ []) signs in
+      let slack = all_none (slack_reasons m x d) slacks in record {
+        blocks = blocks_to m x d blocks;
+        rows = row_to sign.0 slack.0 slack.1.0;
+        offers = offers_to m x d offers;
+        need = record { sign = need_sign_to d.reserve sign.1.0; met = need_slack_to m x d.reserve slack.1.1.0 };
+        rooms = λ u c. record { sign = room_sign m d sign.1.1.0 u c; used_up = used_up_to m x d slack.1.1.1.0 u c };
+      }
+
+  pub optimal_to : first_of (optimal_reasons m x d) ≡ None → IsOptimum m x d
+  optimal_to none =
+      let all = all_none (optimal_reasons m x d) none in
+      let names = all.1 in
+      let signs = names.1.1 in
+      let inside = signs.1.1.1 in
+      let sums = inside.1.1 in
+      let limits = sums.1.1 in
+      let slacks = limits.1.1 in
+      let supports = slacks.1.1.1.1 in record {
+        rows = names_to m d.limits names.0;
+        rooms = rooms_to m d.rooms names.1.0;
+        feasible = feasible_to all.0 inside.0 inside.1.0 (none_first (sum_reasons m x) (sums.0, (sums.1.0, tt))) (none_first (limit_reasons m x) (limits.0, (limits.1.0, tt)));
+        supported = supports_to (none_first (sign_reason d.limits ∷ need_sign_reason d.reserve ∷ room_sign_reason d.rooms ∷ []) (signs.0, (signs.1.0, (signs.1.1.0, tt))))
+            (none_first (slack_reasons m x d) (slacks.0, (slacks.1.0, (slacks.1.1.0, (slacks.1.1.1.0, tt))))) supports.0 supports.1.0;
+      }
+
+  pub optimal_from : Apart d.limits → IsOptimum m x d → first_of (optimal_reasons m x d) ≡ None
+  optimal_from apart h =
+      let f = h.feasible in
+      let s = h.supported in
+      let count : count_reason m x ≡ None = counts_from m x f.blocks.count f.blocks.reserve_count in
       let names : row_reason m d.limits ≡ None = names_from m d.limits h.rows in
-      let signs : sign_reason d.limits ≡ None = signs_of m d apart h.rows (λ r c. (h.supported.rows r c).up.sign) (λ r c. (h.supported.rows r c).down.sign) in
-      let inside : block_reason m x ≡ None = inside_from m x (λ j lt. (h.feasible.blocks.above j lt, h.feasible.blocks.within j lt)) in
-      let balanced : balance_reason m x ≡ None = so_none (differ (balance m x) zero) reason.Balance (same_not (balance m x) zero h.feasible.balanced) in
-      let limits : limit_reason m x ≡ None = limits_from m x h.feasible.limits in
-      let slack : slack_reason m x d.limits ≡ None = slacks_of apart h.supported in
-      let unpriced : unpriced_reason m x d.limits ≡ None = unpriced_of h.supported in
-      let support : support_reason m x d ≡ None = of_none (λ j. reason.Support (j + 1)) (is_unsupported m x d) (places (length m.blocks)) (λ j c. block_from m x d alone j (h.supported.blocks j (from_places (length m.blocks) j c))) in
-      none_first (optimal_reasons m x d) (count, (names, (signs, (inside, (balanced, (limits, (slack, (unpriced, (support, tt)))))))))
+      let units : unit_reason m d.rooms ≡ None = rooms_from m d.rooms h.rooms in
+      let signs : sign_reason d.limits ≡ None = signs_of m d apart h.rows (λ r c. (s.rows r c).up.sign) (λ r c. (s.rows r c).down.sign) in
+      let need_sign : need_sign_reason d.reserve ≡ None = need_sign_from d.reserve s.need.sign in
+      let room_signs : room_sign_reason d.rooms ≡ None = room_signs_from m d h.rooms (λ u c. (s.rooms u c).sign) in
+      let inside : block_reason m x ≡ None = inside_from m x (λ j lt. (f.blocks.above j lt, f.blocks.within j lt)) in
+      let offered : reserve_reason m x ≡ None = offered_from m x (λ n lt. (f.blocks.reserve_above n lt, f.blocks.reserve_within n lt)) in
+      let balanced : balance_reason m x ≡ None = so_none (differ (balance m x) zero) reason.Balance (same_not (balance m x) zero f.balanced) in
+      let met : need_reason m x ≡ None = met_from m x f.need in
+      let limits : limit_reason m x ≡ None = limits_from m x f.limits in
+      let filled : room_reason m x ≡ None = filled_from m x f.rooms in
+      let slack : slack_reason m x d.limits ≡ None = slacks_of apart s in
+      let unpriced : unpriced_reason m x d.limits ≡ None = unpriced_of s in
+      let need_slack : need_slack_reason m x d.reserve ≡ None = need_slack_from m x d.reserve s.need.met in
+      let room_slack : room_slack_reason m x d.rooms ≡ None = room_slack_from m x d h.rooms s.rooms in
+      let support : support_reason m x d ≡ None = blocks_from m x d s.blocks in
+      let offers : reserve_support_reason m x d ≡ None = offers_from m x d s.offers in
+      none_first (optimal_reasons m x d)
+      (count, (names, (units, (signs, (need_sign, (room_signs, (inside, (offered, (balanced, (met, (limits, (filled, (slack, (unpriced, (need_slack, (room_slack, (support, (offers, tt))))))))))))))))))
 
 -- ---- duals that show that nothing is feasible
 module _ (m : Parts) (d : Duals Fraction) where
-  pub farkas_to : m.reserve ≡ no_reserve → d.reserve ≡ zero → first_of (farkas_reasons m d) ≡ None → ProvesInfeasible m d
-  farkas_to alone free none =
-      let all = all_none (farkas_reasons m d) none in record {
+  pub farkas_to : first_of (farkas_reasons m d) ≡ None → ProvesInfeasible m d
+  farkas_to none =
+      let all = all_none (farkas_reasons m d) none in
+      let signs = all.1.1 in record {
         rows = names_to m d.limits all.0;
+        rooms = rooms_to m d.rooms all.1.0;
         shows = record {
-          up_signs = λ r c. up_sign d.limits (row_id m r) (signs_to d.limits all.1.0);
-          down_signs = λ r c. down_sign d.limits (row_id m r) (signs_to d.limits all.1.0);
-          need_sign = subst (λ (t : Fraction). zero ≤ℚ t) (sym free) (≤ℚ_refl zero);
-          room_signs = λ u c. absurd (no_unit m alone u c);
-          below = below_true (farkas_bound m d) zero (not_false (is_below (farkas_bound m d) zero) (not_so (not (is_below (farkas_bound m d) zero)) reason.Bound all.1.1.0));
+          up_signs = λ r c. up_sign d.limits (row_id m r) (signs_to d.limits signs.0);
+          down_signs = λ r c. down_sign d.limits (row_id m r) (signs_to d.limits signs.0);
+          need_sign = need_sign_to d.reserve signs.1.0;
+          room_signs = room_sign m d signs.1.1.0;
+          below = below_true (farkas_bound m d) zero (not_false (is_below (farkas_bound m d) zero) (not_so (not (is_below (farkas_bound m d) zero)) reason.Bound signs.1.1.1.0));
         };
       }
 
   pub farkas_from : Apart d.limits → ProvesInfeasible m d → first_of (farkas_reasons m d) ≡ None
   farkas_from apart h =
       let names : row_reason m d.limits ≡ None = names_from m d.limits h.rows in
+      let units : unit_reason m d.rooms ≡ None = rooms_from m d.rooms h.rooms in
       let signs : sign_reason d.limits ≡ None = signs_of m d apart h.rows h.shows.up_signs h.shows.down_signs in
+      let need_sign : need_sign_reason d.reserve ≡ None = need_sign_from d.reserve h.shows.need_sign in
+      let room_signs : room_sign_reason d.rooms ≡ None = room_signs_from m d h.rooms h.shows.room_signs in
       let bound : bound_reason m d ≡ None = so_none (not (is_below (farkas_bound m d) zero)) reason.Bound (not_true (is_below (farkas_bound m d) zero) (below_of (farkas_bound m d) zero h.shows.below)) in
-      none_first (farkas_reasons m d) (names, (signs, (bound, tt)))
+      none_first (farkas_reasons m d) (names, (units, (signs, (need_sign, (room_signs, (bound, tt))))))

@@ -21,18 +21,16 @@ ghost use Rattle.cert_verify.specs.Stops.{IsFarkasStop, IsOptimalStop};
 
 use crate::Reason;
 use crate::blocks::{other_count, outside_block, unsupported_block};
-use crate::comparing::{differ, is_negative};
-use crate::duals::{missing_row, negative_price, slack_price};
+use crate::comparing::is_negative;
+use crate::duals::{missing_row, negative_price};
+use crate::flows::{carried_by, put_in, wrong_balance, wrong_price};
 use crate::limits::broken_limit;
 use crate::naming::named_rows;
 use crate::offers::{negative_need, outside_offer, short_need, slack_need, unsupported_offer};
 use crate::rooms::{missing_unit, named_rooms, negative_room, overfull_room, slack_room};
-use crate::unpriced::unpriced_row;
-use cert_sums::{
-    NamedRoom, NamedRow, carried_flows, energy_worth, farkas_bound, injections, reserve_in_all,
-};
+use cert_sums::{NamedRoom, NamedRow, energy_worth, farkas_bound, reserve_in_all};
 use exact_fraction::{Exact, Passed};
-use market_model::{Dual, List, Market, Memory, RoomDual, Stop, balance, datum};
+use market_model::{Dual, List, Market, Memory, RoomDual, Stop};
 use std::alloc::Global;
 
 /// What may be wrong with the names and the signs of duals.
@@ -121,25 +119,22 @@ fn wrong_flow<N: Exact>(
     ensures cause { (energy : Fraction) → NoneOf (part_reasons market.now (dispatch_with (map N.value blocks.now) (map N.value quantities.now)) (all_duals energy (map (dual_at N.value) limits.now) (N.value price) (map (room_dual_at N.value) rooms.now)))
         → IfErr result (StopsBy N.value (IsOptimalStop market.now (dispatch_with (map N.value blocks.now) (map N.value quantities.now)) (all_duals energy (map (dual_at N.value) limits.now) (N.value price) (map (room_dual_at N.value) rooms.now)) N.bound)) }
 {
-    let by_bus = injections(alloc, market, blocks)?;
-    if differ(balance(market, &by_bus)?, datum(0)) {
-        return Ok(Some(Reason::Balance));
+    let by_bus = put_in(alloc, market, blocks)?;
+    if let Some(reason) = wrong_balance(market, &by_bus)? {
+        return Ok(Some(reason));
     }
     let accepted = reserve_in_all(quantities)?;
     if let Some(reason) = short_need(market, accepted) {
         return Ok(Some(reason));
     }
-    let carried = carried_flows(alloc, market, blocks, &by_bus)?;
+    let carried = carried_by(alloc, market, blocks, &by_bus)?;
     if let Some(reason) = broken_limit(market, &carried)? {
         return Ok(Some(reason));
     }
     if let Some(reason) = overfull_room(market, blocks, quantities)? {
         return Ok(Some(reason));
     }
-    if let Some(reason) = slack_price(market, &carried, limits)? {
-        return Ok(Some(reason));
-    }
-    if let Some(reason) = unpriced_row(alloc, market, &carried, limits)? {
+    if let Some(reason) = wrong_price(alloc, market, &carried, limits)? {
         return Ok(Some(reason));
     }
     Ok(wrong_slack(market, blocks, quantities, accepted, price, rooms)?)

@@ -7,6 +7,7 @@ mod amounts;
 mod blocks;
 mod comparing;
 mod duals;
+mod flows;
 pub mod laws;
 mod limits;
 mod naming;

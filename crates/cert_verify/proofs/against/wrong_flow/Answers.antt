@@ -1,79 +1,240 @@
-use Rattle.std.proofs.Common.{rules, Err, ◌≡◌, ◌∙◌, ap, map, sym}
-use Rattle.std.proofs.lemmas.Result.{IfErr-weaker}
-use Rattle.market_model.specs.Valued.{dual_at, passed_at}
-use Rattle.market_model.specs.PutIn.{dispatch_of}
-use Rattle.market_model.specs.SumTables.{balance_from_bus, balance_of_all}
+use Rattle.std.proofs.Common.{rules, Err, ◌≡◌, ◌∙◌, [], ◌∷◌, ◌++◌, ap, map, refl, sym}
+use Rattle.std.specs.Option.{option_or}
+use Rattle.market_model.specs.Dispatch.{dispatch_with}
+use Rattle.market_model.specs.Valued.{dual_at, room_dual_at}
 use Rattle.market_model.proofs.StopLemmas.{on_passed_weaker}
 use Rattle.market_model.specs.declared.stops.Stop.TheVariants as why
-use Rattle.cert_verify.specs.Stops.{at_balance, at_limits}
-use Rattle.cert_verify.proofs.RowLemmas.{before_flows, carried_pair}
+use Rattle.cert_verify.specs.Certificates.{all_duals}
+use Rattle.cert_verify.specs.Reasons.{balance_reason, first_of, limit_reason, limit_reasons, need_reason, need_slack_reason, room_reason, room_slack_reason, slack_reason, slack_reasons, sum_reasons, unpriced_reason}
+use Rattle.cert_verify.specs.Stops.{at_balance, at_limits, at_need, at_rooms}
+use Rattle.cert_verify.proofs.RowLemmas.{before_limits, before_need, before_rooms}
+use Rattle.cert_verify.proofs.TestLemmas.{first_after, first_at, first_join, none_first}
 use Rattle.cert_verify.proofs.against.wrong_flow.Goals as goal
 
-pub returns-in_err-by_bus-clause-cause : goal.returns-in_err-by_bus-clause-cause
-returns-in_err-by_bus-clause-cause g c =
-    let given : c.from_residual.result ≡ Err c.in_err-by_bus.field-0.0 = search rules in
-    λ energy none. rw given
-    (on_passed_weaker c.in_err-by_bus.field-0.0 _ _ (λ p h. at_balance (h.0, balance_from_bus h.0 h.1, h.2) none) c.in_err-by_bus.ensures.cause)
-
-pub returns-in_err-balance-clause-cause : goal.returns-in_err-balance-clause-cause
-returns-in_err-balance-clause-cause g c =
-    let value = g.N.Exact.value in
-    let x = dispatch_of value c.args.blocks.now in
-    let puts = ap (map value) c.deref.ensures.value ∙ c.in_ok-by_bus.ensures.injections in
-    let given : c.from_residual-in_err-balance.result ≡ Err (why.Passed c.in_err-balance.field-0.0) = search rules in
-    λ energy none. rw given (at_balance (_, balance_of_all, c.in_err-balance.ensures.cause x puts) none)
-
-pub returns-in_err-carried-clause-cause : goal.returns-in_err-carried-clause-cause
-returns-in_err-carried-clause-cause g c =
+pub returns-in-Some-clause-first : goal.returns-in-Some-clause-first
+returns-in-Some-clause-first g c = λ energy.
     let m = c.args.market.now in
     let value = g.N.Exact.value in
-    let x = dispatch_of value c.args.blocks.now in
-    let ds = map (dual_at value) c.args.limits.now in
-    let puts = ap (map value) c.deref.ensures.value ∙ c.in_ok-by_bus.ensures.injections in
-    let puts_then = ap (map value) c.deref-2.ensures.value ∙ c.in_ok-by_bus.ensures.injections in
-    let given : c.from_residual-in_err-carried.result ≡ Err c.in_err-carried.field-0.0 = search rules in
-    λ energy none.
-    let before = before_flows m x ds (value c.in_ok-balance.field-0) (value c.datum.result) (c.in_ok-balance.ensures.sum x puts) c.datum.ensures (sym c.differ.ensures ∙ c.if-differ.false) none in
-    rw given
-    (on_passed_weaker c.in_err-carried.field-0.0 _ _ (λ p h. at_limits (carried_pair m x g.N.Exact.bound (passed_at value p) h) before) (c.in_err-carried.ensures.cause puts_then))
+    let xs = map value c.args.blocks.now in
+    let rs = map value c.args.quantities.now in
+    let x = dispatch_with xs rs in
+    let d = all_duals energy (map (dual_at value) c.args.limits.now) (value c.args.price) (map (room_dual_at value) c.args.rooms.now) in
+    let puts = ap (map value) c.deref.ensures.value ∙ c.in_ok-by_bus.ensures.injections rs in
+    first_at [] (need_reason m x ∷ limit_reasons m x ++ slack_reasons m x d) (balance_reason m x) c.in-Some.reason refl (sym (c.in_ok-reason.ensures.first x puts) ∙ c.in-Some.is)
+
+pub returns-in-Some-short_need-clause-first : goal.returns-in-Some-short_need-clause-first
+returns-in-Some-short_need-clause-first g c = λ energy.
+    let m = c.args.market.now in
+    let value = g.N.Exact.value in
+    let xs = map value c.args.blocks.now in
+    let rs = map value c.args.quantities.now in
+    let x = dispatch_with xs rs in
+    let d = all_duals energy (map (dual_at value) c.args.limits.now) (value c.args.price) (map (room_dual_at value) c.args.rooms.now) in
+    let puts = ap (map value) c.deref.ensures.value ∙ c.in_ok-by_bus.ensures.injections rs in
+    let balanced = sym (c.in_ok-reason.ensures.first x puts) ∙ c.in_default.is in
+    let sum = c.in_ok-accepted.ensures.sum m xs c.requires.quantities in
+    first_at (balance_reason m x ∷ []) (limit_reasons m x ++ slack_reasons m x d) (need_reason m x) c.in-Some-short_need.reason (none_first (balance_reason m x ∷ []) (balanced, tt))
+    (sym (c.short_need.ensures x sum) ∙ c.in-Some-short_need.is)
+
+pub returns-in-Some-2-clause-first : goal.returns-in-Some-2-clause-first
+returns-in-Some-2-clause-first g c = λ energy.
+    let m = c.args.market.now in
+    let value = g.N.Exact.value in
+    let xs = map value c.args.blocks.now in
+    let rs = map value c.args.quantities.now in
+    let x = dispatch_with xs rs in
+    let d = all_duals energy (map (dual_at value) c.args.limits.now) (value c.args.price) (map (room_dual_at value) c.args.rooms.now) in
+    let puts = ap (map value) c.deref.ensures.value ∙ c.in_ok-by_bus.ensures.injections rs in
+    let balanced = sym (c.in_ok-reason.ensures.first x puts) ∙ c.in_default.is in
+    let sum = c.in_ok-accepted.ensures.sum m xs c.requires.quantities in
+    let met = sym (c.short_need.ensures x sum) ∙ c.in_default-short_need.is in
+    let puts_then = ap (map value) c.deref-2.ensures.value ∙ c.in_ok-by_bus.ensures.injections rs in
+    let flows = ap (map value) c.deref-3.ensures.value ∙ c.in_ok-carried.ensures.carried rs puts_then in
+    first_at (sum_reasons m x) (room_reason m x ∷ slack_reasons m x d) (limit_reason m x) c.in-Some-2.reason (none_first (sum_reasons m x) (balanced, (met, tt)))
+    (sym (c.in_ok-reason-2.ensures.first x flows) ∙ c.in-Some-2.is)
+
+pub returns-in-Some-3-clause-first : goal.returns-in-Some-3-clause-first
+returns-in-Some-3-clause-first g c = λ energy.
+    let m = c.args.market.now in
+    let value = g.N.Exact.value in
+    let xs = map value c.args.blocks.now in
+    let rs = map value c.args.quantities.now in
+    let x = dispatch_with xs rs in
+    let d = all_duals energy (map (dual_at value) c.args.limits.now) (value c.args.price) (map (room_dual_at value) c.args.rooms.now) in
+    let puts = ap (map value) c.deref.ensures.value ∙ c.in_ok-by_bus.ensures.injections rs in
+    let balanced = sym (c.in_ok-reason.ensures.first x puts) ∙ c.in_default.is in
+    let sum = c.in_ok-accepted.ensures.sum m xs c.requires.quantities in
+    let met = sym (c.short_need.ensures x sum) ∙ c.in_default-short_need.is in
+    let puts_then = ap (map value) c.deref-2.ensures.value ∙ c.in_ok-by_bus.ensures.injections rs in
+    let flows = ap (map value) c.deref-3.ensures.value ∙ c.in_ok-carried.ensures.carried rs puts_then in
+    let within = sym (c.in_ok-reason-2.ensures.first x flows) ∙ c.in_default-2.is in
+    first_at (sum_reasons m x ++ limit_reason m x ∷ []) (slack_reasons m x d) (room_reason m x) c.in-Some-3.reason (none_first (sum_reasons m x ++ limit_reason m x ∷ []) (balanced, (met, (within, tt))))
+    (sym c.in_ok-reason-3.ensures.first ∙ c.in-Some-3.is)
+
+pub returns-in-Some-4-clause-first : goal.returns-in-Some-4-clause-first
+returns-in-Some-4-clause-first g c = λ energy.
+    let m = c.args.market.now in
+    let value = g.N.Exact.value in
+    let xs = map value c.args.blocks.now in
+    let rs = map value c.args.quantities.now in
+    let x = dispatch_with xs rs in
+    let d = all_duals energy (map (dual_at value) c.args.limits.now) (value c.args.price) (map (room_dual_at value) c.args.rooms.now) in
+    let puts = ap (map value) c.deref.ensures.value ∙ c.in_ok-by_bus.ensures.injections rs in
+    let balanced = sym (c.in_ok-reason.ensures.first x puts) ∙ c.in_default.is in
+    let sum = c.in_ok-accepted.ensures.sum m xs c.requires.quantities in
+    let met = sym (c.short_need.ensures x sum) ∙ c.in_default-short_need.is in
+    let puts_then = ap (map value) c.deref-2.ensures.value ∙ c.in_ok-by_bus.ensures.injections rs in
+    let flows = ap (map value) c.deref-3.ensures.value ∙ c.in_ok-carried.ensures.carried rs puts_then in
+    let within = sym (c.in_ok-reason-2.ensures.first x flows) ∙ c.in_default-2.is in
+    let filled = sym c.in_ok-reason-3.ensures.first ∙ c.in_default-3.is in
+    let flows_then = ap (map value) c.deref-4.ensures.value ∙ c.in_ok-carried.ensures.carried rs puts_then in
+    let before = none_first (sum_reasons m x ++ limit_reasons m x) (balanced, (met, (within, (filled, tt)))) in
+    let prices = slack_reason m x d.limits ∷ unpriced_reason m x d.limits ∷ [] in
+    let rest = need_slack_reason m x d.reserve ∷ room_slack_reason m x d.rooms ∷ [] in
+    sym (first_after (sum_reasons m x ++ limit_reasons m x) (slack_reasons m x d) before ∙ first_join prices rest
+    ∙ ap (λ o. option_or o (first_of rest)) (sym (c.in_ok-reason-4.ensures.first x flows_then) ∙ c.in-Some-4.is))
+
+pub returns-clause-first : goal.returns-clause-first
+returns-clause-first g c = λ energy.
+    let m = c.args.market.now in
+    let value = g.N.Exact.value in
+    let xs = map value c.args.blocks.now in
+    let rs = map value c.args.quantities.now in
+    let x = dispatch_with xs rs in
+    let d = all_duals energy (map (dual_at value) c.args.limits.now) (value c.args.price) (map (room_dual_at value) c.args.rooms.now) in
+    let puts = ap (map value) c.deref.ensures.value ∙ c.in_ok-by_bus.ensures.injections rs in
+    let balanced = sym (c.in_ok-reason.ensures.first x puts) ∙ c.in_default.is in
+    let sum = c.in_ok-accepted.ensures.sum m xs c.requires.quantities in
+    let met = sym (c.short_need.ensures x sum) ∙ c.in_default-short_need.is in
+    let puts_then = ap (map value) c.deref-2.ensures.value ∙ c.in_ok-by_bus.ensures.injections rs in
+    let flows = ap (map value) c.deref-3.ensures.value ∙ c.in_ok-carried.ensures.carried rs puts_then in
+    let within = sym (c.in_ok-reason-2.ensures.first x flows) ∙ c.in_default-2.is in
+    let filled = sym c.in_ok-reason-3.ensures.first ∙ c.in_default-3.is in
+    let flows_then = ap (map value) c.deref-4.ensures.value ∙ c.in_ok-carried.ensures.carried rs puts_then in
+    let priced = sym (c.in_ok-reason-4.ensures.first x flows_then) ∙ c.in_default-4.is in
+    let before = none_first (sum_reasons m x ++ limit_reasons m x) (balanced, (met, (within, (filled, tt)))) in
+    let prices = slack_reason m x d.limits ∷ unpriced_reason m x d.limits ∷ [] in
+    let rest = need_slack_reason m x d.reserve ∷ room_slack_reason m x d.rooms ∷ [] in
+    c.in_ok-wrong_slack.ensures.first sum ∙ sym (first_after (sum_reasons m x ++ limit_reasons m x) (slack_reasons m x d) before ∙ first_after prices rest priced)
+
+pub returns-in_err-by_bus-clause-cause : goal.returns-in_err-by_bus-clause-cause
+returns-in_err-by_bus-clause-cause g c = λ energy none.
+    let m = c.args.market.now in
+    let value = g.N.Exact.value in
+    let xs = map value c.args.blocks.now in
+    let rs = map value c.args.quantities.now in
+    let x = dispatch_with xs rs in
+    let given : c.from_residual.result ≡ Err c.in_err-by_bus.field-0.0 = search rules in
+    rw given (on_passed_weaker c.in_err-by_bus.field-0.0 _ _ (λ p h. at_balance h none) (c.in_err-by_bus.ensures.cause rs))
 
 pub returns-in_err-reason-clause-cause : goal.returns-in_err-reason-clause-cause
-returns-in_err-reason-clause-cause g c =
+returns-in_err-reason-clause-cause g c = λ energy none.
     let m = c.args.market.now in
     let value = g.N.Exact.value in
-    let x = dispatch_of value c.args.blocks.now in
-    let ds = map (dual_at value) c.args.limits.now in
-    let puts = ap (map value) c.deref.ensures.value ∙ c.in_ok-by_bus.ensures.injections in
-    let puts_then = ap (map value) c.deref-2.ensures.value ∙ c.in_ok-by_bus.ensures.injections in
-    let flows = ap (map value) c.deref-3.ensures.value ∙ c.in_ok-carried.ensures.carried puts_then in
+    let xs = map value c.args.blocks.now in
+    let rs = map value c.args.quantities.now in
+    let x = dispatch_with xs rs in
+    let puts = ap (map value) c.deref.ensures.value ∙ c.in_ok-by_bus.ensures.injections rs in
     let given : c.from_residual-in_err-reason.result ≡ Err (why.Passed c.in_err-reason.field-0.0) = search rules in
-    λ energy none.
-    let before = before_flows m x ds (value c.in_ok-balance.field-0) (value c.datum.result) (c.in_ok-balance.ensures.sum x puts) c.datum.ensures (sym c.differ.ensures ∙ c.if-differ.false) none in
-    rw given (at_limits (c.in_err-reason.ensures.cause x flows) before)
+    rw given (at_balance (c.in_err-reason.ensures.cause x puts) none)
+
+pub returns-in_err-accepted-clause-cause : goal.returns-in_err-accepted-clause-cause
+returns-in_err-accepted-clause-cause g c = λ energy none.
+    let m = c.args.market.now in
+    let value = g.N.Exact.value in
+    let xs = map value c.args.blocks.now in
+    let rs = map value c.args.quantities.now in
+    let x = dispatch_with xs rs in
+    let d = all_duals energy (map (dual_at value) c.args.limits.now) (value c.args.price) (map (room_dual_at value) c.args.rooms.now) in
+    let puts = ap (map value) c.deref.ensures.value ∙ c.in_ok-by_bus.ensures.injections rs in
+    let balanced = sym (c.in_ok-reason.ensures.first x puts) ∙ c.in_default.is in
+    let given : c.from_residual-in_err-accepted.result ≡ Err (why.Passed c.in_err-accepted.field-0.0) = search rules in
+    rw given (at_need (c.in_err-accepted.ensures.cause m xs c.requires.quantities) (before_need m x d none balanced))
+
+pub returns-in_err-carried-clause-cause : goal.returns-in_err-carried-clause-cause
+returns-in_err-carried-clause-cause g c = λ energy none.
+    let m = c.args.market.now in
+    let value = g.N.Exact.value in
+    let xs = map value c.args.blocks.now in
+    let rs = map value c.args.quantities.now in
+    let x = dispatch_with xs rs in
+    let d = all_duals energy (map (dual_at value) c.args.limits.now) (value c.args.price) (map (room_dual_at value) c.args.rooms.now) in
+    let puts = ap (map value) c.deref.ensures.value ∙ c.in_ok-by_bus.ensures.injections rs in
+    let balanced = sym (c.in_ok-reason.ensures.first x puts) ∙ c.in_default.is in
+    let sum = c.in_ok-accepted.ensures.sum m xs c.requires.quantities in
+    let met = sym (c.short_need.ensures x sum) ∙ c.in_default-short_need.is in
+    let puts_then = ap (map value) c.deref-2.ensures.value ∙ c.in_ok-by_bus.ensures.injections rs in
+    let given : c.from_residual-in_err-carried.result ≡ Err c.in_err-carried.field-0.0 = search rules in
+    rw given (on_passed_weaker c.in_err-carried.field-0.0 _ _ (λ p h. at_limits h (before_limits m x d none balanced met)) (c.in_err-carried.ensures.cause rs puts_then))
 
 pub returns-in_err-reason-2-clause-cause : goal.returns-in_err-reason-2-clause-cause
-returns-in_err-reason-2-clause-cause g c =
+returns-in_err-reason-2-clause-cause g c = λ energy none.
     let m = c.args.market.now in
     let value = g.N.Exact.value in
-    let x = dispatch_of value c.args.blocks.now in
-    let ds = map (dual_at value) c.args.limits.now in
-    let puts = ap (map value) c.deref.ensures.value ∙ c.in_ok-by_bus.ensures.injections in
-    let puts_then = ap (map value) c.deref-2.ensures.value ∙ c.in_ok-by_bus.ensures.injections in
-    let flows = ap (map value) c.deref-4.ensures.value ∙ c.in_ok-carried.ensures.carried puts_then in
+    let xs = map value c.args.blocks.now in
+    let rs = map value c.args.quantities.now in
+    let x = dispatch_with xs rs in
+    let d = all_duals energy (map (dual_at value) c.args.limits.now) (value c.args.price) (map (room_dual_at value) c.args.rooms.now) in
+    let puts = ap (map value) c.deref.ensures.value ∙ c.in_ok-by_bus.ensures.injections rs in
+    let balanced = sym (c.in_ok-reason.ensures.first x puts) ∙ c.in_default.is in
+    let sum = c.in_ok-accepted.ensures.sum m xs c.requires.quantities in
+    let met = sym (c.short_need.ensures x sum) ∙ c.in_default-short_need.is in
+    let puts_then = ap (map value) c.deref-2.ensures.value ∙ c.in_ok-by_bus.ensures.injections rs in
+    let flows = ap (map value) c.deref-3.ensures.value ∙ c.in_ok-carried.ensures.carried rs puts_then in
     let given : c.from_residual-in_err-reason-2.result ≡ Err (why.Passed c.in_err-reason-2.field-0.0) = search rules in
-    λ energy none.
-    let before = before_flows m x ds (value c.in_ok-balance.field-0) (value c.datum.result) (c.in_ok-balance.ensures.sum x puts) c.datum.ensures (sym c.differ.ensures ∙ c.if-differ.false) none in
-    rw given (at_limits (c.in_err-reason-2.ensures.cause x flows) before)
+    rw given (at_limits (c.in_err-reason-2.ensures.cause x flows) (before_limits m x d none balanced met))
 
-pub returns-clause-cause : goal.returns-clause-cause
-returns-clause-cause g c =
+pub returns-in_err-reason-3-clause-cause : goal.returns-in_err-reason-3-clause-cause
+returns-in_err-reason-3-clause-cause g c = λ energy none.
     let m = c.args.market.now in
     let value = g.N.Exact.value in
-    let x = dispatch_of value c.args.blocks.now in
-    let ds = map (dual_at value) c.args.limits.now in
-    let puts = ap (map value) c.deref.ensures.value ∙ c.in_ok-by_bus.ensures.injections in
-    let puts_then = ap (map value) c.deref-2.ensures.value ∙ c.in_ok-by_bus.ensures.injections in
-    let flows = ap (map value) c.deref-5.ensures.value ∙ c.in_ok-carried.ensures.carried puts_then in
-    λ energy none.
-    let before = before_flows m x ds (value c.in_ok-balance.field-0) (value c.datum.result) (c.in_ok-balance.ensures.sum x puts) c.datum.ensures (sym c.differ.ensures ∙ c.if-differ.false) none in
-    IfErr-weaker c.unpriced_row.result _ _ (λ stop h. on_passed_weaker stop _ _ (λ p pair. at_limits pair before) h) (c.unpriced_row.ensures.cause x flows)
+    let xs = map value c.args.blocks.now in
+    let rs = map value c.args.quantities.now in
+    let x = dispatch_with xs rs in
+    let d = all_duals energy (map (dual_at value) c.args.limits.now) (value c.args.price) (map (room_dual_at value) c.args.rooms.now) in
+    let puts = ap (map value) c.deref.ensures.value ∙ c.in_ok-by_bus.ensures.injections rs in
+    let balanced = sym (c.in_ok-reason.ensures.first x puts) ∙ c.in_default.is in
+    let sum = c.in_ok-accepted.ensures.sum m xs c.requires.quantities in
+    let met = sym (c.short_need.ensures x sum) ∙ c.in_default-short_need.is in
+    let puts_then = ap (map value) c.deref-2.ensures.value ∙ c.in_ok-by_bus.ensures.injections rs in
+    let flows = ap (map value) c.deref-3.ensures.value ∙ c.in_ok-carried.ensures.carried rs puts_then in
+    let within = sym (c.in_ok-reason-2.ensures.first x flows) ∙ c.in_default-2.is in
+    let given : c.from_residual-in_err-reason-3.result ≡ Err (why.Passed c.in_err-reason-3.field-0.0) = search rules in
+    rw given (at_rooms c.in_err-reason-3.ensures.cause (before_rooms m x d none balanced met within))
+
+pub returns-in_err-reason-4-clause-cause : goal.returns-in_err-reason-4-clause-cause
+returns-in_err-reason-4-clause-cause g c = λ energy none.
+    let m = c.args.market.now in
+    let value = g.N.Exact.value in
+    let xs = map value c.args.blocks.now in
+    let rs = map value c.args.quantities.now in
+    let x = dispatch_with xs rs in
+    let d = all_duals energy (map (dual_at value) c.args.limits.now) (value c.args.price) (map (room_dual_at value) c.args.rooms.now) in
+    let puts = ap (map value) c.deref.ensures.value ∙ c.in_ok-by_bus.ensures.injections rs in
+    let balanced = sym (c.in_ok-reason.ensures.first x puts) ∙ c.in_default.is in
+    let sum = c.in_ok-accepted.ensures.sum m xs c.requires.quantities in
+    let met = sym (c.short_need.ensures x sum) ∙ c.in_default-short_need.is in
+    let puts_then = ap (map value) c.deref-2.ensures.value ∙ c.in_ok-by_bus.ensures.injections rs in
+    let flows = ap (map value) c.deref-3.ensures.value ∙ c.in_ok-carried.ensures.carried rs puts_then in
+    let within = sym (c.in_ok-reason-2.ensures.first x flows) ∙ c.in_default-2.is in
+    let flows_then = ap (map value) c.deref-4.ensures.value ∙ c.in_ok-carried.ensures.carried rs puts_then in
+    let given : c.from_residual-in_err-reason-4.result ≡ Err c.in_err-reason-4.field-0.0 = search rules in
+    rw given (on_passed_weaker c.in_err-reason-4.field-0.0 _ _ (λ p h. at_limits h (before_limits m x d none balanced met)) (c.in_err-reason-4.ensures.cause x flows_then))
+
+pub returns-in_err-wrong_slack-clause-cause : goal.returns-in_err-wrong_slack-clause-cause
+returns-in_err-wrong_slack-clause-cause g c = λ energy none.
+    let m = c.args.market.now in
+    let value = g.N.Exact.value in
+    let xs = map value c.args.blocks.now in
+    let rs = map value c.args.quantities.now in
+    let x = dispatch_with xs rs in
+    let d = all_duals energy (map (dual_at value) c.args.limits.now) (value c.args.price) (map (room_dual_at value) c.args.rooms.now) in
+    let puts = ap (map value) c.deref.ensures.value ∙ c.in_ok-by_bus.ensures.injections rs in
+    let balanced = sym (c.in_ok-reason.ensures.first x puts) ∙ c.in_default.is in
+    let sum = c.in_ok-accepted.ensures.sum m xs c.requires.quantities in
+    let met = sym (c.short_need.ensures x sum) ∙ c.in_default-short_need.is in
+    let puts_then = ap (map value) c.deref-2.ensures.value ∙ c.in_ok-by_bus.ensures.injections rs in
+    let flows = ap (map value) c.deref-3.ensures.value ∙ c.in_ok-carried.ensures.carried rs puts_then in
+    let within = sym (c.in_ok-reason-2.ensures.first x flows) ∙ c.in_default-2.is in
+    let given : c.from_residual-in_err-wrong_slack.result ≡ Err (why.Passed c.in_err-wrong_slack.field-0.0) = search rules in
+    rw given (at_rooms c.in_err-wrong_slack.ensures.cause (before_rooms m x d none balanced met within))
