@@ -26,7 +26,8 @@ use Rattle.limit_screen.proofs.ScreenLemmas.{law_of_row_flows, limit_most, liste
 use Rattle.market_dict.specs.Takings.{IsTaking, limits_of, taken_of}
 use Rattle.market_dict.specs.declared.taking.Taking.{Taking}
 use Rattle.market_dict.specs.declared.taking.Taking.TheVariants.{Limit, Room}
-use Rattle.clear_loop.specs.Rounds.{AllKept, IsNew, IsPassed, IsScreened, KeepsAll}
+use Rattle.clear_loop.specs.Growing.{IsNew, IsPassed}
+use Rattle.clear_loop.specs.Rounds.{AllKept, IsScreened, KeepsAll}
 use Rattle.clear_loop.specs.declared.screen.Screened.TheVariants as screened
 
 -- ---- a limit that is passed

@@ -21,8 +21,9 @@ use Rattle.market_dict.specs.declared.posing.PricesAndBounds.{PricesAndBounds}
 use Rattle.market_dict.specs.declared.taking.Taking.{Taking}
 use Rattle.market_dict.specs.declared.taking.Taking.TheVariants.{Limit, Room}
 use Rattle.market_dict.proofs.TakingLists.{limits-limit, limits-room, rooms-limit, rooms-room}
+use Rattle.clear_loop.specs.Growing.{Grown, GrowsByOne, IsNew, IsPassed}
 use Rattle.clear_loop.specs.Keeping.{AreListed}
-use Rattle.clear_loop.specs.Rounds.{GrowsByOne, IsInHand, IsNew, IsPassed}
+use Rattle.clear_loop.specs.Rounds.{IsInHand}
 use Rattle.clear_loop.specs.declared.hand.Taken.{Taken}
 use Rattle.clear_loop.proofs.CountLemmas.{no_longer}
 
@@ -35,6 +36,10 @@ grown_behind m ts (Room u) inside new passed = subst (Growth m (limits_of ts)) (
 pub grown_more : (m : Parts) (t : List Row) (ts new : List Taking) → Growth m t (limits_of ts) → GrowsByOne m ts new → Growth m t (limits_of new)
 grown_more m t ts new grown (k, is, inside, absent, passed) =
     growth_again m t (limits_of ts) (limits_of new) grown (subst (λ (us : List Taking). Growth m (limits_of ts) (limits_of us)) (sym is) (grown_behind m ts k inside absent passed))
+
+-- what has grown, from the same and to the same
+pub grown_between : (m : Parts) {before first last after : List Taking} → first ≡ before → after ≡ last → Grown m first last → Grown m before after
+grown_between m {before} {first} {last} {after} begins ends grown = subst (λ ts. Grown m ts after) begins (subst (Grown m first) (sym ends) grown)
 
 -- how many limits and rooms of the market are not in hand
 abbrev pub left_over : Parts → List Taking → ℕ

@@ -24,7 +24,7 @@ use Rattle.market_dict.specs.Takings.{AreTakings, IsTaking, limits_of}
 use Rattle.market_dict.specs.declared.taking.Taking.{Taking}
 use Rattle.market_dict.proofs.HoldingLaws.{holds_choice}
 use Rattle.market_dict.proofs.TakingLists.{no_takings}
-use Rattle.clear_loop.specs.Clearing.{ClearComesTo, KeepsStart}
+use Rattle.clear_loop.specs.Clearing.{ClearComesTo, KeepsStart, Takes}
 use Rattle.clear_loop.specs.Faults.{fault_of}
 use Rattle.clear_loop.specs.Keeping.{AreListed, Kept, FitsFrame, IsStartOf, cold, untaken}
 use Rattle.clear_loop.specs.Rounds.{HoldsStart, IsEnd, IsEnded, IsInHand, StopsInRange}
@@ -93,6 +93,11 @@ module _ (m : Parts) (k : Kept) (w : Option Dictionary) (t : Option Taken) (view
 pub stopped_keeps : {N : Type 0} (s : Stop N) (after : Kept) → after ≡ cold → KeepsStart (Err (fault_of s)) after
 stopped_keeps (stop.Passed p) after none = none
 stopped_keeps stop.Memory after none = none
+
+-- and nothing is taken
+pub stopped_takes : {N : Type 0} (m : Parts) (before : List Taking) (s : Stop N) (after : Kept) → after ≡ cold → Takes m before (Err (fault_of s)) after.taken.takings
+stopped_takes m before (stop.Passed p) after none = ap (λ (k : Kept). k.taken.takings) none
+stopped_takes m before stop.Memory after none = ap (λ (k : Kept). k.taken.takings) none
 
 module _ {N : Type 0} (worth : N → Fraction) (bound : ℕ) (m : Parts) (before after : List Row) (are : AreRows m before) where
   pub stopped_clear : (s : Stop N) → after ≡ [] → StopsInRange worth bound m before s → ClearComesTo worth bound m before (Err (fault_of s)) after

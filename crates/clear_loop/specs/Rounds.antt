@@ -1,7 +1,6 @@
 -- What is in hand between two rounds of a clear, and what a round comes to.
-use Rattle.std.specs.Prelude.{◌≡◌, ◌⊎◌, ℕ, Option, Some, List, [], ◌∷◌, ◌++◌, Result, Ok, Err, map, Contains}
+use Rattle.std.specs.Prelude.{◌≡◌, ◌⊎◌, ℕ, Option, Some, List, Result, Ok, Err, map, Contains}
 use Rattle.fraction_theory.specs.Fraction.{Fraction}
-use Rattle.fraction_theory.specs.Order.{◌<ℚ◌}
 use Rattle.exact_fraction.specs.declared.Passed.{Passed}
 use Rattle.linear_dict.specs.Dictionaries.{Dictionary}
 use Rattle.market_model.specs.declared.answered.Answer.{Answer}
@@ -14,11 +13,10 @@ use Rattle.market_model.specs.Infeasibility.{IsFarkas}
 use Rattle.market_model.specs.declared.limits.Row.{Row}
 use Rattle.market_model.specs.LimitRows.{flow, rows}
 use Rattle.market_model.specs.Overrun.{IsWorst, Keeps}
-use Rattle.market_model.specs.Reserves.{room, room_used}
 use Rattle.market_model.specs.RightAnswers.{IsRight}
 use Rattle.market_model.specs.SumTables.{IsRefusedAmong, RoomSum}
 use Rattle.market_model.specs.Valued.{answer_at, duals_at, farkas_at}
-use Rattle.market_system.specs.Growth.{BestFor, Broken, PricesOnly}
+use Rattle.market_system.specs.Growth.{PricesOnly}
 use Rattle.market_system.specs.WorkingPairs.{IsRangeOf}
 use Rattle.limit_screen.specs.Flows.{carried_at, flows_at, IsFlowsRefusal}
 use Rattle.limit_screen.specs.Rooms.{AllKeepRooms, IsWorstRoom}
@@ -27,10 +25,11 @@ use Rattle.market_model.specs.Stops.{StopsBy}
 use Rattle.market_dict.specs.Findings.{IsSolvedBy}
 use Rattle.market_dict.specs.Holding.{HoldsMarket}
 use Rattle.market_dict.specs.PricesAndBounds.{ArePricesAndBounds}
-use Rattle.market_dict.specs.Takings.{IsTaking, limits_of, rooms_of, taken_of}
+use Rattle.market_dict.specs.Takings.{limits_of}
 use Rattle.market_dict.specs.declared.taking.Taking.{Taking}
 use Rattle.market_dict.specs.declared.taking.Taking.TheVariants as taking
 use Rattle.market_model.specs.declared.stops.Stop.{Stop}
+use Rattle.clear_loop.specs.Growing.{GrowsByOne}
 use Rattle.clear_loop.specs.Keeping.{AreListed}
 use Rattle.clear_loop.specs.declared.hand.Hand.{Hand}
 use Rattle.clear_loop.specs.declared.rounds.Ended.{Ended}
@@ -48,20 +47,6 @@ pub record IsInHand {N : Type 0} (value : N → Fraction) (m : Parts) (h : Hand 
   pub start : HoldsStart m h.taken.takings h.warm
   pub posing : ArePricesAndBounds value m h.taken.takings h.posing
   pub listed : AreListed m h.taken
-
--- a limit or a room that is not among these
-abbrev pub IsNew : List Taking → Taking → Type 0
-IsNew ts (taking.Limit r) = ¬ (Contains (limits_of ts) r)
-IsNew ts (taking.Room u) = ¬ (Contains (rooms_of ts) u)
-
--- a dispatch passes it
-abbrev pub IsPassed : Parts → Dispatch → Taking → Type 0
-IsPassed m x (taking.Limit r) = Broken m x r
-IsPassed m x (taking.Room u) = room m u <ℚ room_used m x u
-
--- what is taken with one limit or room more of the market behind, which is not among it, and which a best dispatch for it passes
-abbrev pub GrowsByOne : Parts → List Taking → List Taking → Type 0
-GrowsByOne m ts new = (t : Taking) × (new ≡ ts ++ t ∷ []) × IsTaking m t × IsNew ts t × ((x : Dispatch) × BestFor m (taken_of ts) x × IsPassed m x t)
 
 -- where some rows are taken, all rows of the market keep at a dispatch what they may be
 abbrev pub AllKept : Parts → List Row → Dispatch → Type 0

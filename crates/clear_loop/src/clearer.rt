@@ -4,7 +4,7 @@ ghost use Rattle.std.specs.Prelude.{◌≡◌, ◌<◌, List, length, map, slice
 ghost use Rattle.market_model.specs.Fitting.{FitsMarket};
 ghost use Rattle.market_model.specs.LimitRows.{row_id};
 ghost use Rattle.market_dict.specs.Takings.{limits_of};
-ghost use Rattle.clear_loop.specs.Clearing.{ClearComesTo, KeepsStart};
+ghost use Rattle.clear_loop.specs.Clearing.{ClearComesTo, KeepsStart, Takes};
 ghost use Rattle.clear_loop.specs.Keeping.{FitsFrame, Kept, cold};
 ghost use Rattle.clear_loop.specs.Rounds.{HoldsStart, IsInHand, StopsInRange};
 
@@ -130,15 +130,16 @@ impl<N: Exact> Clearer<N> {
     }
 
     /// Clears a market: a best dispatch over all its limits and rooms with prices that support it, duals that show that no dispatch is
-    /// feasible, or two numbers that together are too large. Each round takes a limit or a room that is new, so it ends. After an answer
-    /// and after `Infeasible` the dictionary with what is taken is kept; after `Range` and `Memory` nothing is, so that the next clear
-    /// starts without limits. A clearer that keeps nothing fits every market; what is kept has to be of the market's frame, and edits
-    /// keep it so (`laws::start_is_of_the_frame`).
+    /// feasible, or two numbers that together are too large. Each round takes a limit or a room that is new, so it ends; and only one that
+    /// a best dispatch for those in hand passes. After an answer and after `Infeasible` the dictionary with what is taken is kept; after
+    /// `Range` and `Memory` nothing is, so that the next clear starts without limits and rooms. A clearer that keeps nothing fits every
+    /// market; what is kept has to be of the market's frame, and edits keep it so (`laws::start_is_of_the_frame`).
     pub fn clear(&mut self, alloc: Global, market: &Market) -> Result<Answer<N>, ClearFault<N>>
         requires frame { FitsFrame market.now self.old }
         ensures fits { IfOk result (FitsMarket market.now) }
         ensures clear { ClearComesTo N.value N.bound market.now self.old.taken.rows result self.new.taken.rows }
         ensures frame { FitsFrame market.now self.new }
+        ensures takings { Takes market.now self.old.taken.takings result self.new.taken.takings }
         ensures kept { KeepsStart result self.new }
     {
         let _lines = market.lines();

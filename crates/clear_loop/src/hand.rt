@@ -9,8 +9,9 @@ ghost use Rattle.market_dict.specs.PricesAndBounds.{ArePricesAndBounds};
 ghost use Rattle.market_dict.specs.Takings.{IsTaking, limits_of, taken_of};
 ghost use Rattle.market_dict.specs.declared.taking.Taking.{Taking};
 ghost use Rattle.market_dict.specs.declared.taking.Taking.TheVariants as taking;
+ghost use Rattle.clear_loop.specs.Growing.{IsNew, IsPassed};
 ghost use Rattle.clear_loop.specs.Keeping.{AreListed};
-ghost use Rattle.clear_loop.specs.Rounds.{IsInHand, IsNew, IsPassed, StopsInRange};
+ghost use Rattle.clear_loop.specs.Rounds.{IsInHand, StopsInRange};
 ghost use Rattle.clear_loop.specs.Starts.{taken_in};
 
 use dual_restart::Warm;

@@ -12,6 +12,7 @@ ghost use Rattle.market_dict.specs.PricesAndBounds.{ArePricesAndBounds};
 ghost use Rattle.market_dict.specs.Takings.{limits_of};
 ghost use Rattle.market_dict.specs.declared.solving.Found.TheVariants as found;
 ghost use Rattle.market_dict.specs.declared.taking.Taking.{Taking};
+ghost use Rattle.clear_loop.specs.Growing.{Grown};
 ghost use Rattle.clear_loop.specs.Keeping.{AreListed};
 ghost use Rattle.clear_loop.specs.Rounds.{KeepsAll, HoldsStart, IsEnded, IsInHand, IsRound, StopsInRange};
 
@@ -180,6 +181,7 @@ pub(crate) fn all_rounds<N: Exact>(
     requires { IsInHand N.value market.now first }
     ensures ended { IfOk result (IsEnded N.value market.now) }
     ensures taken { IfOk result (λ ended. Growth market.now (limits_of first.taken.takings) (limits_of ended.taken.takings)) }
+    ensures grown { IfOk result (λ ended. Grown market.now first.taken.takings ended.taken.takings) }
     ensures cause { IfErr result (StopsInRange N.value N.bound market.now (limits_of first.taken.takings)) }
 {
     let mut hand = first;

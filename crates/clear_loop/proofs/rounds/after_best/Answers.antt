@@ -6,7 +6,8 @@ use Rattle.market_model.specs.Stops.{StopsBy}
 use Rattle.market_system.specs.Growth.{BestFor}
 use Rattle.market_system.specs.MarketSystem.{choice_duals}
 use Rattle.market_dict.specs.Takings.{IsTaking, limits_of, taken_of}
-use Rattle.clear_loop.specs.Rounds.{IsLookRefusal, IsNew, IsPassed, IsScreened}
+use Rattle.clear_loop.specs.Growing.{IsNew, IsPassed}
+use Rattle.clear_loop.specs.Rounds.{IsLookRefusal, IsScreened}
 use Rattle.clear_loop.specs.declared.screen.Screened.TheVariants as screened
 use Rattle.clear_loop.proofs.BrokenLemmas.{worst_new, worst_passed, worst_taking}
 use Rattle.clear_loop.proofs.SolvedLemmas.{best_for}

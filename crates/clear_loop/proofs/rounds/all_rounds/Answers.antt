@@ -2,6 +2,7 @@ use Rattle.std.proofs.Common.{Err, ◌≡◌, ◌∙◌, ap, subst}
 use Rattle.std.proofs.lemmas.Result.{err_from_is_err_and}
 use Rattle.market_system.proofs.GrowthLaws.{growth_none}
 use Rattle.market_dict.specs.Takings.{limits_of}
+use Rattle.clear_loop.specs.Growing.{none_more, one_more}
 use Rattle.clear_loop.specs.Rounds.{IsRound}
 use Rattle.clear_loop.specs.declared.rounds.Round.{Round}
 use Rattle.clear_loop.specs.declared.rounds.Round.TheVariants as round
@@ -10,7 +11,7 @@ use Rattle.clear_loop.proofs.StopLemmas.{earlier_stop}
 use Rattle.clear_loop.proofs.rounds.all_rounds.Goals as goal
 
 pub loop-next-init : goal.loop-next-init
-loop-next-init g c = (c.requires, growth_none c.args.market.now (limits_of c.args.first.taken.takings))
+loop-next-init g c = (c.requires, growth_none c.args.market.now (limits_of c.args.first.taken.takings), none_more)
 
 pub returns-in_err-next-clause-cause : goal.returns-in_err-next-clause-cause
 returns-in_err-next-clause-cause g c =
@@ -28,5 +29,8 @@ loop-next-smaller g c =
 pub loop-next-preserved : goal.loop-next-preserved
 loop-next-preserved g c =
     let more : IsRound g.N.Exact.value c.args.market.now c.loop-next.hand.taken.takings (round.Broken c.in-Broken.next) =
-    subst (λ (r : Round g.row.N.Denot). IsRound g.N.Exact.value c.args.market.now c.loop-next.hand.taken.takings r) c.in-Broken.is c.in_ok-next.ensures.round in
-    (more.0, grown_more c.args.market.now (limits_of c.args.first.taken.takings) c.loop-next.hand.taken.takings c.in-Broken.next.taken.takings c.loop-next.invariant.1 more.1)
+    subst (λ (r : Round g.row.N.Denot). IsRound g.N.Exact.value c.args.market.now c.loop-next.hand.taken.takings r) c.in-Broken.is c.in_ok-next.ensures.round in (
+      more.0,
+      grown_more c.args.market.now (limits_of c.args.first.taken.takings) c.loop-next.hand.taken.takings c.in-Broken.next.taken.takings c.loop-next.invariant.1 more.1,
+      one_more c.loop-next.hand.taken.takings c.in-Broken.next.taken.takings c.loop-next.invariant.2 more.1,
+    )
