@@ -55,6 +55,62 @@ const TOO_MUCH_CERTIFICATE: &str =
 const RAISED_AND_LET_DOWN: &str =
     "step 1 clear\ncleared\nwelfare -640\nenergy 10\nreserve price 2 need 20\nbus 1 price 10 congestion 0\nbus 2 price 10 congestion 0\nbus 3 price 10 congestion 0\nblock 1 sell 1 mw 60\nblock 2 sell 1 mw 0\nunit 1 mw 60 paid 600\nunit 2 mw 0 paid 0\nreserve 1 mw 20 paid 40\nreserve 2 mw 0 paid 0\nload 1 mw 0 pays 0\nload 2 mw 0 pays 0\nload 3 mw 60 pays 600\nsurplus 0\nstep 2 edit accepted\nstep 3 edit refused Negative\nstep 4 clear\ncleared\nwelfare -780\nenergy 13\nreserve price 5 need 60\nbus 1 price 13 congestion 0\nbus 2 price 13 congestion 0\nbus 3 price 13 congestion 0\nblock 1 sell 1 mw 60\nblock 2 sell 1 mw 0\nroom 1 dual 3\nunit 1 mw 60 paid 780\nunit 2 mw 0 paid 0\nreserve 1 mw 40 paid 200\nreserve 2 mw 20 paid 100\nload 1 mw 0 pays 0\nload 2 mw 0 pays 0\nload 3 mw 60 pays 780\nsurplus 0\nstep 5 edit accepted\nstep 6 clear\ncleared\nwelfare -640\nenergy 10\nreserve price 2 need 20\nbus 1 price 10 congestion 0\nbus 2 price 10 congestion 0\nbus 3 price 10 congestion 0\nblock 1 sell 1 mw 60\nblock 2 sell 1 mw 0\nunit 1 mw 60 paid 600\nunit 2 mw 0 paid 0\nreserve 1 mw 20 paid 40\nreserve 2 mw 0 paid 0\nload 1 mw 0 pays 0\nload 2 mw 0 pays 0\nload 3 mw 60 pays 600\nsurplus 0\n";
 
+/// Units 1 and 2 would keep 150 MW each, which leaves no room for the load.
+const NO_ROOM: &[u8] = b"kind,unit,mw,price\noffer,1,150,2\noffer,2,150,5\nneed,,150,\n";
+
+/// Who offers is paid for by nobody where no reserve is needed: the price would fall below 0.
+const BELOW_NOTHING: &str =
+    "cleared\nwelfare -540\nenergy 10\nreserve price 0 need 0\nbus 1 price 10 congestion 0\nbus 2 price 10 congestion 0\nbus 3 price 10 congestion 0\nblock 1 sell 1 mw 60\nblock 2 sell 1 mw 0\nunit 1 mw 60 paid 600\nunit 2 mw 0 paid 0\nreserve 1 mw 30 paid 0\nload 1 mw 0 pays 0\nload 2 mw 0 pays 0\nload 3 mw 60 pays 600\nsurplus 0\n";
+
+/// Unit 2 buys 20 MW, which leaves it a room of 120 MW for reserve.
+const BUYING: &str =
+    "cleared\nwelfare -640\nenergy 10\nreserve price 8 need 125\nbus 1 price 10 congestion 0\nbus 2 price 10 congestion 0\nbus 3 price 10 congestion 0\nblock 1 sell 1 mw 80\nblock 2 sell 1 mw 0\nblock 2 buy 1 mw 20\nroom 2 dual 3\nunit 1 mw 80 paid 800\nunit 2 mw -20 paid -200\nreserve 1 mw 5 paid 40\nreserve 2 mw 120 paid 960\nload 1 mw 0 pays 0\nload 2 mw 0 pays 0\nload 3 mw 60 pays 600\nsurplus 0\n";
+
+/// Unit 1 makes what branch 3 stands after its loss, and keeps the rest of its room; branch 2 gives way, as that costs less than unit 3.
+const WITH_OUTAGES: &str =
+    "cleared\nwelfare -938\nenergy 15.75\nreserve price 5 need 60\nbus 1 price 15.75 congestion 0\nbus 2 price 17.25 congestion 1.5\nbus 3 price 40 congestion 24.25\nblock 1 sell 1 mw 56\nblock 2 sell 1 mw 0\nblock 3 sell 1 mw 4\nlimit 2 base flow 42 over 2 up 25 down 0 rent 1050\nlimit 3 lost 1 flow 21 up 22 down 0 rent 462\nroom 1 dual 3\nunit 1 mw 56 paid 728 own 13\nunit 2 mw 0 paid 0\nunit 3 mw 4 paid 160\nreserve 1 mw 44 paid 220\nreserve 2 mw 16 paid 80\nload 1 mw 0 pays 0\nload 2 mw 0 pays 0\nload 3 mw 60 pays 2400\nsurplus 1512\n";
+
+/// The same with a PMIN of -20 of unit 2.
+const BUYING_CASE: &[u8] = b"function mpc = t3
+mpc.version = '2';
+mpc.baseMVA = 100;
+mpc.bus = [
+1 3 0 0 0 0 1 1 0 230 1 1.1 0.9;
+2 1 0 0 0 0 1 1 0 230 1 1.1 0.9;
+3 1 60 0 0 0 1 1 0 230 1 1.1 0.9;
+];
+mpc.gen = [
+1 0 0 0 0 1 100 1 100 0;
+2 0 0 0 0 1 100 1 100 -20;
+];
+mpc.branch = [
+1 2 0 0.2 0 0 0 0 0 0 1 -360 360;
+1 3 0 0.1 0 0 0 0 0 0 1 -360 360;
+2 3 0 0.1 0 0 0 0 0 0 1 -360 360;
+];
+";
+
+/// The same with a unit at bus 3 too, and two ratings.
+const LIMITED_CASE: &[u8] = b"function mpc = t3
+mpc.version = '2';
+mpc.baseMVA = 100;
+mpc.bus = [
+1 3 0 0 0 0 1 1 0 230 1 1.1 0.9;
+2 1 0 0 0 0 1 1 0 230 1 1.1 0.9;
+3 1 60 0 0 0 1 1 0 230 1 1.1 0.9;
+];
+mpc.gen = [
+1 0 0 0 0 1 100 1 100 0;
+2 0 0 0 0 1 100 1 100 0;
+3 0 0 0 0 1 100 1 100 0;
+];
+mpc.branch = [
+1 2 0 0.2 0 0 0 0 0 0 1 -360 360;
+1 3 0 0.1 0 40 0 0 0 0 1 -360 360;
+2 3 0 0.1 0 0 0 21 0 0 1 -360 360;
+];
+";
+
 /// The case with a table of reserves.
 fn tables(reserves: &[u8]) -> MarketTables<&[u8]> {
     let grid = GridTables {
@@ -73,6 +129,34 @@ fn tables(reserves: &[u8]) -> MarketTables<&[u8]> {
     }
 }
 
+/// The case without ratings, where unit 2 may buy.
+fn buying() -> MarketTables<&'static [u8]> {
+    let grid = GridTables {
+        case: BUYING_CASE,
+        ..tables(NEED_60).grid
+    };
+    MarketTables {
+        grid,
+        offers: b"unit,side,mw,price\n1,sell,100,10\n2,sell,100,30\n2,buy,20,40\n".as_slice(),
+        ..tables(b"kind,unit,mw,price\noffer,1,50,8\noffer,2,130,5\nneed,,125,\n")
+    }
+}
+
+/// The case with ratings, of which that of branch 2 gives way at 25, where unit 1 may be lost.
+fn limited() -> MarketTables<&'static [u8]> {
+    let grid = GridTables {
+        case: LIMITED_CASE,
+        ..tables(NEED_60).grid
+    };
+    MarketTables {
+        grid,
+        unit_outages: b"unit,taker,share\n1,2,0.5\n1,3,0.5\n".as_slice(),
+        offers: b"unit,side,mw,price\n1,sell,100,10\n2,sell,100,30\n3,sell,100,40\n".as_slice(),
+        penalties: b"branch,limit,price,excess\n2,base,25,10\n".as_slice(),
+        ..tables(NEED_60)
+    }
+}
+
 /// Whether a command ended with a status and a text.
 fn tells(told: &Told, status: Status, text: &str) -> bool {
     told.status == status && told.text.as_slice() == text.as_bytes()
@@ -81,7 +165,7 @@ fn tells(told: &Told, status: Status, text: &str) -> bool {
 /// Compares what a verification tells.
 fn verifies<R: Abort + AllocGlobal>(
     rt: &R,
-    reserves: &[u8],
+    tables: &MarketTables<&[u8]>,
     certificate: &[u8],
     status: Status,
     text: &str,
@@ -89,7 +173,7 @@ fn verifies<R: Abort + AllocGlobal>(
     let edits = b"op,target,side,block,value\n".as_slice();
     let verdict = verify_told(
         rt.alloc(),
-        &tables(reserves),
+        tables,
         PostRating::C,
         FactorPlaces::Six,
         edits,
@@ -115,7 +199,13 @@ fn clears_with_reserve(rt: HostRuntime) -> Result<(), Fail> {
         assert!(rt; told.outputs.certificate.is_some());
         if let Some(written) = &told.outputs.certificate {
             assert!(rt; written.as_slice() == certificate.as_bytes());
-            verifies(&rt, reserves, written.as_slice(), Status::Done, "yes\n")?;
+            verifies(
+                &rt,
+                &tables(reserves),
+                written.as_slice(),
+                Status::Done,
+                "yes\n",
+            )?;
         }
     }
     Ok(())
@@ -200,7 +290,61 @@ fn refutes_by_reserve(rt: HostRuntime) -> Result<(), Fail> {
         let certificate = format!(in rt.alloc();
             "{{\"blocks\":[\"60000000000/1\",\"0/1\"],\"energy\":\"13000000/1\",\"kind\":\"optimal\",\"limits\":[],\"places\":6,\"reserve\":{{\"price\":\"{price}\",\"quantities\":[{quantities}],\"units\":[{units}]}},\"version\":3}}"
         )?;
-        verifies(&rt, NEED_60, certificate.as_bytes(), Status::Refuted, line)?;
+        verifies(
+            &rt,
+            &tables(NEED_60),
+            certificate.as_bytes(),
+            Status::Refuted,
+            line,
+        )?;
+    }
+    Ok(())
+}
+
+/// What is cleared or infeasible at the edges of reserve, and beside limits that give way and a unit that may be lost, by numbers worked
+/// outside; each certificate holds.
+#[test]
+fn clears_at_the_edges(rt: HostRuntime) -> Result<(), Fail> {
+    let unpaid = b"kind,unit,mw,price\noffer,1,30,-2\nneed,,0,\n".as_slice();
+    let unoffered = b"kind,unit,mw,price\nneed,,10,\n".as_slice();
+    for (tables, status, text) in [
+        (tables(unpaid), Status::Done, BELOW_NOTHING),
+        (tables(unoffered), Status::Infeasible, TOO_MUCH),
+        (
+            tables(NO_ROOM),
+            Status::Infeasible,
+            "infeasible\nbound -10\nenergy 1\nreserve dual 1\nroom 1 dual 1\nroom 2 dual 1\n",
+        ),
+        (buying(), Status::Done, BUYING),
+        (limited(), Status::Done, WITH_OUTAGES),
+    ] {
+        let told = clear_told(rt.alloc(), &tables, PostRating::C, FactorPlaces::Six)?;
+        assert!(rt; tells(&told, status, text));
+        if let Some(written) = &told.outputs.certificate {
+            verifies(&rt, &tables, written.as_slice(), Status::Done, "yes\n")?;
+        }
+    }
+    Ok(())
+}
+
+/// A room that is taken at one need, and stands at its lower bound at another, where unit 2 buys all that it may and keeps nothing ready.
+#[test]
+fn keeps_a_room(rt: HostRuntime) -> Result<(), Fail> {
+    let edits = b"op,target,side,block,value\nclear,,,,\nneed,,,,0\nclear,,,,\n";
+    let tables = buying();
+    let replayed = replay_told(rt.alloc(), &tables, PostRating::C, FactorPlaces::Six, edits)?;
+    assert!(rt; replayed.status == Status::Done);
+    assert!(rt; replayed.outputs.certificate.is_some());
+    if let Some(written) = &replayed.outputs.certificate {
+        let verdict = verify_told(
+            rt.alloc(),
+            &tables,
+            PostRating::C,
+            FactorPlaces::Six,
+            edits,
+            written.as_slice(),
+        )?;
+        assert!(rt; tells(&verdict, Status::Done, "yes\n"));
     }
     Ok(())
 }
