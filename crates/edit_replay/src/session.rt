@@ -9,7 +9,7 @@ ghost use Rattle.market_model.specs.Valued.{outcome_at};
 ghost use Rattle.market_system.specs.Outcomes.{IsClear};
 ghost use Rattle.offer_book.specs.Edits.{answer, judge, number_of, step_of};
 ghost use Rattle.edit_table.specs.EditTable.{IsStep};
-ghost use Rattle.clear_loop.specs.Clearing.{KeepsAfter};
+ghost use Rattle.clear_loop.specs.Clearing.{KeepsAfter, TakesAfter};
 ghost use Rattle.clear_loop.specs.Keeping.{FitsFrame, cold};
 ghost use Rattle.edit_replay.specs.Replays.{FitsStep, IsEditedPart, IsReplay, IsReply, edited_by, stepped, step_outcome_at};
 
@@ -75,12 +75,13 @@ impl<N: Exact> Session<N> {
         edit(&mut self.market, asked)
     }
 
-    /// Clears the market as it is now, from the limits that the clear before took. After an answer, and where nothing is feasible, the
-    /// limits taken are kept; where numbers became too large, or memory was refused, nothing is, and the next clear starts without limits.
+    /// Clears the market as it is now, from the limits and rooms that the clear before took. After an answer, and where nothing is feasible,
+    /// those taken are kept; where numbers became too large, or memory was refused, nothing is, and the next clear starts without any.
     pub fn clear(&mut self, alloc: Global) -> Result<Outcome<N>, Memory>
         ensures market { self.new.market ≡ self.old.market }
         ensures clear { IfOk result (λ outcome. IsClear N.bound self.old.market self.old.kept.taken.rows (outcome_at N.value outcome) self.new.kept.taken.rows) }
         ensures fits { IfOk result (FitsOutcome self.old.market) }
+        ensures takings { IfOk result (λ outcome. TakesAfter self.old.market self.old.kept.taken.takings outcome self.new.kept.taken.takings) }
         ensures kept { IfOk result (λ outcome. KeepsAfter outcome self.new.kept) }
         ensures memory { IfErr result (λ _. self.new.kept ≡ cold) }
     {
