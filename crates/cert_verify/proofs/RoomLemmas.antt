@@ -1,6 +1,5 @@
 -- The rooms that duals name: what the reason against their names means, and their prices.
-use Rattle.std.specs.Prelude.{◌≡◌, ◌≢◌, ◌⊎◌, ◌==◌, ◌&&◌, ◌||◌, ◌<◌, ◌+◌, ℕ, Bool, true, false, not, List, [], ◌∷◌, length, map, All, AllPairs, Contains, Option, Some, None, if◌then◌else◌, refl}
-use Rattle.std.specs.List.{list_any}
+use Rattle.std.specs.Prelude.{◌≡◌, ◌≢◌, ◌⊎◌, ◌==◌, ◌&&◌, ◌||◌, ◌<◌, ℕ, Bool, true, false, not, List, [], ◌∷◌, length, All, AllPairs, Contains, Some, None, if◌then◌else◌, refl}
 use Rattle.std.proofs.Common.{suc, arith, inl, inr, ap, sym, subst, ◌∙◌, get_or}
 use Rattle.std.proofs.lemmas.Bool.{or_parts, eq-eqb, eqb-true, true≢false}
 use Rattle.std.proofs.lemmas.List.{get_or-map}
@@ -22,7 +21,6 @@ use Rattle.market_model.proofs.ChangeLemmas.{same_default}
 use Rattle.market_model.proofs.LostLemmas.{place_at}
 use Rattle.limit_rows.proofs.ApartLemmas.{unit_of_row}
 use Rattle.limit_rows.proofs.GroupLemmas.{length-map}
-use Rattle.cert_verify.specs.declared.verdicts.Reason.{Reason}
 use Rattle.cert_verify.specs.declared.verdicts.Reason.TheVariants as reason
 use Rattle.cert_verify.specs.Certificates.{NamesRooms}
 use Rattle.cert_verify.specs.Reasons.{differ, has_offer, has_room_slack, is_below, is_slack, room_sign_reason, room_slack_reason, unit_reason}

@@ -2,14 +2,14 @@
 use Rattle.std.specs.Prelude.{◌≡◌, ◌≢◌, ◌&&◌, ◌||◌, pos, ℕ, Bool, true, false, not, List, [], ◌∷◌, ◌++◌, length, Contains, Option, Some, None, MatchOption, is_some, refl}
 use Rattle.std.specs.List.{list_any}
 use Rattle.std.proofs.Common.{inl, inr, ap, ap₂, sym, subst, ◌∙◌}
-use Rattle.std.proofs.lemmas.Bool.{and_parts, eqb-true, true≢false}
+use Rattle.std.proofs.lemmas.Bool.{true≢false}
 use Rattle.fraction_theory.specs.Fraction.{Fraction, neg_ℚ}
 use Rattle.fraction_theory.proofs.OrderLaws.{≤ℚ_of_same, ≤ℚ_refl, opposite_most}
 use Rattle.exact_fraction.specs.declared.Passed.{Passed}
 use Rattle.market_model.specs.declared.answered.Dual.{Dual}
 use Rattle.market_model.specs.declared.answered.Duals.{Duals}
 use Rattle.market_model.specs.declared.participants.Parts.{Parts}
-use Rattle.market_model.specs.Dispatch.{Dispatch, balance, zero}
+use Rattle.market_model.specs.Dispatch.{Dispatch, zero}
 use Rattle.market_model.specs.declared.limits.Row.{Row}
 use Rattle.market_model.specs.LimitRows.{carried, rows, row_id, limit, penalty, is_soft, most_flow, flow}
 use Rattle.market_model.specs.Market.{IsMarket}
@@ -21,10 +21,9 @@ use Rattle.limit_rows.proofs.ApartLemmas.{same_row}
 use Rattle.limit_rows.proofs.PlaceLemmas.{same_name}
 use Rattle.limit_rows.specs.Naming.{has_name}
 use Rattle.cert_sums.specs.Refusals.{IsCarriedRefusal}
-use Rattle.cert_verify.specs.declared.verdicts.Reason.TheVariants as reason
-use Rattle.cert_verify.specs.Reasons.{NoneOf, balance_reason, differ, has_no_row, has_slack, is_below, is_unpriced, need_reason, passes, breaks_row, breaks_side, part_reasons, sum_reasons}
+use Rattle.cert_verify.specs.Reasons.{NoneOf, balance_reason, differ, has_no_row, has_slack, is_below, is_unpriced, limit_reason, need_reason, passes, breaks_row, breaks_side, part_reasons, sum_reasons}
 use Rattle.cert_verify.specs.Stops.{IsLimitPair, of_flow, of_pickup}
-use Rattle.cert_verify.proofs.TestLemmas.{all_none, any_of, any_none, below_not, below_of, int_lt-true, neither, not_below, none_first, none_join, not_both, not_false, not_so, not_true, so_none}
+use Rattle.cert_verify.proofs.TestLemmas.{all_none, any_of, any_none, below_not, below_of, int_lt-true, neither, not_below, none_first, none_join, not_both, not_true}
 use Rattle.cert_verify.proofs.VerdictLemmas.{counts_to, named}
 
 -- ---- a row by its name

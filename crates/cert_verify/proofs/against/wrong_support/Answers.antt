@@ -1,4 +1,4 @@
-use Rattle.std.proofs.Common.{inr, ◌≡◌, ◌∙◌, [], ◌∷◌, List, ap, map, length, refl, sym, subst}
+use Rattle.std.proofs.Common.{inr, ◌∙◌, [], ◌∷◌, List, ap, map, length, refl, sym, subst}
 use Rattle.std.specs.Option.{option_or}
 use Rattle.std.proofs.lemmas.Result.{err_from_is_err_and}
 use Rattle.market_model.specs.Dispatch.{dispatch_with}

@@ -1,4 +1,4 @@
-use Rattle.std.proofs.Common.{◌<◌, ◌≤ℤ◌, ◌+◌, ◌∙◌, ℕ, List, ap, map, sym, subst, length, pos, arith}
+use Rattle.std.proofs.Common.{◌<◌, ◌+◌, ◌∙◌, ℕ, List, ap, map, sym, length, pos, arith}
 use Rattle.std.specs.Prelude.{slice_index_or}
 use Rattle.fraction_theory.specs.Fraction.{whole}
 use Rattle.market_model.specs.declared.participants.Reserve.{Reserve}

@@ -1,4 +1,4 @@
-use Rattle.std.proofs.Common.{◌≡◌, ◌<◌, ◌∙◌, ℕ, List, ap, sym, length, pos, arith}
+use Rattle.std.proofs.Common.{◌<◌, ◌∙◌, List, ap, sym, length, pos, arith}
 use Rattle.std.specs.Prelude.{◌==◌, slice_index_or}
 use Rattle.std.proofs.lemmas.Bool.{eq-eqb, eqb-true}
 use Rattle.market_data.specs.declared.participants.Unit.{Unit}

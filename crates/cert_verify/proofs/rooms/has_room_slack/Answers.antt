@@ -1,4 +1,4 @@
-use Rattle.std.proofs.Common.{◌≡◌, ◌<◌, ◌∙◌, ℕ, List, ap, ap₂, map, sym, length, pos, arith}
+use Rattle.std.proofs.Common.{◌<◌, ◌∙◌, ℕ, List, ap, ap₂, map, sym, length, pos, arith}
 use Rattle.std.specs.Prelude.{◌==◌, ◌&&◌, slice_index_or}
 use Rattle.std.proofs.lemmas.Bool.{and_from, eq-eqb, eqb-true, false_from_ne_true}
 use Rattle.fraction_theory.specs.Fraction.{Fraction, whole}

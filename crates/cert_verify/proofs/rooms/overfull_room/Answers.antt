@@ -1,4 +1,4 @@
-use Rattle.std.proofs.Common.{◌≡◌, ◌<◌, ◌∙◌, ℕ, List, Some, ap, ap₂, map, sym, length, pos, arith}
+use Rattle.std.proofs.Common.{◌<◌, ◌∙◌, List, Some, ap, ap₂, map, sym, length, pos, arith}
 use Rattle.std.specs.Prelude.{slice_index_or}
 use Rattle.fraction_theory.specs.Fraction.{whole}
 use Rattle.fraction_theory.proofs.ListSums.{Contains-filter}
