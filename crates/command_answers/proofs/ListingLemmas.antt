@@ -14,7 +14,7 @@ use Rattle.refusal_text.specs.declared.refusals.Input.TheVariants as input
 use Rattle.refusal_text.specs.declared.refusals.Refusal.{Refusal}
 use Rattle.refusal_text.specs.declared.refusals.Refusal.TheVariants as refusal
 use Rattle.market_inputs.specs.Files.{most_file, sized}
-use Rattle.market_inputs.specs.Steps.{Onward, Then}
+use Rattle.market_inputs.specs.Steps.{Is, Onward, Then}
 use Rattle.market_inputs.specs.Tables.{ListsNoReserve, reserves_in}
 use Rattle.market_inputs.proofs.ReserveLemmas.{none-listed}
 use Rattle.command_answers.specs.Laws.{LawOfListedReserve}
@@ -22,7 +22,7 @@ use Rattle.command_answers.specs.Laws.{LawOfListedReserve}
 -- what comes of steps that make something comes of what the first makes, and of the steps behind it
 onward : {A B C : Type 0} (next : A → Result B Refusal → Type 0) (b : B) (made : Result A Refusal) → ((x : A) → made ≡ Ok x → next x (Ok b) → C) → Onward made next (Ok b) → C
 onward next b (Ok x) goes rest = goes x refl rest
-onward next b (Err r) goes no = absurd (cc no)
+onward next b (Err r) goes refused = absurd (cc refused)
 
 through : {A B C : Type 0} (first : Result A Refusal → Type 0) (next : A → Result B Refusal → Type 0) (b : B) → ((x : A) → first (Ok x) → next x (Ok b) → C) → Then first next (Ok b) → C
 through first next b goes h = onward next b h.made (λ x made rest. goes x (subst first made h.is) rest) h.rest
@@ -43,7 +43,7 @@ listed network text reserve is =
     none-listed (unit_list_of network) text reserve (of_text (unit_list_of network) text reserve (refusal.TooLong input.Reserves) (nat_lt most_file (length text)) is)
 
 -- ---- the market has it
-of_made : (text : List ℕ) (made m : Parts) → (made.reserve ≡ no_reserve) ↔ ListsNoReserve text → Ok {E = Refusal} made ≡ Ok m → (m.reserve ≡ no_reserve) ↔ ListsNoReserve text
+of_made : (text : List ℕ) (made m : Parts) → (made.reserve ≡ no_reserve) ↔ ListsNoReserve text → Is (Ok made) (Ok m) → (m.reserve ≡ no_reserve) ↔ ListsNoReserve text
 of_made text made m lists is = let same : made ≡ m = cc is in subst (λ (p : Parts). (p.reserve ≡ no_reserve) ↔ ListsNoReserve text) same lists
 
 pub law_of_listed_reserve : LawOfListedReserve
