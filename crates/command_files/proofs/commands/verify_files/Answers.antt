@@ -1,4 +1,4 @@
-use Rattle.std.proofs.Common.{◌≡◌, ◌∙◌, ℕ, Err, Ok, inr, rules, subst}
+use Rattle.std.proofs.Common.{◌≡◌, ◌∙◌, ℕ, Err, Ok, inl, inr, rules, subst}
 use Rattle.std.specs.Prelude.{MatchResult, option_map, vec_items}
 use Rattle.edit_table.specs.EditTable.{header as edit_header}
 use Rattle.market_tables.specs.Tables.{map_tables}
@@ -27,6 +27,22 @@ returns-clause-right g c =
     (λ told is. files-verify files names _ _ (map_tables vec_items vec_items c.in_ok-bytes.bytes) _ _ (telling_of told) c.in_ok-bytes.ensures.bytes edits certificate
     (subst (λ x. Tells (IsCertified names.rating names.places x c.as_slice.result.now c.as_slice-2.result.now) TellsVerdict (telling_of told)) c.as_slices.ensures is))
     c.verify_told.ensures.tells)
+
+pub returns-in_err-edits-clause-reads : goal.returns-in_err-edits-clause-reads
+returns-in_err-edits-clause-reads g c =
+    let first = c.read_market.ensures.reads in
+    let second = c.read_table.ensures.reads in
+    let was = c.in_err-edits.was in
+    let given : c.from_residual-in_err-edits.result ≡ Err c.in_err-edits.field-0.0 = search rules in
+    let still : Still (g.S.Store.failed_reads c.args.store.now) (g.S.Store.failed_reads c.read_market.new.store) = first.reads (λ bad. let was = c.in_ok-bytes.was in cc (was, bad)) in
+    record {
+      same = same_then _ _ _ first.same second.same;
+      failed_read = λ bad.
+          let (file, is, rose) = second.failed_read (let e_is : c.in_err-edits.field-0.0 ≡ status.ReadFailed = cc (given, bad) in cc (was, e_is)) in
+          (file, inr (inl is), subst (λ (n : ℕ). Rose n (g.S.Store.failed_reads c.read_table.new.store file)) (still file) rose);
+      reads = λ good n. second.reads (λ bad. good (let e_is : c.in_err-edits.field-0.0 ≡ status.ReadFailed = cc (was, bad) in cc (given, e_is))) n ∙ still n;
+      writes = λ n. second.writes n ∙ first.writes n;
+    }
 
 pub returns-in_err-certificate-clause-reads : goal.returns-in_err-certificate-clause-reads
 returns-in_err-certificate-clause-reads g c =
