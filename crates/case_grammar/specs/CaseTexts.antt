@@ -1,0 +1,44 @@
+-- The text of a case, and the matrices that it gives.
+use Rattle.std.specs.Prelude.{◌≡◌, ℕ, Bool, List, [], ◌∷◌, ◌++◌, map, IsTrue, if◌then◌else◌}
+use Rattle.std.specs.List.{before_first}
+use Rattle.case_tokens.specs.Bytes.{is_line_end}
+use Rattle.case_tokens.specs.Pieces.{is_block_rest}
+use Rattle.case_tokens.specs.TokenLists.{is_blank_line}
+use Rattle.case_text.specs.declared.Field.{Field}
+use Rattle.case_text.specs.Matrices.{CaseMatrices, matrix_of}
+use Rattle.case_grammar.specs.Values.{rows_of}
+use Rattle.case_grammar.specs.Statements.{First, first_text, IsFirst, Part, parts_text, AreParts, Statements, statements_text, AreStatements, AreBehindName, values_of}
+
+-- ---- A text is a list of statements, and is skipped what stands before the first.
+pub record CaseText : Type 0 where
+  -- whether a byte order mark stands at the start
+  pub mark : Bool
+  pub before : List Part
+  pub first : First
+  pub others : Statements
+
+-- the text without the byte order mark, which is dropped
+abbrev pub body_text : CaseText → List ℕ
+body_text case = parts_text case.before ++ (first_text case.first ++ statements_text case.others)
+
+abbrev pub case_text : CaseText → List ℕ
+case_text case = if case.mark then 239 ∷ 187 ∷ 191 ∷ body_text case else body_text case
+
+-- Block comments are refused: no line of the text has, blanks aside, `%{` or `%}` alone.
+abbrev pub HasNoBlocks : List ℕ → Type 0
+HasNoBlocks text = (before rest : List ℕ) → text ≡ before ++ rest → IsTrue (is_blank_line before) → IsTrue (is_block_rest (before_first is_line_end rest)) → ⊥
+
+pub record IsText (case : CaseText) : Type 0 where
+  pub before : AreParts case.before
+  pub first : IsFirst case.first
+  pub behind_name : AreBehindName case.others
+  pub others : AreStatements case.others
+  pub no_blocks : HasNoBlocks (body_text case)
+
+-- Each of the five fields is set once, in any order, bus, gen and branch to these matrices.
+abbrev pub Gives : CaseText → CaseMatrices → Type 0
+Gives case matrices = (f : Field) → map rows_of (values_of f case.others) ≡ matrix_of matrices f ∷ []
+
+-- the bytes are the text of a case with these matrices
+abbrev pub IsCaseText : List ℕ → CaseMatrices → Type 0
+IsCaseText bytes matrices = (case : CaseText) × (bytes ≡ case_text case) × IsText case × Gives case matrices

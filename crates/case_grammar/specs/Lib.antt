@@ -1,0 +1,4 @@
+pub mod Gaps
+pub mod Values
+pub mod Statements
+pub mod CaseTexts
