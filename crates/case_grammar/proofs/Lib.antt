@@ -2,3 +2,5 @@ pub mod Texts
 pub mod Places
 pub mod Words
 pub mod Pieces
+pub mod Lexemes
+pub mod Closing
