@@ -173,7 +173,7 @@ followed-more content depth value (after_comma front behind next more) rest h p 
 pub parted-opens : (at start : ℕ) → at < start → nests.is_parted (before.Element at) start ≡ true
 parted-opens at start h = lt-ltb at start h
 
-row-parted : (end : RowEnd) (rest : List ℕ) → is_parted (row_end_before end rest) ≡ true
+pub row-parted : (end : RowEnd) (rest : List ℕ) → is_parted (row_end_before end rest) ≡ true
 row-parted semicolon rest = refl
 row-parted (line_end bare) rest = refl
 row-parted (line_end (commented c)) rest = refl

@@ -4,3 +4,5 @@ pub mod Words
 pub mod Pieces
 pub mod Lexemes
 pub mod Closing
+pub mod Cells
+pub mod Settings
