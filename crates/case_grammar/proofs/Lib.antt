@@ -6,3 +6,5 @@ pub mod Lexemes
 pub mod Closing
 pub mod Cells
 pub mod Settings
+pub mod Names
+pub mod Parts
