@@ -8,3 +8,4 @@ pub mod Cells
 pub mod Settings
 pub mod Names
 pub mod Parts
+pub mod Completeness

@@ -76,7 +76,7 @@ further-inner : (names : List (List ℕ)) → AllByRecursion IsName names → Ar
 further-inner [] h = tt
 further-inner (name ∷ names) h = (inr (inl (Prim.omega arith, Prim.omega arith)), inner-append name (further_text names) (name-inner name h.0) (further-inner names h.1))
 
-letter : (b : ℕ) → (97 ≤ b) × (b ≤ 122) → IsInner b
+pub letter : (b : ℕ) → (97 ≤ b) × (b ≤ 122) → IsInner b
 letter b h = inr (inr (inr (inr h)))
 
 pub target-inner : (target : Target) → IsTarget target → AreInner (target_text target)
