@@ -9,3 +9,5 @@ pub mod Settings
 pub mod Names
 pub mod Parts
 pub mod Completeness
+pub mod Fine
+pub mod Seen

@@ -73,10 +73,13 @@ no-block text rest never r = by_tests (is_blank_line (before_of text rest)) (is_
   by_tests true false h k = refl
   by_tests false y h k = refl
 
+pub at-comment_by : (text : List ℕ) (depth : ℕ) (c rest : List ℕ) → (is_blank_line (before_of text (37 ∷ (c ++ rest))) && is_block_rest (before_first is_line_end (37 ∷ (c ++ rest)))) ≡ false →
+    IsRest text (37 ∷ (c ++ rest)) → IsOnLine c → IsAtLineEnd rest → tokens_at text depth (37 ∷ (c ++ rest)) ≡ tokens_at text depth rest
+at-comment_by text depth c rest never r on k = at-gap text depth 37 c rest r (piece-comment (is_inside (opened depth)) _ c rest on k never)
+
 pub at-comment : (text : List ℕ) (depth : ℕ) (c rest : List ℕ) → HasNoBlocks text → IsRest text (37 ∷ (c ++ rest)) → IsOnLine c → IsAtLineEnd rest →
     tokens_at text depth (37 ∷ (c ++ rest)) ≡ tokens_at text depth rest
-at-comment text depth c rest never r on k =
-    at-gap text depth 37 c rest r (piece-comment (is_inside (opened depth)) _ c rest on k (no-block text (37 ∷ (c ++ rest)) never r))
+at-comment text depth c rest never r on k = at-comment_by text depth c rest (no-block text (37 ∷ (c ++ rest)) never r) r on k
 
 -- ---- line ends and marks
 pub at-line_end : (text : List ℕ) (depth : ℕ) (rest : List ℕ) → IsRest text (10 ∷ rest) →
@@ -160,7 +163,7 @@ quoted : (inside : Bool) (n : ℕ) (found : Option ℕ) (xs : List ℕ) → foun
 unfolding quoted_at
 quoted inside n found xs e never = ap (λ (f : Option ℕ). quoted_at inside f xs) e ∙ cond-false (inside && not (is_parted (drop (n + 1) xs))) _ _ never
 
-piece-quote : (inside blank : Bool) (quote : ℕ) (rest : List ℕ) → (quote ≡ 39) ⊎ (quote ≡ 34) → piece_at inside blank (quote ∷ rest) ≡ quoted_at inside (string_length quote rest) (quote ∷ rest)
+pub piece-quote : (inside blank : Bool) (quote : ℕ) (rest : List ℕ) → (quote ≡ 39) ⊎ (quote ≡ 34) → piece_at inside blank (quote ∷ rest) ≡ quoted_at inside (string_length quote rest) (quote ∷ rest)
 unfolding piece_at
 piece-quote inside blank quote rest (inl e) = subst (λ q. piece_at inside blank (q ∷ rest) ≡ quoted_at inside (string_length q rest) (q ∷ rest)) (sym e) refl
 piece-quote inside blank quote rest (inr e) = subst (λ q. piece_at inside blank (q ∷ rest) ≡ quoted_at inside (string_length q rest) (q ∷ rest)) (sym e) refl
@@ -210,7 +213,7 @@ run-length inside [] [] h k = refl
 run-length inside [] (b ∷ rest) h k = Prim.rw k refl
 run-length inside (b ∷ bytes) rest h k = let behind = run-length inside bytes rest h.1 k in Prim.rw h.0 (Prim.omega arith)
 
-piece-run : (inside blank : Bool) (b : ℕ) (rest : List ℕ) → ends_run inside b ≡ false → is_continuation (b ∷ rest) ≡ false →
+pub piece-run : (inside blank : Bool) (b : ℕ) (rest : List ℕ) → ends_run inside b ≡ false → is_continuation (b ∷ rest) ≡ false →
     piece_at inside blank (b ∷ rest) ≡ run_at inside (position_or_len (ends_run inside) (b ∷ rest)) (b ∷ rest)
 unfolding piece_at
 piece-run inside blank b rest h k =
