@@ -11,3 +11,5 @@ pub mod Parts
 pub mod Completeness
 pub mod Fine
 pub mod Seen
+pub mod Blocks
+pub mod Found
