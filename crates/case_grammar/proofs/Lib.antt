@@ -13,3 +13,4 @@ pub mod Fine
 pub mod Seen
 pub mod Blocks
 pub mod Found
+pub mod Inside
