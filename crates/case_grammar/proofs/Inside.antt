@@ -370,7 +370,7 @@ only-in : (inner : Bracket) → only_of (content_in inner) ≡ false
 only-in bracket.Square = refl
 only-in bracket.Curly = refl
 
-abbrev opening_of : Bracket → ℕ
+abbrev pub opening_of : Bracket → ℕ
 opening_of bracket.Square = 91
 opening_of bracket.Curly = 123
 
@@ -486,7 +486,7 @@ pub data Turn (text : List ℕ) (content : Content) (outer : List Bracket) (st :
   turns_element : (gap : Gap) (start behind : List ℕ) → IsGap gap → rest ≡ gap_before gap start → ElementOf text content outer st start behind left →
       (NoneFrom text behind → NoneFrom text rest) → Turn text content outer st rest left
 
-shorter-gap : (rest start : List ℕ) (gap : Gap) → rest ≡ gap_before gap start → length start ≤ length rest
+pub shorter-gap : (rest start : List ℕ) (gap : Gap) → rest ≡ gap_before gap start → length start ≤ length rest
 shorter-gap rest start gap e = Prim.omega (arith, ap (λ (xs : List ℕ). length xs) (e ∙ gap-before gap start), length-append (gap_text gap) start)
 
 -- the rest from a comma on

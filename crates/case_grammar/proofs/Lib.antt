@@ -14,3 +14,4 @@ pub mod Seen
 pub mod Blocks
 pub mod Found
 pub mod Inside
+pub mod Tokens

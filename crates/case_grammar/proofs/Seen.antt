@@ -131,7 +131,7 @@ pub data Seen (text : List ℕ) (depth : ℕ) (rest : List ℕ) : Type 0 where
   sees_refused : (token : Token) (left : TokenList) → tokens_at text depth rest ≡ with_first token left → is_fine (word_of text token) ≡ false → Seen text depth rest
 
 -- a token of any kind
-at-any : (text : List ℕ) (depth : ℕ) (k : Kind) (n b : ℕ) (rest : List ℕ) → piece_at (is_inside (opened depth)) (is_blank_line (before_of text (b ∷ rest))) (b ∷ rest) ≡ piece.Token k n →
+pub at-any : (text : List ℕ) (depth : ℕ) (k : Kind) (n b : ℕ) (rest : List ℕ) → piece_at (is_inside (opened depth)) (is_blank_line (before_of text (b ∷ rest))) (b ∷ rest) ≡ piece.Token k n →
     (left : TokenList) × (tokens_at text depth (b ∷ rest) ≡ with_first (token_at text (b ∷ rest) k n) left)
 unfolding tokens_at tokens_from
 at-any text depth k n b rest e =
