@@ -352,7 +352,7 @@ case-step text settings next token tokens behind setting run e s =
     ∙ case-rest text next behind tokens (statement_lemmas.rest-statement text None token tokens (setting, behind) e)
 
 -- ---- what is told of the fields
-same-itself : (f : Field) → same_field f f ≡ true
+pub same-itself : (f : Field) → same_field f f ≡ true
 same-itself field.Version = refl
 same-itself field.BaseMva = refl
 same-itself field.Bus = refl
@@ -386,7 +386,7 @@ none-before [] y ys m e = refl
 none-before (x ∷ []) y ys m e = absurd (Prim.cc)
 none-before (x ∷ z ∷ xs) y ys m e = absurd (Prim.cc)
 
-add-told : (before : List (List Record)) (test : Bool) (value : Value) (values : List Value) →
+pub add-told : (before : List (List Record)) (test : Bool) (value : Value) (values : List Value) →
     (before ++ cond test (rows_of value ∷ []) []) ++ map rows_of values ≡ before ++ map rows_of (cond test (value ∷ values) values)
 add-told before true value values = append_assoc before (rows_of value ∷ []) (map rows_of values)
 add-told before false value values = ap (λ xs. xs ++ map rows_of values) (append-nil before)
@@ -517,10 +517,10 @@ unfolding without_mark
 with-mark bytes = refl
 
 -- the bytes of a text from its start on
-abbrev text_bytes : CaseText → List ℕ
+abbrev pub text_bytes : CaseText → List ℕ
 text_bytes case = parts_before case.before (first_before case.first (statements_bytes case.others))
 
-text-bytes : (case : CaseText) → text_bytes case ≡ body_text case
+pub text-bytes : (case : CaseText) → text_bytes case ≡ body_text case
 text-bytes case =
     parts-before case.before (first_before case.first (statements_bytes case.others))
     ∙ ap (λ xs. parts_text case.before ++ xs) (first-before case.first (statements_bytes case.others) ∙ ap (λ xs. first_text case.first ++ xs) (statements-bytes case.others))

@@ -15,3 +15,4 @@ pub mod Blocks
 pub mod Found
 pub mod Inside
 pub mod Tokens
+pub mod ValuesRead
