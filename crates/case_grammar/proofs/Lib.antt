@@ -16,3 +16,4 @@ pub mod Found
 pub mod Inside
 pub mod Tokens
 pub mod ValuesRead
+pub mod Soundness
