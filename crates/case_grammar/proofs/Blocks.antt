@@ -1,8 +1,8 @@
 -- No block comment stands from a place on, piece by piece.
-use Rattle.std.proofs.Common.{◌≡◌, ◌≢◌, ℕ, zero, suc, ◌+◌, ◌-◌, ◌<◌, ◌≤◌, ◌==◌, ◌&&◌, ◌||◌, ◌⊎◌, Bool, true, false, not, List, [], ◌∷◌, ◌++◌, length, take, refl, sym, ap, subst, ◌∙◌, arith, cond, inl, inr, append-nil, append_assoc, length-append}
+use Rattle.std.proofs.Common.{◌≡◌, ◌≢◌, ℕ, zero, suc, ◌<◌, ◌≤◌, ◌==◌, ◌&&◌, ◌||◌, Bool, true, false, List, [], ◌∷◌, ◌++◌, length, take, refl, sym, ap, subst, ◌∙◌, arith, inl, inr, append-nil, append_assoc, length-append}
 use Rattle.std.specs.Prelude.{IsTrue}
-use Rattle.std.specs.List.{AllByRecursion, position_or_len, before_first, list_all}
-use Rattle.std.proofs.lemmas.Bool.{cases_lt, cases_Bool, and_parts, ne_eqb, false≢true, cond-false}
+use Rattle.std.specs.List.{position_or_len, before_first, list_all}
+use Rattle.std.proofs.lemmas.Bool.{cases_lt, and_parts, ne_eqb, false≢true, cond-false}
 use Rattle.case_tokens.specs.Bytes.{is_line_end, is_blank, is_percent}
 use Rattle.case_tokens.specs.Pieces.{is_block_rest}
 use Rattle.case_tokens.specs.TokenLists.{is_blank_line}

@@ -1,21 +1,20 @@
 -- The rows of a matrix of numbers are read as its cells.
-use Rattle.std.proofs.Common.{◌≡◌, ℕ, zero, suc, ◌+◌, ◌<◌, Bool, true, false, List, [], ◌∷◌, ◌++◌, length, refl, sym, ap, subst, ◌∙◌, cond, append_assoc, append-nil}
+use Rattle.std.proofs.Common.{◌≡◌, ℕ, suc, true, List, [], ◌∷◌, ◌++◌, length, refl, sym, ap, ◌∙◌, cond, append_assoc, append-nil}
 use Rattle.scaled_decimal.specs.Decimal.{IsNumber}
 use Rattle.record_reading.specs.Records.{Record}
 use Rattle.case_tokens.specs.declared.Kind.TheVariants as kind
 use Rattle.case_tokens.specs.declared.Token.{Token}
 use Rattle.case_tokens.specs.Pieces.{is_parted}
-use Rattle.case_tokens.specs.TokenLists.{TokenList, with_first}
-use Rattle.case_text.specs.declared.words.Bracket.{Bracket}
+use Rattle.case_tokens.specs.TokenLists.{TokenList}
 use Rattle.case_text.specs.declared.words.Bracket.TheVariants as bracket
 use Rattle.case_text.specs.declared.words.Word.{Word}
 use Rattle.case_text.specs.declared.words.Word.TheVariants as word
 use Rattle.case_text.specs.Words.{word_of, text_of, mark_of, is_run}
 use Rattle.case_text.specs.Matrices.{rows_from, some_row, closes, ends_row}
-use Rattle.case_grammar.specs.Gaps.{Gap, IsGap, blank, continued, bare, commented}
+use Rattle.case_grammar.specs.Gaps.{Gap, IsGap}
 use Rattle.case_grammar.specs.Values.{Value, number, string, matrix, cells, Rows, last_row, row_then, Row, no_elements, elements, More, no_more, last_comma, after_blanks, after_comma, RowEnd, semicolon, line_end, IsRowEnd, numbers, IsElement, AreRows, IsRow, IsMore, more_cells, row_cells, cells_of, value_text}
 use Rattle.case_grammar.specs.CaseTexts.{HasNoBlocks}
-use Rattle.case_grammar.proofs.Texts.{gap_before, row_end_before, value_before, rows_before, row_before, more_before, IsRest, rest-append, rest-cons, rest-gap, rest-row_end, rest-value, rest-rows, rest-row, rest-more}
+use Rattle.case_grammar.proofs.Texts.{gap_before, row_end_before, value_before, rows_before, row_before, more_before, IsRest, rest-cons, rest-gap, rest-row_end, rest-value, rest-row}
 use Rattle.case_grammar.proofs.Places.{tokens_at, token_at, token-word, token-text}
 use Rattle.case_grammar.proofs.Words.{number-some}
 use Rattle.case_grammar.proofs.Pieces.{at-comma, at-semicolon, at-square_end}

@@ -1,15 +1,12 @@
 -- What stands inside brackets by the grammar is read up to the bracket that closes it.
-use Rattle.std.proofs.Common.{◌≡◌, ◌≢◌, ℕ, zero, suc, ◌+◌, ◌-◌, ◌<◌, ◌≤◌, ◌==◌, ◌&&◌, ◌⊎◌, Bool, true, false, not, List, [], ◌∷◌, ◌++◌, length, take, get_or, refl, sym, ap, ap₂, subst, ◌∙◌, arith, Option, Some, None, Result, Ok, Err, cond, length-append, get_or-append-add, add-zero, inl, inr}
-use Rattle.std.specs.Prelude.{nat_lt}
+use Rattle.std.proofs.Common.{◌≡◌, ℕ, suc, ◌+◌, ◌-◌, ◌<◌, ◌==◌, ◌&&◌, Bool, true, false, not, List, [], ◌∷◌, ◌++◌, length, take, get_or, refl, sym, ap, subst, ◌∙◌, arith, None, Ok, cond, length-append, get_or-append-add}
 use Rattle.std.proofs.lemmas.List.{take_at}
-use Rattle.std.proofs.lemmas.Bool.{ne_eqb, cond-true, cond-false, and_from, lt-ltb, false≢true}
+use Rattle.std.proofs.lemmas.Bool.{ne_eqb, cond-true, cond-false, and_from, lt-ltb}
 use Rattle.scaled_decimal.specs.Decimal.{IsNumber}
 use Rattle.case_tokens.specs.declared.Kind.TheVariants as kind
 use Rattle.case_tokens.specs.declared.Token.{Token}
 use Rattle.case_tokens.specs.Pieces.{is_parted}
 use Rattle.case_tokens.specs.TokenLists.{TokenList, is_inside, with_first}
-use Rattle.case_text.specs.declared.CaseFault.{CaseFault}
-use Rattle.case_text.specs.declared.CaseFault.TheVariants as fault
 use Rattle.case_text.specs.declared.nests.Before.{Before}
 use Rattle.case_text.specs.declared.nests.Before.TheVariants as before
 use Rattle.case_text.specs.declared.words.Bracket.{Bracket}
@@ -20,10 +17,10 @@ use Rattle.case_text.specs.Words.{word_of, word_by, mark_of, is_curly, same_brac
 use Rattle.case_text.specs.Nests as nests
 use Rattle.case_text.specs.Nests.{Nest, innermost, where_allowed, step_by, step, behind_brackets}
 use Rattle.record_reading.specs.Steps.{and_then}
-use Rattle.case_grammar.specs.Gaps.{Gap, gap_text, IsGap, BeginsBlank, IsSome, blank, continued, bare, commented}
+use Rattle.case_grammar.specs.Gaps.{Gap, IsGap, BeginsBlank, IsSome, blank, continued, bare, commented}
 use Rattle.case_grammar.specs.Values.{Value, number, string, matrix, cells, Rows, last_row, row_then, Row, no_elements, elements, More, no_more, last_comma, after_blanks, after_comma, RowEnd, semicolon, line_end, IsRowEnd, Content, numbers, plain, anything, HoldsStrings, HoldsBrackets, IsBehind, IsElement, AreRows, IsRow, IsMore, IsString, Character}
 use Rattle.case_grammar.specs.CaseTexts.{HasNoBlocks}
-use Rattle.case_grammar.proofs.Texts.{gap_before, row_end_before, value_before, rows_before, row_before, more_before, characters_before, IsRest, rest-append, rest-cons, rest-gap, rest-row_end, rest-value, rest-rows, rest-row, rest-more}
+use Rattle.case_grammar.proofs.Texts.{gap_before, row_end_before, value_before, rows_before, row_before, more_before, characters_before, IsRest, rest-cons, rest-gap, rest-row_end, rest-value, rest-rows, rest-row}
 use Rattle.case_grammar.proofs.Places.{opened, tokens_at, token_at, place_of, place-more, token-word}
 use Rattle.case_grammar.proofs.Pieces.{at-comma, at-semicolon, at-square, at-curly, at-square_end, at-curly_end, at-string, string_rest, string-bytes}
 use Rattle.case_grammar.proofs.Lexemes.{at-gap_before, place-gap, gap-some, at-line_end_before, rest-feed, parted-ends, parted-unquoted, parted-gap, blank-follows, at-number}

@@ -1,6 +1,6 @@
 -- Values, statements and whole texts by the grammar are read.
-use Rattle.std.proofs.Common.{◌≡◌, ◌≢◌, ℕ, zero, suc, ◌+◌, ◌-◌, ◌<◌, ◌≤◌, ◌==◌, ◌&&◌, ◌⊎◌, Bool, true, false, not, List, [], ◌∷◌, ◌++◌, length, take, drop, map, refl, sym, ap, subst, ◌∙◌, arith, Option, Some, None, Result, Ok, Err, cond, codes, inl, inr, append_assoc, append-nil}
-use Rattle.std.specs.Prelude.{is_some, IsTrue, nat_lt, nat_le}
+use Rattle.std.proofs.Common.{◌≡◌, ℕ, zero, suc, ◌-◌, ◌&&◌, ◌⊎◌, Bool, true, false, List, [], ◌∷◌, ◌++◌, length, drop, map, refl, sym, ap, subst, ◌∙◌, arith, Option, Some, None, Result, Ok, cond, codes, inl, inr, append_assoc, append-nil}
+use Rattle.std.specs.Prelude.{is_some, nat_le}
 use Rattle.std.specs.Char.{is_ascii_alphabetic}
 use Rattle.std.specs.Str.{bytes_eq}
 use Rattle.std.proofs.lemmas.Bool.{cond-true, cond-false, and_from, and_left, and_parts, leb-true, ne_eqb, false≢true}
@@ -24,26 +24,26 @@ use Rattle.case_text.specs.declared.words.Word.{Word}
 use Rattle.case_text.specs.declared.words.Word.TheVariants as word
 use Rattle.case_text.specs.Words.{word_of, word_by, mark_of, text_of, is_separator, is_equals, is_run, opens_square}
 use Rattle.case_text.specs.Names.{is_target, is_name_text, field_of, is_version_one, is_version_two, takes_number, takes_text, takes_bracket}
-use Rattle.case_text.specs.Nests.{behind_brackets, first_nest}
-use Rattle.case_text.specs.Matrices.{CaseMatrices, matrix_of, rows_from}
+use Rattle.case_text.specs.Nests.{first_nest}
+use Rattle.case_text.specs.Matrices.{CaseMatrices, matrix_of}
 use Rattle.case_text.specs.Statements.{Setting, Read, behind_end, ended, plain_value, not_version_one, matrix_rows, bracketed, value_by, statement_at}
 use Rattle.case_text.specs.Settings.{Settings, no_settings, with_setting, with_field, all_set}
-use Rattle.case_text.specs.Cases.{at_end, case_from, is_run_of, named_from, function_from, statements_from, without_mark, case_of}
+use Rattle.case_text.specs.Cases.{case_from, named_from, function_from, statements_from, without_mark, case_of}
 use Rattle.case_text.proofs.StatementLemmas as statement_lemmas
 use Rattle.case_grammar.specs.Gaps.{Gap, IsGap, BeginsBlank, IsSome, blank, continued}
-use Rattle.case_grammar.specs.Values.{Character, one, Value, number, string, matrix, cells, Rows, IsValue, IsString, IsElement, AreRows, plain, anything, numbers, rows_of, cells_of, Content}
-use Rattle.case_grammar.specs.Statements.{IsName, Target, target_text, IsTarget, First, first_text, IsFirst, Statement, IsStatement, sets, IsMatrixOf, IsTwo, IsNumeral, Takes, Part, IsEnding, Statements, ends, another, AreStatements, AreBehindName, AreBehindValue, values_of, AreParts, HasEnd, PartsWord, EndsWord, ending_text, parts_text}
+use Rattle.case_grammar.specs.Values.{Character, one, Value, number, string, matrix, cells, Rows, IsValue, IsString, AreRows, plain, anything, numbers, rows_of, Content}
+use Rattle.case_grammar.specs.Statements.{IsName, Target, target_text, IsTarget, First, first_text, IsFirst, Statement, IsStatement, Takes, Part, Statements, ends, another, AreStatements, AreBehindName, AreBehindValue, values_of, HasEnd, ending_text, parts_text}
 use Rattle.case_grammar.specs.CaseTexts.{CaseText, body_text, case_text, HasNoBlocks, IsText, Gives, IsCaseText}
-use Rattle.case_grammar.proofs.Texts.{gap_before, value_before, rows_before, characters_before, target_before, first_before, first-before, statement_before, parts_before, parts-before, statements_bytes, statements-bytes, IsRest, rest-append, rest-cons, rest-gap, rest-value, rest-rows, rest-parts, rest-statement, rest-first}
+use Rattle.case_grammar.proofs.Texts.{gap_before, value_before, rows_before, characters_before, first_before, first-before, statement_before, parts_before, parts-before, statements_bytes, statements-bytes, IsRest, rest-append, rest-cons, rest-gap, rest-rows, rest-parts, rest-statement, rest-first}
 use Rattle.case_grammar.proofs.Places.{tokens_at, token_at, token-word, token-text, at-start}
 use Rattle.case_grammar.proofs.Words.{AreInner, letter, name-inner, target-inner, number-some}
 use Rattle.case_grammar.proofs.Pieces.{EndsRun, GoesOnWithout, at-equals, at-square, at-curly, at-square_end, at-curly_end, at-string, string_rest, string-bytes}
 use Rattle.case_grammar.proofs.Lexemes.{at-gap_before, at-number, at-word, blank-ends}
 use Rattle.case_grammar.proofs.Closing.{Closes, closes-at, closes-last, step-closing, nest_in, closes-rows, Allows, allows-plain, allows-anything, allows-numbers}
 use Rattle.case_grammar.proofs.Cells.{rows-rows}
-use Rattle.case_grammar.proofs.Settings.{full_name, same_field, is_that, field-is, told, told-none, FitsField, told-next, setting-next, setting-other, all-told}
+use Rattle.case_grammar.proofs.Settings.{same_field, is_that, field-is, told, told-none, FitsField, told-next, setting-next, setting-other, all-told}
 use Rattle.case_grammar.proofs.Names.{name-text, target-text}
-use Rattle.case_grammar.proofs.Parts.{case-other, start-other, SameFrom, EndsAt, same-all, ends-all, at-ending, word-ends, text-ends, unquoted-parts, unquoted-ending, HasNoMark, unmarked-parts}
+use Rattle.case_grammar.proofs.Parts.{case-other, start-other, EndsAt, same-all, ends-all, at-ending, word-ends, text-ends, unquoted-parts, unquoted-ending, HasNoMark, unmarked-parts}
 
 -- the value is one that the field takes
 abbrev pub TakesAs : Option Field → Value → Type 0
@@ -401,7 +401,7 @@ next-set : (settings : Settings) (case : CaseMatrices) (o : Option Field) (value
 next-set settings case None value values t h = record { next = settings; set = setting-other settings []; tells = λ f. refl }
 next-set settings case (Some g) value values t h =
     let none : told settings g ≡ [] = none-before (told settings g) (rows_of value) (map rows_of (values g)) (matrix_of case g)
-        (ap (λ b. told settings g ++ map rows_of (cond b (value ∷ values g) (values g))) (sym (same-itself g)) ∙ h g) in
+    (ap (λ b. told settings g ++ map rows_of (cond b (value ∷ values g) (values g))) (sym (same-itself g)) ∙ h g) in
     record {
       next = with_field settings g (rows_of value);
       set = setting-next settings g (rows_of value) (takes-fits g value t) none;
@@ -453,9 +453,9 @@ reads-all text blocks (another parts s more) settings case h r tells =
     let st = reads-statement text blocks s o more h.1 refl takes h.3 h.2 r1 in
     let end = ends-behind text blocks st.token.line s.value more h.3 h.2 r2 in
     let n = next-set settings case o s.value (λ f. values_of f more) takes
-        (λ f. ap (λ b. told settings f ++ map rows_of (cond b (s.value ∷ values_of f more) (values_of f more))) (sym (field-is (target_text s.target) o refl f)) ∙ tells f) in
+    (λ f. ap (λ b. told settings f ++ map rows_of (cond b (s.value ∷ values_of f more) (values_of f more))) (sym (field-is (target_text s.target) o refl f)) ∙ tells f) in
     let behind = reads-all text blocks more n.next case h.3 r2
-        (λ f. n.tells f ∙ ap (λ b. told settings f ++ map rows_of (cond b (s.value ∷ values_of f more) (values_of f more))) (sym (field-is (target_text s.target) o refl f)) ∙ tells f) in
+    (λ f. n.tells f ∙ ap (λ b. told settings f ++ map rows_of (cond b (s.value ∷ values_of f more) (values_of f more))) (sym (field-is (target_text s.target) o refl f)) ∙ tells f) in
     record {
       case_is =
           same.case settings
@@ -537,9 +537,10 @@ record ReadsFirst (text : List ℕ) (first : First) (rest : List ℕ) : Type 0 w
 at-name : (text : List ℕ) (name rest : List ℕ) → IsName name → IsRest text (name ++ rest) → EndsRun false rest →
     (tokens_at text 0 (name ++ rest) ≡ with_first (token_at text (name ++ rest) kind.Run (length name)) (tokens_at text 0 rest)) × (word_of text (token_at text (name ++ rest) kind.Run (length name)) ≡ word.Run)
 at-name text [] rest h r stops = absurd h
-at-name text (b ∷ name) rest h r stops =
-    (at-word text b name rest r (name-inner (b ∷ name) h) (λ e. false≢true (subst (λ x. is_ascii_alphabetic x ≡ true) e h.0)) stops,
-    token-word text kind.Run (suc (length name)) b (name ++ rest) r)
+at-name text (b ∷ name) rest h r stops = (
+  at-word text b name rest r (name-inner (b ∷ name) h) (λ e. false≢true (subst (λ x. is_ascii_alphabetic x ≡ true) e h.0)) stops,
+  token-word text kind.Run (suc (length name)) b (name ++ rest) r,
+)
 
 reads-first : (text : List ℕ) (first : First) (rest : List ℕ) → IsFirst first → IsRest text (first_before first rest) → EndsRun false rest → ReadsFirst text first rest
 unfolding mark_of
@@ -595,7 +596,7 @@ body-read case matrices h gives =
     let first = reads-first text case.first rest h.first r1 (behind-name case.others h.others h.behind_name) in
     let all = reads-all text h.no_blocks case.others no_settings matrices h.others r2 (λ f. ap (λ xs. xs ++ map rows_of (values_of f case.others)) (told-none f) ∙ gives f) in
     let none : (token_list text).fault ≡ None =
-        ap (λ (l : TokenList). l.fault) start ∙ same.fault ∙ ap (λ (l : TokenList). l.fault) first.tokens ∙ first.fault ∙ all.fault in
+    ap (λ (l : TokenList). l.fault) start ∙ same.fault ∙ ap (λ (l : TokenList). l.fault) first.tokens ∙ first.fault ∙ all.fault in
     ap (λ stop. statements_from text stop (token_list text).tokens) none
     ∙ ap (λ (l : TokenList). statements_from text None l.tokens) start ∙ same.start
     ∙ start-reads text case.first rest (tokens_at text 0 (first_before case.first rest)) matrices first refl all

@@ -1,8 +1,8 @@
 -- A text that is read as a case has neither block comments nor quotes that are not closed among its tokens, and no fault.
-use Rattle.std.proofs.Common.{◌≡◌, ℕ, zero, suc, ◌+◌, ◌-◌, ◌≤◌, ◌==◌, ◌&&◌, Bool, true, false, List, [], ◌∷◌, length, drop, refl, sym, ap, subst, ◌∙◌, arith, Option, Some, None, Result, Ok, Err, cond, inl, inr, codes}
+use Rattle.std.proofs.Common.{◌≡◌, ℕ, zero, suc, ◌-◌, ◌==◌, ◌&&◌, Bool, true, false, List, [], ◌∷◌, length, drop, refl, sym, ap, subst, ◌∙◌, arith, Option, Some, None, Result, Ok, Err, cond, inl, inr, codes}
 use Rattle.std.specs.Prelude.{is_some, nat_lt}
 use Rattle.std.specs.List.{AllByRecursion}
-use Rattle.std.proofs.lemmas.Bool.{cases_Bool, and_parts, false≢true, cond-false, cond-true}
+use Rattle.std.proofs.lemmas.Bool.{cases_Bool, and_parts, cond-false, cond-true}
 use Rattle.std.proofs.lemmas.List.{length-drop}
 use Rattle.scaled_decimal.specs.Reading.{is_number_text}
 use Rattle.case_tokens.specs.declared.Token.{Token}
@@ -60,9 +60,10 @@ brackets-fine : (text : List ℕ) (stop : Option ℕ) (only : Bool) (nest : Nest
 unfolding behind_brackets
 brackets-fine text stop only nest [] rest e h = absurd (Prim.cc)
 brackets-fine text stop only nest (token ∷ tokens) rest e h =
-    let p = then-ok (step text only token nest) (λ (next : Nest). cond (length next.brackets == 0) (Ok tokens) (behind_brackets text stop only next tokens)) rest e in
-    (step-fine (word_of text token) only token nest p.0 p.1,
-    either (length (p.0).brackets == 0) (behind_brackets text stop only p.0 tokens) p.2 (λ d. brackets-fine text stop only p.0 tokens rest d h)) where
+    let p = then-ok (step text only token nest) (λ (next : Nest). cond (length next.brackets == 0) (Ok tokens) (behind_brackets text stop only next tokens)) rest e in (
+      step-fine (word_of text token) only token nest p.0 p.1,
+      either (length (p.0).brackets == 0) (behind_brackets text stop only p.0 tokens) p.2 (λ d. brackets-fine text stop only p.0 tokens rest d h),
+    ) where
       either : (test : Bool) (read : Result (List Token) CaseFault) → cond test (Ok tokens) read ≡ Ok rest → (read ≡ Ok rest → AreFine text tokens) → AreFine text tokens
       either true read e k = same-rest text tokens rest (same-ok tokens rest (Ok tokens) refl e) h
       either false read e k = k e
@@ -71,9 +72,10 @@ end-fine : (text : List ℕ) (line : ℕ) (tokens rest : List Token) → behind_
 unfolding behind_end
 end-fine text line [] rest e h = tt
 end-fine text line (token ∷ tokens) rest e h = elim (cases_Bool (is_separator (word_of text token))) [
-  | inl t ↦
-      (separator-fine (word_of text token) t,
-      same-rest text tokens rest (same-ok tokens rest (Ok tokens) refl (allowed (is_separator (word_of text token)) (fault.Code line) rest (Ok tokens) e)) h)
+  | inl t ↦ (
+    separator-fine (word_of text token) t,
+    same-rest text tokens rest (same-ok tokens rest (Ok tokens) refl (allowed (is_separator (word_of text token)) (fault.Code line) rest (Ok tokens) e)) h,
+  )
   | inr t ↦ absurd (no-ok (fault.Code line) rest _ (cond-false (is_separator (word_of text token)) _ _ t) e)
 ]
 
@@ -102,10 +104,12 @@ value-fine : (said : Word) (text : List ℕ) (stop : Option ℕ) (line : ℕ) (f
 unfolding value_by
 value-fine word.Run text stop line field value tokens read e h = (refl, plain-fine text line field (is_number_text (text_of text value) && takes_number field) tokens read e h)
 value-fine word.Quoted text stop line field value tokens read e h =
-    let p = then-ok (plain_value text line field (takes_text field (text_of text value)) tokens) (not_version_one field (text_of text value)) read e in
-    (refl, plain-fine text line field (takes_text field (text_of text value)) tokens p.0 p.1
-    (subst (λ (x : Setting × List Token). AreFine text x.1)
-    (sym (same-ok p.0 read (Ok p.0) refl (refused (is_some field && is_version_one (text_of text value)) fault.VersionOne read (Ok p.0) p.2))) h))
+    let p = then-ok (plain_value text line field (takes_text field (text_of text value)) tokens) (not_version_one field (text_of text value)) read e in (
+      refl,
+      plain-fine text line field (takes_text field (text_of text value)) tokens p.0 p.1
+          (subst (λ (x : Setting × List Token). AreFine text x.1)
+          (sym (same-ok p.0 read (Ok p.0) refl (refused (is_some field && is_version_one (text_of text value)) fault.VersionOne read (Ok p.0) p.2))) h),
+    )
 value-fine (word.Opening opening) text stop line field value tokens read e h = (refl, bracketed-fine text stop line field opening tokens read e h)
 value-fine word.LineEnd text stop line field value tokens read e h = absurd (no-ok (fault.Code line) read _ refl e)
 value-fine word.Block text stop line field value tokens read e h = absurd (no-ok (fault.Code line) read _ refl e)
@@ -146,7 +150,7 @@ case-fine text stop settings zero (token ∷ tokens) case e = elim (cases_Bool (
   | inr t ↦
       let d = sym (cond-false (is_separator (word_of text token)) _ _ t) ∙ e in
       let p = then-ok (statement_at text stop token tokens)
-          (λ (read : Setting × List Token). and_then (with_setting settings (read.0).field (read.0).rows) (λ next. case_from text stop next (length tokens - length read.1) tokens)) case d in
+      (λ (read : Setting × List Token). and_then (with_setting settings (read.0).field (read.0).rows) (λ next. case_from text stop next (length tokens - length read.1) tokens)) case d in
       let q = then-ok (with_setting settings ((p.0).0).field ((p.0).0).rows) (λ next. case_from text stop next (length tokens - length (p.0).1) tokens) case p.2 in
       let r = rest-statement text stop token tokens p.0 p.1 in
       statement-fine text stop token tokens p.0 p.1
@@ -169,7 +173,7 @@ case-stop text stop settings zero (token ∷ tokens) case e = elim (cases_Bool (
   | inr t ↦
       let d = sym (cond-false (is_separator (word_of text token)) _ _ t) ∙ e in
       let p = then-ok (statement_at text stop token tokens)
-          (λ (read : Setting × List Token). and_then (with_setting settings (read.0).field (read.0).rows) (λ next. case_from text stop next (length tokens - length read.1) tokens)) case d in
+      (λ (read : Setting × List Token). and_then (with_setting settings (read.0).field (read.0).rows) (λ next. case_from text stop next (length tokens - length read.1) tokens)) case d in
       let q = then-ok (with_setting settings ((p.0).0).field ((p.0).0).rows) (λ next. case_from text stop next (length tokens - length (p.0).1) tokens) case p.2 in
       case-stop text stop q.0 (length tokens - length (p.0).1) tokens case q.2
 ]
@@ -230,9 +234,19 @@ function-fine : (text : List ℕ) (stop : Option ℕ) (head : Token) (tokens : L
 function-fine text stop head tokens case e =
     let f = first-read text stop head tokens case e in
     let run : (bytes : List ℕ) (token : Token) → is_run_of bytes text token ≡ true → is_fine (word_of text token) ≡ true = λ bytes token h. run-fine (word_of text token) (and_parts (is_run (word_of text token)) _ h).0 in
-    subst (λ xs. AreFine text (head ∷ xs)) (sym f.tokens_are)
-    (run (codes "function") head f.head_is, (run (codes "mpc") f.next f.next_is, (equals-fine (word_of text f.equals) f.equals_is, (run-fine (word_of text f.name) f.name_run,
-    case-fine text stop no_settings 0 f.behind case f.reads))))
+    subst (λ xs. AreFine text (head ∷ xs)) (sym f.tokens_are) (
+      run (codes "function") head f.head_is,
+      (
+        run (codes "mpc") f.next f.next_is,
+        (
+          equals-fine (word_of text f.equals) f.equals_is,
+          (
+            run-fine (word_of text f.name) f.name_run,
+            case-fine text stop no_settings 0 f.behind case f.reads,
+          ),
+        ),
+      ),
+    )
 
 statements-fine : (text : List ℕ) (stop : Option ℕ) (tokens : List Token) (case : CaseMatrices) → statements_from text stop tokens ≡ Ok case → AreFine text tokens × (stop ≡ None)
 unfolding statements_from

@@ -1,22 +1,21 @@
 -- A text that no fault ends is a gap and what comes first behind it.
-use Rattle.std.proofs.Common.{◌≡◌, ◌≢◌, ℕ, zero, suc, ◌+◌, ◌-◌, ◌<◌, ◌≤◌, ◌==◌, ◌&&◌, ◌||◌, ◌⊎◌, Bool, true, false, not, List, [], ◌∷◌, ◌++◌, length, refl, sym, ap, subst, ◌∙◌, arith, Option, Some, None, cond, inl, inr, append-nil, append_assoc, length-append}
+use Rattle.std.proofs.Common.{◌≡◌, ◌≢◌, ℕ, zero, suc, ◌<◌, ◌&&◌, ◌⊎◌, Bool, true, false, not, List, [], ◌∷◌, ◌++◌, length, refl, sym, ap, subst, ◌∙◌, arith, Some, None, inl, inr, append-nil, append_assoc, length-append}
 use Rattle.std.specs.Prelude.{IsTrue}
 use Rattle.std.specs.List.{AllByRecursion, before_first}
-use Rattle.std.proofs.lemmas.Bool.{or_parts, or_cases, eqb-true, ne_eqb, false≢true, and_parts}
+use Rattle.std.proofs.lemmas.Bool.{or_parts, eqb-true, ne_eqb, false≢true}
 use Rattle.scaled_decimal.specs.Reading.{is_number_text}
 use Rattle.case_tokens.specs.declared.Kind.TheVariants as kind
 use Rattle.case_tokens.specs.declared.Token.{Token}
-use Rattle.case_tokens.specs.Bytes.{is_line_end, is_blank, is_quote, is_percent, is_mark, is_parting, is_opening, is_closing, ends_run}
-use Rattle.case_tokens.specs.Pieces.{is_continuation, is_parted, is_block_rest}
+use Rattle.case_tokens.specs.Bytes.{is_line_end, is_blank, is_quote, is_percent, is_mark}
+use Rattle.case_tokens.specs.Pieces.{is_parted, is_block_rest}
 use Rattle.case_tokens.specs.TokenLists.{TokenList, is_inside, with_first, is_blank_line}
-use Rattle.case_text.specs.Words.{word_of}
 use Rattle.case_grammar.specs.Gaps.{Skip, blank, continued, IsSkip, Gap, IsGap, IsOnLine, LineEnd, bare, commented, IsLineEnd}
-use Rattle.case_grammar.specs.Values.{Character, one, doubled, characters_text, IsCharacter, IsString}
+use Rattle.case_grammar.specs.Values.{Character, one, doubled, IsCharacter, IsString}
 use Rattle.case_grammar.specs.Statements.{Ending, here, in_comment, in_continuation, ending_text, IsEnding}
 use Rattle.case_grammar.proofs.Texts.{skip_before, gap_before, line_end_before, characters_before, IsRest, rest-append, rest-cons, rest-skip}
-use Rattle.case_grammar.proofs.Places.{opened, tokens_at, token_at, before_of, before-is, at-end, at-cut}
-use Rattle.case_grammar.proofs.Pieces.{IsAtLineEnd, GoesOnWithout, IsRun, EndsRun, at-blank, at-continued, at-unended, at-comment_by, at-line_end, at-string, string_rest, string-bytes, at-run}
-use Rattle.case_grammar.proofs.Fine.{is_fine, AreFine, IsClean}
+use Rattle.case_grammar.proofs.Places.{opened, tokens_at, token_at, before_of, at-end, at-cut}
+use Rattle.case_grammar.proofs.Pieces.{IsAtLineEnd, IsRun, EndsRun, at-blank, at-continued, at-unended, at-comment_by, at-line_end, at-string, string_rest, string-bytes, at-run}
+use Rattle.case_grammar.proofs.Fine.{IsClean}
 use Rattle.case_grammar.proofs.Seen.{Seen, sees_end, sees_blank, sees_line, sees_comment, sees_continued, sees_unended, sees_mark, sees_string, sees_run, sees_refused, seen}
 use Rattle.case_grammar.proofs.Blocks.{NoneFrom, none-end, none-piece, block-percent, line-front, ended-front, no-bytes}
 

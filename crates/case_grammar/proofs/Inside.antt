@@ -1,8 +1,7 @@
 -- What is read inside brackets stands there by the grammar.
-use Rattle.std.proofs.Common.{◌≡◌, ◌≢◌, ℕ, zero, suc, ◌+◌, ◌-◌, ◌<◌, ◌≤◌, ◌==◌, ◌&&◌, ◌||◌, ◌⊎◌, Bool, true, false, not, List, [], ◌∷◌, ◌++◌, length, refl, sym, ap, subst, ◌∙◌, arith, Option, Some, None, Result, Ok, Err, cond, inl, inr, length-append}
+use Rattle.std.proofs.Common.{◌≡◌, ℕ, zero, suc, ◌+◌, ◌<◌, ◌≤◌, ◌==◌, ◌&&◌, ◌||◌, ◌⊎◌, Bool, true, false, not, List, [], ◌∷◌, ◌++◌, length, refl, sym, ap, subst, ◌∙◌, arith, None, Ok, cond, inl, inr, length-append}
 use Rattle.std.specs.Prelude.{nat_lt}
-use Rattle.std.proofs.lemmas.Bool.{cases_Bool, cases_lt, or_cases, and_parts, eqb-true, false≢true, cond-true, cond-false, lt-ltb, le-ltb}
-use Rattle.scaled_decimal.specs.Decimal.{IsNumber}
+use Rattle.std.proofs.lemmas.Bool.{cases_lt, or_cases, and_parts, eqb-true, false≢true, cond-false, lt-ltb, le-ltb}
 use Rattle.scaled_decimal.specs.Reading.{is_number_text}
 use Rattle.scaled_decimal.proofs.ReadingLaws.{is_number_text-IsNumber}
 use Rattle.case_tokens.specs.declared.Kind.TheVariants as kind
@@ -10,13 +9,11 @@ use Rattle.case_tokens.specs.declared.Token.{Token}
 use Rattle.case_tokens.specs.Bytes.{is_mark, is_parting, is_opening, is_closing}
 use Rattle.case_tokens.specs.Pieces.{is_parted}
 use Rattle.case_tokens.specs.TokenLists.{TokenList, is_inside, with_first}
-use Rattle.case_text.specs.declared.CaseFault.{CaseFault}
 use Rattle.case_text.specs.declared.CaseFault.TheVariants as fault
 use Rattle.case_text.specs.declared.nests.Before.{Before}
 use Rattle.case_text.specs.declared.nests.Before.TheVariants as before
 use Rattle.case_text.specs.declared.words.Bracket.{Bracket}
 use Rattle.case_text.specs.declared.words.Bracket.TheVariants as bracket
-use Rattle.case_text.specs.declared.words.Word.{Word}
 use Rattle.case_text.specs.declared.words.Word.TheVariants as word
 use Rattle.case_text.specs.Words.{word_of, word_by, mark_of, is_curly, same_bracket}
 use Rattle.case_text.specs.Nests as nests
@@ -24,15 +21,15 @@ use Rattle.case_text.specs.Nests.{Nest, innermost, where_allowed, step_by, step,
 use Rattle.case_text.proofs.StatementLemmas.{no-ok}
 use Rattle.record_reading.specs.Steps.{and_then}
 use Rattle.case_grammar.specs.Gaps.{Gap, gap_text, IsGap, BeginsBlank, IsSome, blank, continued, LineEnd, bare, commented, line_end_text}
-use Rattle.case_grammar.specs.Values.{Value, number, string, matrix, cells, Rows, last_row, row_then, Row, no_elements, elements, More, no_more, last_comma, after_blanks, after_comma, RowEnd, semicolon, line_end, IsRowEnd, Content, numbers, plain, anything, HoldsStrings, HoldsBrackets, IsBehind, IsElement, AreRows, IsRow, IsMore, IsString, Character, rows_text}
-use Rattle.case_grammar.proofs.Texts.{gap_before, row_end_before, line_end_before, value_before, rows_before, row_before, more_before, characters_before, rows-before, gap-before, line_end-before, IsRest, rest-append, rest-cons, rest-gap, rest-value}
+use Rattle.case_grammar.specs.Values.{Value, number, string, matrix, cells, Rows, last_row, row_then, Row, no_elements, elements, More, no_more, last_comma, after_blanks, after_comma, RowEnd, semicolon, line_end, IsRowEnd, Content, numbers, plain, anything, HoldsStrings, IsBehind, IsElement, AreRows, IsRow, IsMore, IsString, Character, rows_text}
+use Rattle.case_grammar.proofs.Texts.{gap_before, row_end_before, line_end_before, value_before, rows_before, row_before, more_before, characters_before, rows-before, gap-before, line_end-before, IsRest, rest-append, rest-cons}
 use Rattle.case_grammar.proofs.Places.{opened, tokens_at, token_at, place_of, place-more, token-word}
-use Rattle.case_grammar.proofs.Pieces.{EndsRun, at-comma, at-semicolon, at-square, at-curly, at-square_end, at-curly_end, string_rest, string-bytes}
+use Rattle.case_grammar.proofs.Pieces.{at-comma, at-semicolon, at-square, at-curly, at-square_end, at-curly_end, string_rest, string-bytes}
 use Rattle.case_grammar.proofs.Lexemes.{place-gap}
 use Rattle.case_grammar.proofs.Closing.{nest_in, some-brackets, innermost-is, step-word, step-comma, step-line, step-semicolon, step-run, step-string, step-opening, step-closing, IsFollowed}
 use Rattle.case_grammar.proofs.Fine.{IsClean}
 use Rattle.case_grammar.proofs.Blocks.{NoneFrom}
-use Rattle.case_grammar.proofs.Found.{Found, finds_end, finds_line, finds_mark, finds_string, finds_run, found, clean-as, clean-behind}
+use Rattle.case_grammar.proofs.Found.{Found, finds_end, finds_line, finds_mark, finds_string, finds_run, found, clean-behind}
 
 -- ---- from token to token
 behind-step : (text : List ℕ) (only : Bool) (nest next : Nest) (token : Token) (tokens : List Token) → step text only token nest ≡ Ok next → (length next.brackets == 0) ≡ false →
@@ -251,7 +248,7 @@ reads-closing text content outer st closing behind list left r w t e clean h =
     let is_word : word_of text token ≡ word.Closing closing = token-word text kind.Mark 1 (closing_of closing) behind r ∙ w in
     let read = reads-as text content outer st _ _ left (e ∙ t) h in
     let same : same_bracket closing (innermost (outer ++ b ∷ [])) ≡ true =
-        behind-fault text only (nest_in outer b st) token _ left _ _ (step-word text only token (nest_in outer b st) (word.Closing closing) is_word) read in
+    behind-fault text only (nest_in outer b st) token _ left _ _ (step-word text only token (nest_in outer b st) (word.Closing closing) is_word) read in
     let is : closing ≡ b = own-bracket closing b (ap (same_bracket closing) (sym (innermost-is outer b)) ∙ same) in
     record {
       own = ap closing_of is;
@@ -340,7 +337,7 @@ element-string text n more content outer st quote characters behind list left fe
     let is_word = token-word text kind.Text (suc (length bytes)) quote (bytes ++ behind) r' in
     let read = reads-as text content outer st _ _ left e h in
     let tests = and_parts (not only) (nests.is_parted st (place_of text (quote ∷ (bytes ++ behind))))
-        (behind-fault text only nest token _ left _ _ (step-word text only token nest word.Quoted is_word) read) in
+    (behind-fault text only nest token _ left _ _ (step-word text only token nest word.Quoted is_word) read) in
     record {
       value = string quote characters;
       further = behind;
@@ -413,19 +410,19 @@ element-opening text n row more inner outer st behind list left few deep parted 
     let level_one : length (outer ++ bracket.Curly ∷ []) + 1 ≡ (length outer + 1) + 1 = Prim.omega arith in
     let read = reads-as text anything outer st _ _ left e h in
     let stepped : behind_brackets text None false (nest_in (outer ++ bracket.Curly ∷ []) inner before.Nothing) (tokens_at text (suc (suc (length outer))) behind).tokens ≡ Ok left =
-        sym (behind-step text false nest _ token _ (step-opening text false token outer bracket.Curly inner st is_word refl deep parted) (some-brackets (outer ++ bracket.Curly ∷ []) inner)) ∙ read in
+    sym (behind-step text false nest _ token _ (step-opening text false token outer bracket.Curly inner st is_word refl deep parted) (some-brackets (outer ++ bracket.Curly ∷ []) inner)) ∙ read in
     let inside : Reads text (content_in inner) (outer ++ bracket.Curly ∷ []) before.Nothing behind left =
-        ap (λ only. behind_brackets text None only (nest_in (outer ++ bracket.Curly ∷ []) (bracket_of (content_in inner)) before.Nothing) (tokens_at text (suc (length (outer ++ bracket.Curly ∷ []))) behind).tokens) (only-in inner)
-        ∙ ap (λ (b : Bracket). behind_brackets text None false (nest_in (outer ++ bracket.Curly ∷ []) b before.Nothing) (tokens_at text (suc (length (outer ++ bracket.Curly ∷ []))) behind).tokens) (bracket-in inner)
-        ∙ ap (λ d. behind_brackets text None false (nest_in (outer ++ bracket.Curly ∷ []) inner before.Nothing) (tokens_at text (suc d) behind).tokens) level
-        ∙ stepped in
+    ap (λ only. behind_brackets text None only (nest_in (outer ++ bracket.Curly ∷ []) (bracket_of (content_in inner)) before.Nothing) (tokens_at text (suc (length (outer ++ bracket.Curly ∷ []))) behind).tokens) (only-in inner)
+    ∙ ap (λ (b : Bracket). behind_brackets text None false (nest_in (outer ++ bracket.Curly ∷ []) b before.Nothing) (tokens_at text (suc (length (outer ++ bracket.Curly ∷ []))) behind).tokens) (bracket-in inner)
+    ∙ ap (λ d. behind_brackets text None false (nest_in (outer ++ bracket.Curly ∷ []) inner before.Nothing) (tokens_at text (suc d) behind).tokens) level
+    ∙ stepped in
     let found_row = row (content_in inner) before.Nothing (outer ++ bracket.Curly ∷ []) behind left few opens-nothing (rest-cons text (opening_of inner) behind r)
-        (subst (λ d. IsClean text (tokens_at text (suc d) behind)) (sym level) (clean-behind text list token _ e clean)) inside in
+    (subst (λ d. IsClean text (tokens_at text (suc d) behind)) (sym level) (clean-behind text list token _ e clean)) inside in
     let rows : Rows = rows_with found_row.row found_row.ends in
     let further : List ℕ = found_row.behind in
     let behind_is : behind ≡ rows_before rows (closing_of inner ∷ further) =
-        found_row.is ∙ sym (rows-with found_row.row found_row.ends (closing_of (bracket_of (content_in inner)) ∷ further))
-        ∙ ap (λ (b : Bracket). rows_before rows (closing_of b ∷ further)) (bracket-in inner) in
+    found_row.is ∙ sym (rows-with found_row.row found_row.ends (closing_of (bracket_of (content_in inner)) ∷ further))
+    ∙ ap (λ (b : Bracket). rows_before rows (closing_of b ∷ further)) (bracket-in inner) in
     record {
       value = value_in inner rows;
       further = further;
@@ -453,9 +450,11 @@ opening-tests text content inner outer st behind list left r w e h =
     let is_word = token-word text kind.Mark 1 (opening_of inner) behind r ∙ w in
     let all = behind-fault text (only_of content) nest token _ left _ _ (step-word text (only_of content) token nest (word.Opening inner) is_word) (reads-as text content outer st _ _ left e h) in
     let p = and_parts (is_curly (innermost (outer ++ bracket_of content ∷ [])) && nat_lt (length (outer ++ bracket_of content ∷ [])) 8) (nests.is_parted st (place_of text (opening_of inner ∷ behind))) all in
-    let q = and_parts (is_curly (innermost (outer ++ bracket_of content ∷ []))) (nat_lt (length (outer ++ bracket_of content ∷ [])) 8) p.0 in
-    (not-curly content (ap is_curly (sym (innermost-is outer (bracket_of content))) ∙ q.0),
-    few (cases_lt (length (outer ++ bracket_of content ∷ [])) 8) q.1, p.1) where
+    let q = and_parts (is_curly (innermost (outer ++ bracket_of content ∷ []))) (nat_lt (length (outer ++ bracket_of content ∷ [])) 8) p.0 in (
+      not-curly content (ap is_curly (sym (innermost-is outer (bracket_of content))) ∙ q.0),
+      few (cases_lt (length (outer ++ bracket_of content ∷ [])) 8) q.1,
+      p.1,
+    ) where
       few : (length (outer ++ bracket_of content ∷ []) < 8) ⊎ (8 ≤ length (outer ++ bracket_of content ∷ [])) → nat_lt (length (outer ++ bracket_of content ∷ [])) 8 ≡ true → length outer + 1 < 8
       few (inl lt) k = Prim.omega (arith, length-append outer (bracket_of content ∷ []))
       few (inr ge) k = absurd (false≢true (sym (le-ltb (length (outer ++ bracket_of content ∷ [])) 8 ge) ∙ k))
@@ -678,10 +677,13 @@ more-turn text content outer element rest left r followed (turns_element gap sta
       ends = m.ends;
       behind = m.behind;
       is = is ∙ ap (gap_before gap) (e.is ∙ ap (value_before e.value) m.is);
-      more_is =
-          (g, gap-behind element gap _ (subst (IsFollowed element) is followed),
-          some-gap (place_of text rest) (place_of text start) gap (place-gap text gap start (subst (IsRest text) is r) ∙ ap (λ xs. place_of text xs + length (gap_text gap)) (sym is)) e.parted,
-          e.value_is, m.more_is);
+      more_is = (
+        g,
+        gap-behind element gap _ (subst (IsFollowed element) is followed),
+        some-gap (place_of text rest) (place_of text start) gap (place-gap text gap start (subst (IsRest text) is r) ∙ ap (λ xs. place_of text xs + length (gap_text gap)) (sym is)) e.parted,
+        e.value_is,
+        m.more_is,
+      );
       ends_are = m.ends_are;
       left_is = m.left_is;
       clean = m.clean;
@@ -693,12 +695,13 @@ more-turn text content outer element rest left r followed (turns_element gap sta
 both-read : (text : List ℕ) (n : ℕ) → RowReads text n × MoreReads text n
 both-read text zero = ((λ content st outer rest left few. absurd (Prim.omega arith)), (λ content element outer rest left few. absurd (Prim.omega arith)))
 both-read text (suc n) =
-    let later = both-read text n in
-    ((λ content st outer rest left few opens r clean h.
-    row-turn text content outer st rest left opens (turn-by text n later.0 later.1 content outer st rest left (Prim.omega arith) clean h (found text (suc (length outer)) rest r clean))),
-    (λ content element outer rest left few followed r clean h.
-    more-turn text content outer element rest left r followed
-    (turn-by text n later.0 later.1 content outer (before.Element (place_of text rest)) rest left (Prim.omega arith) clean h (found text (suc (length outer)) rest r clean))))
+    let later = both-read text n in (
+      (λ content st outer rest left few opens r clean h.
+          row-turn text content outer st rest left opens (turn-by text n later.0 later.1 content outer st rest left (Prim.omega arith) clean h (found text (suc (length outer)) rest r clean))),
+      (λ content element outer rest left few followed r clean h.
+          more-turn text content outer element rest left r followed
+          (turn-by text n later.0 later.1 content outer (before.Element (place_of text rest)) rest left (Prim.omega arith) clean h (found text (suc (length outer)) rest r clean))),
+    )
 
 pub row-read : (text : List ℕ) (content : Content) (st : Before) (outer : List Bracket) (rest : List ℕ) (left : List Token) → Opens st → IsRest text rest →
     IsClean text (tokens_at text (suc (length outer)) rest) → Reads text content outer st rest left → RowOf text content outer rest left

@@ -1,6 +1,5 @@
 -- The tokens from gaps, line ends, numbers and words on.
-use Rattle.std.proofs.Common.{◌≡◌, ◌≢◌, ℕ, zero, suc, ◌+◌, ◌<◌, ◌≤◌, ◌==◌, ◌&&◌, ◌||◌, ◌⊎◌, Bool, true, false, not, List, [], ◌∷◌, ◌++◌, length, refl, sym, ap, subst, ◌∙◌, arith, inl, inr}
-use Rattle.std.specs.List.{AllByRecursion}
+use Rattle.std.proofs.Common.{◌≡◌, ◌≢◌, ℕ, suc, ◌+◌, ◌<◌, ◌==◌, ◌&&◌, ◌||◌, ◌⊎◌, Bool, true, false, not, List, [], ◌∷◌, ◌++◌, length, refl, sym, ap, subst, ◌∙◌, arith, inl, inr}
 use Rattle.std.proofs.lemmas.Bool.{false≢true, and_from}
 use Rattle.scaled_decimal.specs.Decimal.{IsNumber}
 use Rattle.scaled_decimal.specs.Reading.{is_number_text}
@@ -9,13 +8,12 @@ use Rattle.case_tokens.specs.declared.Kind.TheVariants as kind
 use Rattle.case_tokens.specs.Bytes.{is_blank, is_line_end, is_quote, is_percent, is_parting, is_opening, is_closing, ends_run, may_follow}
 use Rattle.case_tokens.specs.Pieces.{is_parted}
 use Rattle.case_tokens.specs.TokenLists.{is_inside, with_first}
-use Rattle.case_grammar.specs.Gaps.{Skip, blank, continued, Gap, gap_text, IsGap, BeginsBlank, IsSome, LineEnd, bare, commented, IsLineEnd}
+use Rattle.case_grammar.specs.Gaps.{blank, continued, Gap, gap_text, IsGap, BeginsBlank, IsSome, LineEnd, bare, commented, IsLineEnd}
 use Rattle.case_grammar.specs.CaseTexts.{HasNoBlocks}
-use Rattle.case_grammar.specs.Statements.{IsName, Target, target_text, IsTarget}
 use Rattle.case_grammar.proofs.Texts.{gap_before, gap-before, line_end_before, IsRest, rest-append, rest-cons, rest-skip}
 use Rattle.case_grammar.proofs.Places.{opened, tokens_at, token_at, place_of, place-more}
-use Rattle.case_grammar.proofs.Words.{AreInner, runs_on, name-inner, target-inner, number-inner, number-begins, number-some, name-begins, no_point}
-use Rattle.case_grammar.proofs.Pieces.{IsAtLineEnd, at-blank, at-continued, at-comment, at-line_end, GoesOnWithout, EndsRun, IsRun, at-run}
+use Rattle.case_grammar.proofs.Words.{AreInner, runs_on, number-inner, number-begins, number-some, no_point}
+use Rattle.case_grammar.proofs.Pieces.{at-blank, at-continued, at-comment, at-line_end, GoesOnWithout, EndsRun, at-run}
 
 pub at-gap_before : (text : List ℕ) (depth : ℕ) (gap : Gap) (rest : List ℕ) → IsGap gap → IsRest text (gap_before gap rest) → tokens_at text depth (gap_before gap rest) ≡ tokens_at text depth rest
 at-gap_before text depth [] rest h r = refl

@@ -1,13 +1,10 @@
 -- What stands between statements is passed over, and ends the statement before it.
-use Rattle.std.proofs.Common.{◌≡◌, ◌≢◌, ℕ, zero, suc, ◌+◌, ◌-◌, ◌<◌, ◌≤◌, ◌==◌, ◌⊎◌, Bool, true, false, not, List, [], ◌∷◌, ◌++◌, length, drop, refl, sym, ap, subst, ◌∙◌, arith, Option, Some, None, Result, Ok, Err, cond, inl, inr, append-nil}
-use Rattle.std.specs.List.{AllByRecursion}
+use Rattle.std.proofs.Common.{◌≡◌, ◌≢◌, ℕ, ◌-◌, ◌⊎◌, true, false, List, [], ◌∷◌, ◌++◌, length, refl, sym, ap, subst, ◌∙◌, arith, None, Ok, inl, inr, append-nil}
 use Rattle.std.proofs.lemmas.Bool.{cond-true, cond-false, false≢true}
 use Rattle.case_tokens.specs.declared.Kind.TheVariants as kind
 use Rattle.case_tokens.specs.declared.Token.{Token}
 use Rattle.case_tokens.specs.Bytes.{is_blank}
 use Rattle.case_tokens.specs.TokenLists.{TokenList, with_first}
-use Rattle.case_text.specs.declared.words.Word.{Word}
-use Rattle.case_text.specs.declared.words.Word.TheVariants as word
 use Rattle.case_text.specs.Words.{word_of, mark_of, is_separator}
 use Rattle.case_text.specs.Settings.{Settings}
 use Rattle.case_text.specs.Statements.{behind_end, statement_at}
@@ -17,7 +14,7 @@ use Rattle.record_reading.specs.Steps.{and_then}
 use Rattle.case_grammar.specs.Gaps.{Skip, blank, continued, IsSkip, bare, commented}
 use Rattle.case_grammar.specs.Statements.{Part, skipped, line_end, semicolon, comma, IsPart, AreParts, HasEnd, PartsWord, EndsWord, Ending, here, in_comment, in_continuation, ending_text, IsEnding}
 use Rattle.case_grammar.specs.CaseTexts.{HasNoBlocks}
-use Rattle.case_grammar.proofs.Texts.{skip_before, part_before, parts_before, IsRest, rest-part, rest-parts, rest-line_end}
+use Rattle.case_grammar.proofs.Texts.{skip_before, part_before, parts_before, IsRest, rest-part}
 use Rattle.case_grammar.proofs.Places.{tokens_at, token_at, token-word, at-end}
 use Rattle.case_grammar.proofs.Pieces.{EndsRun, GoesOnWithout, at-comma, at-semicolon, at-comment, at-unended}
 use Rattle.case_grammar.proofs.Lexemes.{at-gap_before, at-line_end_before, rest-feed, blank-ends}

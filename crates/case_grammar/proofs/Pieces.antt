@@ -1,15 +1,14 @@
 -- What the pieces of a grammatical text are, and the tokens from each of them on.
-use Rattle.std.proofs.Common.{◌≡◌, ◌≢◌, ℕ, zero, suc, ◌+◌, ◌-◌, ◌<◌, ◌≤◌, ◌==◌, ◌&&◌, ◌||◌, ◌⊎◌, Bool, true, false, not, List, [], ◌∷◌, ◌++◌, length, take, drop, refl, sym, ap, subst, ◌∙◌, arith, Option, Some, None, cond, inl, inr, append_assoc, append-nil, length-append, min}
+use Rattle.std.proofs.Common.{◌≡◌, ◌≢◌, ℕ, suc, ◌+◌, ◌&&◌, ◌⊎◌, Bool, true, false, not, List, [], ◌∷◌, ◌++◌, length, take, drop, refl, sym, ap, subst, ◌∙◌, arith, Option, Some, cond, inl, inr, append_assoc, append-nil, length-append}
 use Rattle.std.specs.List.{AllByRecursion, position_or_len, before_first}
 use Rattle.std.proofs.lemmas.List.{take_at, drop_at}
-use Rattle.std.proofs.lemmas.Bool.{ne_eqb, eq-eqb, or_parts, lt-ltb, cond-true, cond-false, false≢true}
+use Rattle.std.proofs.lemmas.Bool.{ne_eqb, eq-eqb, or_parts, cond-true, cond-false}
 use Rattle.scaled_decimal.specs.Reading.{is_number_text}
 use Rattle.case_tokens.specs.declared.Kind.TheVariants as kind
-use Rattle.case_tokens.specs.declared.pieces.Piece.{Piece}
 use Rattle.case_tokens.specs.declared.pieces.Piece.TheVariants as piece
-use Rattle.case_tokens.specs.Bytes.{is_line_end, is_blank, is_quote, is_percent, is_mark, is_parting, is_opening, is_closing, ends_run, may_follow}
+use Rattle.case_tokens.specs.Bytes.{is_line_end, is_blank, is_quote, is_percent, is_mark, is_opening, is_closing, ends_run}
 use Rattle.case_tokens.specs.Pieces.{piece_at, comment_at, is_block_rest, is_continuation, string_length, more, is_parted, quoted_at, run_at}
-use Rattle.case_tokens.specs.TokenLists.{TokenList, is_inside, is_blank_line, with_first}
+use Rattle.case_tokens.specs.TokenLists.{is_inside, is_blank_line, with_first}
 use Rattle.case_grammar.specs.Gaps.{IsOnLine}
 use Rattle.case_grammar.specs.Values.{Character, one, doubled, characters_text, IsCharacter, IsString}
 use Rattle.case_grammar.specs.CaseTexts.{HasNoBlocks}

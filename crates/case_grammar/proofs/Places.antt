@@ -1,18 +1,16 @@
 -- The tokens from a place of a text on, where so many brackets are open: each piece, and the tokens behind it.
-use Rattle.std.proofs.Common.{◌≡◌, ◌≢◌, ℕ, zero, suc, ◌+◌, ◌-◌, ◌<◌, ◌≤◌, ◌==◌, ◌&&◌, Bool, true, false, not, List, [], ◌∷◌, ◌++◌, length, take, drop, get_or, refl, sym, ap, subst, ◌∙◌, arith, Option, Some, None, cond, inl, inr, append_assoc, append-nil, length-append, get_or-append-add, min, add-zero}
-use Rattle.std.specs.Prelude.{nat_lt}
+use Rattle.std.proofs.Common.{◌≡◌, ℕ, zero, suc, ◌+◌, ◌-◌, List, [], ◌∷◌, ◌++◌, length, take, drop, get_or, refl, sym, ap, ◌∙◌, arith, Some, None, cond, inl, inr, append_assoc, append-nil, length-append, get_or-append-add, add-zero}
 use Rattle.std.proofs.lemmas.List.{take_at, drop_at}
 use Rattle.std.proofs.lemmas.Bool.{cases_lt, lt-ltb, le-ltb}
 use Rattle.case_tokens.specs.declared.Kind.{Kind}
-use Rattle.case_tokens.specs.declared.Kind.TheVariants as kind
 use Rattle.case_tokens.specs.declared.Token.{Token}
 use Rattle.case_tokens.specs.declared.pieces.Piece.{Piece}
 use Rattle.case_tokens.specs.declared.pieces.Piece.TheVariants as piece
 use Rattle.case_tokens.specs.Bytes.{is_opening, is_closing}
 use Rattle.case_tokens.specs.Pieces.{piece_at}
-use Rattle.case_tokens.specs.TokenLists.{TokenList, Brackets, is_inside, counted, is_blank_line, line_of, token_of, with_first, with_piece, length_of, tokens_from, token_list}
+use Rattle.case_tokens.specs.TokenLists.{TokenList, Brackets, is_inside, counted, is_blank_line, token_of, with_first, with_piece, length_of, tokens_from, token_list}
 use Rattle.case_text.specs.Words.{word_of, word_by, text_of}
-use Rattle.case_grammar.proofs.Texts.{IsRest, rest-append}
+use Rattle.case_grammar.proofs.Texts.{IsRest}
 
 -- ---- only how many more brackets are open than closed matters
 same-inside : (a b : Brackets) → a.opened + b.closed ≡ b.opened + a.closed → is_inside a ≡ is_inside b

@@ -1,9 +1,8 @@
 -- What a text begins with at each place, where no fault ends its tokens.
-use Rattle.std.proofs.Common.{◌≡◌, ◌≢◌, ℕ, zero, suc, ◌+◌, ◌-◌, ◌<◌, ◌≤◌, ◌==◌, ◌&&◌, ◌||◌, ◌⊎◌, Bool, true, false, not, List, [], ◌∷◌, ◌++◌, length, take, drop, refl, sym, ap, subst, ◌∙◌, arith, Option, Some, None, cond, inl, inr, append-nil, codes, min, length-append}
-use Rattle.std.specs.Prelude.{nat_lt}
+use Rattle.std.proofs.Common.{◌≡◌, ◌≢◌, ℕ, zero, suc, ◌+◌, ◌-◌, ◌==◌, ◌&&◌, ◌⊎◌, Bool, true, false, not, List, [], ◌∷◌, ◌++◌, length, take, drop, refl, sym, ap, subst, ◌∙◌, arith, Option, Some, None, cond, inl, inr, append-nil, length-append}
 use Rattle.std.specs.List.{AllByRecursion, position_or_len, before_first}
 use Rattle.std.proofs.lemmas.List.{take_at, drop_at}
-use Rattle.std.proofs.lemmas.Bool.{cases_Bool, eqb-true, eq-eqb, ne_eqb, or_from, or_cases, and_parts, lt-ltb, cond-true, cond-false, false≢true}
+use Rattle.std.proofs.lemmas.Bool.{cases_Bool, eqb-true, eq-eqb, or_from, or_cases, and_parts, lt-ltb, cond-true, cond-false, false≢true}
 use Rattle.scaled_decimal.specs.Reading.{is_number_text}
 use Rattle.case_tokens.specs.declared.Kind.{Kind}
 use Rattle.case_tokens.specs.declared.Kind.TheVariants as kind
@@ -12,13 +11,11 @@ use Rattle.case_tokens.specs.declared.pieces.Piece.{Piece}
 use Rattle.case_tokens.specs.declared.pieces.Piece.TheVariants as piece
 use Rattle.case_tokens.specs.Bytes.{is_line_end, is_blank, is_quote, is_percent, is_mark, ends_run}
 use Rattle.case_tokens.specs.Pieces.{piece_at, comment_at, is_block_rest, is_continuation, string_length, more, is_parted, quoted_at, run_at}
-use Rattle.case_tokens.specs.TokenLists.{TokenList, is_inside, is_blank_line, with_first, with_piece, token_of, tokens_from, counted, length_of}
-use Rattle.case_text.specs.declared.words.Word.{Word}
-use Rattle.case_text.specs.declared.words.Word.TheVariants as word
+use Rattle.case_tokens.specs.TokenLists.{TokenList, is_inside, is_blank_line, with_first, with_piece, tokens_from, counted, length_of}
 use Rattle.case_text.specs.Words.{word_of, word_by}
 use Rattle.case_grammar.specs.Gaps.{IsOnLine}
 use Rattle.case_grammar.specs.Values.{Character, one, doubled, characters_text, IsCharacter, IsString}
-use Rattle.case_grammar.proofs.Texts.{characters_before, characters-before, IsRest}
+use Rattle.case_grammar.proofs.Texts.{characters_before, IsRest}
 use Rattle.case_grammar.proofs.Places.{opened, tokens_at, token_at, before_of, at-cut, at-bad, token-word}
 use Rattle.case_grammar.proofs.Pieces.{IsAtLineEnd, GoesOnWithout, IsRun, EndsRun, piece-quote, piece-run, run-length, string-bytes, string_rest}
 use Rattle.case_grammar.proofs.Fine.{is_fine}
@@ -134,9 +131,10 @@ pub data Seen (text : List ℕ) (depth : ℕ) (rest : List ℕ) : Type 0 where
 pub at-any : (text : List ℕ) (depth : ℕ) (k : Kind) (n b : ℕ) (rest : List ℕ) → piece_at (is_inside (opened depth)) (is_blank_line (before_of text (b ∷ rest))) (b ∷ rest) ≡ piece.Token k n →
     (left : TokenList) × (tokens_at text depth (b ∷ rest) ≡ with_first (token_at text (b ∷ rest) k n) left)
 unfolding tokens_at tokens_from
-at-any text depth k n b rest e =
-    (tokens_from (counted (piece.Token k n) b (opened depth)) (before_of text (b ∷ rest) ++ b ∷ []) (n - 1) rest,
-    ap (λ (p : Piece). with_piece p (before_of text (b ∷ rest)) (tokens_from (counted p b (opened depth)) (before_of text (b ∷ rest) ++ b ∷ []) (length_of p - 1) rest)) e)
+at-any text depth k n b rest e = (
+  tokens_from (counted (piece.Token k n) b (opened depth)) (before_of text (b ∷ rest) ++ b ∷ []) (n - 1) rest,
+  ap (λ (p : Piece). with_piece p (before_of text (b ∷ rest)) (tokens_from (counted p b (opened depth)) (before_of text (b ∷ rest) ++ b ∷ []) (length_of p - 1) rest)) e,
+)
 
 see-refused : (text : List ℕ) (depth : ℕ) (k : Kind) (n b : ℕ) (rest : List ℕ) → IsRest text (b ∷ rest) →
     piece_at (is_inside (opened depth)) (is_blank_line (before_of text (b ∷ rest))) (b ∷ rest) ≡ piece.Token k n → is_fine (word_by k b) ≡ false → Seen text depth (b ∷ rest)
@@ -211,8 +209,8 @@ see-quote text depth quote rest q r none = by_length (string_length quote rest) 
   by_length (Some n) e =
       let s = string-of quote rest n e in
       let behind_is : drop (n + 1) (quote ∷ rest) ≡ s.behind =
-          ap (λ xs. drop (n + 1) (quote ∷ xs)) (s.is ∙ string-bytes quote s.characters s.behind)
-          ∙ drop_at (quote ∷ string_rest quote s.characters) s.behind (n + 1) (Prim.omega (arith, s.size, length-rest quote s.characters)) in
+      ap (λ xs. drop (n + 1) (quote ∷ xs)) (s.is ∙ string-bytes quote s.characters s.behind)
+      ∙ drop_at (quote ∷ string_rest quote s.characters) s.behind (n + 1) (Prim.omega (arith, s.size, length-rest quote s.characters)) in
       elim (cases_Bool (is_inside (opened depth) && not (is_parted s.behind))) [
         | inl i ↦ absurd (no-bad text depth quote rest none
             (piece_is piece.Bad (quoted-bad (is_inside (opened depth)) n _ (quote ∷ rest) e (ap (λ xs. is_inside (opened depth) && not (is_parted xs)) behind_is ∙ i))))
@@ -232,9 +230,9 @@ see-run text depth b rest h k none =
     let is : b ∷ rest ≡ b ∷ (s.run ++ s.behind) = ap (λ xs. b ∷ xs) s.is in
     let size : position_or_len (ends_run inside) (b ∷ rest) ≡ suc (length s.run) = ap (position_or_len (ends_run inside)) is ∙ run-length inside (b ∷ s.run) s.behind (h, s.goes_on) s.stops in
     let test : (inside && not (is_number_text (take (suc (length s.run)) (b ∷ rest)) && is_parted (drop (suc (length s.run)) (b ∷ rest)))) ≡ (inside && not (is_number_text (b ∷ s.run) && is_parted s.behind)) =
-        ap (λ xs. inside && not (is_number_text (take (suc (length s.run)) xs) && is_parted (drop (suc (length s.run)) xs))) is
-        ∙ ap (λ xs. inside && not (is_number_text xs && is_parted (drop (suc (length s.run)) (b ∷ (s.run ++ s.behind))))) (take_at (b ∷ s.run) s.behind (suc (length s.run)) refl)
-        ∙ ap (λ xs. inside && not (is_number_text (b ∷ s.run) && is_parted xs)) (drop_at (b ∷ s.run) s.behind (suc (length s.run)) refl) in
+    ap (λ xs. inside && not (is_number_text (take (suc (length s.run)) xs) && is_parted (drop (suc (length s.run)) xs))) is
+    ∙ ap (λ xs. inside && not (is_number_text xs && is_parted (drop (suc (length s.run)) (b ∷ (s.run ++ s.behind))))) (take_at (b ∷ s.run) s.behind (suc (length s.run)) refl)
+    ∙ ap (λ xs. inside && not (is_number_text (b ∷ s.run) && is_parted xs)) (drop_at (b ∷ s.run) s.behind (suc (length s.run)) refl) in
     elim (cases_Bool (inside && not (is_number_text (b ∷ s.run) && is_parted s.behind))) [
       | inl bad ↦ absurd (no-bad text depth b rest none
           (piece-run inside _ b rest h k ∙ ap (λ n. run_at inside n (b ∷ rest)) size ∙ run-bad inside (suc (length s.run)) (b ∷ rest) (test ∙ bad)))

@@ -1,10 +1,10 @@
 -- What statements set, field by field.
-use Rattle.std.proofs.Common.{◌≡◌, ◌≢◌, ℕ, zero, suc, ◌+◌, ◌<◌, ◌≤◌, ◌==◌, ◌&&◌, ◌⊎◌, Bool, true, false, not, List, [], ◌∷◌, ◌++◌, length, map, get_or, refl, sym, ap, subst, ◌∙◌, arith, Option, Some, None, Result, Ok, Err, cond, codes, append-nil, append_assoc, inl, inr, eq-eqb}
-use Rattle.std.specs.Prelude.{All, is_some, nat_lt}
+use Rattle.std.proofs.Common.{◌≡◌, ℕ, ◌+◌, ◌==◌, Bool, true, false, List, [], ◌∷◌, ◌++◌, length, refl, sym, ap, ◌∙◌, arith, Option, Some, None, Ok, Err, cond, codes, append-nil, eq-eqb}
+use Rattle.std.specs.Prelude.{is_some, nat_lt}
 use Rattle.std.specs.List.{AllByRecursion}
 use Rattle.std.specs.Option.{option_map_or}
 use Rattle.std.specs.Str.{bytes_eq}
-use Rattle.std.proofs.lemmas.Bool.{cases_Bool, cond-true, cond-false, le-ltb, false≢true}
+use Rattle.std.proofs.lemmas.Bool.{cond-true, cond-false, le-ltb, false≢true}
 use Rattle.std.proofs.lemmas.List.Elements.{recursion_from_All}
 use Rattle.std.proofs.lemmas.Slice.Eq.{bytes_eq-Decides}
 use Rattle.record_reading.specs.Records.{Record, first_ragged}
@@ -13,7 +13,7 @@ use Rattle.case_text.specs.declared.CaseFault.TheVariants as fault
 use Rattle.case_text.specs.declared.Field.{Field}
 use Rattle.case_text.specs.declared.Field.TheVariants as field
 use Rattle.case_text.specs.Names.{field_of}
-use Rattle.case_text.specs.Matrices.{CaseMatrices, matrix_of, IsEven, least_columns, width_of}
+use Rattle.case_text.specs.Matrices.{CaseMatrices, matrix_of, IsEven, least_columns}
 use Rattle.case_text.specs.Settings.{Settings, no_settings, is_set, with_field, uneven, with_setting, matrices, all_set}
 use Rattle.case_grammar.specs.Statements.{name_of}
 

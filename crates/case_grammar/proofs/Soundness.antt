@@ -1,10 +1,10 @@
 -- Statements and whole texts that are read stand there by the grammar.
-use Rattle.std.proofs.Common.{◌≡◌, ◌≢◌, ℕ, zero, suc, ◌+◌, ◌-◌, ◌<◌, ◌≤◌, ◌==◌, ◌&&◌, ◌||◌, ◌⊎◌, Bool, true, false, not, List, [], ◌∷◌, ◌++◌, length, take, drop, map, refl, sym, ap, subst, ◌∙◌, arith, Option, Some, None, Result, Ok, Err, cond, codes, inl, inr, length-append, append-nil, append_assoc, take-append-drop}
-use Rattle.std.specs.Prelude.{is_some, IsTrue, nat_lt}
+use Rattle.std.proofs.Common.{◌≡◌, ℕ, zero, suc, ◌+◌, ◌-◌, ◌<◌, ◌≤◌, ◌==◌, ◌&&◌, Bool, true, false, List, [], ◌∷◌, ◌++◌, length, take, drop, map, refl, sym, ap, subst, ◌∙◌, arith, Option, Some, None, Ok, Err, cond, codes, inl, inr, append-nil, take-append-drop}
+use Rattle.std.specs.Prelude.{nat_lt}
 use Rattle.std.specs.List.{AllByRecursion}
 use Rattle.std.specs.Option.{option_map_or}
 use Rattle.std.specs.Str.{bytes_eq}
-use Rattle.std.proofs.lemmas.Bool.{cases_Bool, or_cases, and_parts, false≢true, cond-true, cond-false, eqb-true, ltb-false}
+use Rattle.std.proofs.lemmas.Bool.{cases_Bool, and_parts, false≢true, cond-true, cond-false, eqb-true, ltb-false}
 use Rattle.std.proofs.lemmas.List.Elements.{All-from_recursion}
 use Rattle.std.proofs.lemmas.Slice.Eq.{bytes_eq-Decides}
 use Rattle.record_reading.specs.Records.{Record, first_ragged}
@@ -12,41 +12,37 @@ use Rattle.record_reading.specs.Steps.{and_then}
 use Rattle.record_reading.proofs.StepLemmas.{then-ok, ok-same}
 use Rattle.case_tokens.specs.declared.Kind.TheVariants as kind
 use Rattle.case_tokens.specs.declared.Token.{Token}
-use Rattle.case_tokens.specs.declared.pieces.Piece.TheVariants as piece
 use Rattle.case_tokens.specs.Pieces.{piece_at}
 use Rattle.case_tokens.specs.TokenLists.{TokenList, token_list, with_first}
 use Rattle.case_text.specs.declared.CaseFault.{CaseFault}
 use Rattle.case_text.specs.declared.CaseFault.TheVariants as fault
 use Rattle.case_text.specs.declared.Field.{Field}
 use Rattle.case_text.specs.declared.Field.TheVariants as field
-use Rattle.case_text.specs.declared.words.Word.{Word}
-use Rattle.case_text.specs.declared.words.Word.TheVariants as word
 use Rattle.case_text.specs.Words.{word_of, text_of, is_separator, is_equals, is_run}
 use Rattle.case_text.specs.Names.{is_target, is_name_text, field_of}
 use Rattle.case_text.specs.Matrices.{CaseMatrices, matrix_of, IsEven, least_columns}
 use Rattle.case_text.specs.Statements.{Setting, behind_end, value_by, statement_at}
 use Rattle.case_text.specs.Settings.{Settings, no_settings, is_set, with_field, uneven, with_setting, matrices, all_set}
-use Rattle.case_text.specs.Cases.{at_end, case_from, is_run_of, function_from, statements_from, without_mark, case_of}
-use Rattle.case_text.proofs.StatementLemmas as statement_lemmas
+use Rattle.case_text.specs.Cases.{case_from, is_run_of, function_from, statements_from, without_mark, case_of}
 use Rattle.case_text.proofs.StatementLemmas.{allowed, refused, no-ok, same-ok, rest-statement}
-use Rattle.case_grammar.specs.Gaps.{Skip, blank, continued, Gap, IsGap, BeginsBlank, IsSome}
+use Rattle.case_grammar.specs.Gaps.{blank, continued, Gap, IsGap, BeginsBlank}
 use Rattle.case_grammar.specs.Values.{Value, number, string, matrix, cells, rows_of, cells_of, IsValue}
-use Rattle.case_grammar.specs.Statements.{IsName, Target, target_text, IsTarget, First, first_text, IsFirst, Statement, IsStatement, sets, IsMatrixOf, Takes, Part, skipped, line_end, semicolon, comma, IsPart, AreParts, parts_text, HasEnd, PartsWord, EndsWord, Ending, here, in_comment, in_continuation, ending_text, IsEnding, Statements, ends, another, AreStatements, AreBehindName, AreBehindValue, values_of}
-use Rattle.case_grammar.specs.CaseTexts.{CaseText, body_text, case_text, HasNoBlocks, IsText, Gives, IsCaseText}
-use Rattle.case_grammar.proofs.Texts.{gap_before, value_before, first_before, statement_before, part_before, parts_before, statements_bytes, IsRest}
+use Rattle.case_grammar.specs.Statements.{target_text, IsTarget, First, IsFirst, Statement, IsMatrixOf, Takes, Part, skipped, line_end, semicolon, comma, IsPart, AreParts, HasEnd, PartsWord, EndsWord, Ending, here, in_comment, in_continuation, ending_text, IsEnding, Statements, ends, another, AreStatements, AreBehindName, AreBehindValue, values_of}
+use Rattle.case_grammar.specs.CaseTexts.{CaseText, body_text, HasNoBlocks, IsCaseText}
+use Rattle.case_grammar.proofs.Texts.{gap_before, first_before, statement_before, part_before, parts_before, statements_bytes, IsRest}
 use Rattle.case_grammar.proofs.Places.{tokens_at, at-start}
 use Rattle.case_grammar.proofs.Pieces.{EndsRun}
-use Rattle.case_grammar.proofs.Settings.{full_name, same_field, is_that, field-is, told, told-none, told-unset, FitsField, told-next}
+use Rattle.case_grammar.proofs.Settings.{same_field, is_that, field-is, told, told-none, told-unset, told-next}
 use Rattle.case_grammar.proofs.Names.{text-name, text-target}
 use Rattle.case_grammar.proofs.Parts.{case-separator, case-other}
-use Rattle.case_grammar.proofs.Completeness.{TakesAs, kept, case-rest, takes-fits, add-told, same-itself, text_bytes, text-bytes}
-use Rattle.case_grammar.proofs.Fine.{IsClean, passed-test, failed-test, IsFirstRead, first-read, case-clean}
+use Rattle.case_grammar.proofs.Completeness.{TakesAs, kept, case-rest, takes-fits, add-told, text-bytes}
+use Rattle.case_grammar.proofs.Fine.{IsClean, passed-test, failed-test, first-read, case-clean}
 use Rattle.case_grammar.proofs.Seen.{at-any}
 use Rattle.case_grammar.proofs.Blocks.{NoneFrom, none-at_all}
 use Rattle.case_grammar.proofs.Found.{Found, finds_end, finds_line, finds_mark, finds_string, finds_run, found, clean-as}
 use Rattle.case_grammar.proofs.Inside.{MarkIs, is_comma, is_semicolon, is_square, is_curly_opening, is_square_end, is_curly_end, is_equals_mark, mark-is}
-use Rattle.case_grammar.proofs.Tokens.{Tail, TokenIs, token-is, EqualsOf, equals-of, RunAt, run-at, PartOf, part-of, gap-blank, gap-some_word}
-use Rattle.case_grammar.proofs.ValuesRead.{TakesMostly, IsOfNumbers, Stops, ValueOf, value-of}
+use Rattle.case_grammar.proofs.Tokens.{TokenIs, token-is, equals-of, run-at, PartOf, part-of, gap-blank, gap-some_word}
+use Rattle.case_grammar.proofs.ValuesRead.{TakesMostly, IsOfNumbers, Stops, value-of}
 
 -- ---- a statement
 record StatementParts (text : List ℕ) (head : Token) (tokens : List Token) (read : Setting × List Token) : Type 0 where
@@ -110,12 +106,12 @@ statement-of text rest head tokens read r clean e h =
     let run = run-at text rest head tokens p.run (token-found text rest head tokens r clean e) in
     let run_tail = run.tail in
     let eq = equals-of text run.behind p.equals (p.value ∷ p.more) p.equals_is
-        (token-found text run.behind p.equals (p.value ∷ p.more) run_tail.here run_tail.clean (run_tail.tokens ∙ p.tokens_are)) in
+    (token-found text run.behind p.equals (p.value ∷ p.more) run_tail.here run_tail.clean (run_tail.tokens ∙ p.tokens_are)) in
     let eq_tail = eq.tail in
     let t = text-target (text_of text head) p.target in
     let v = value-of text (field_of (target_text t.target)) head.line eq.behind p.value p.more read
-        (token-found text eq.behind p.value p.more eq_tail.here eq_tail.clean eq_tail.tokens)
-        (ap (λ xs. value_by (word_of text p.value) text None head.line (field_of xs) p.value p.more) (sym t.is) ∙ p.reads) in
+    (token-found text eq.behind p.value p.more eq_tail.here eq_tail.clean eq_tail.tokens)
+    (ap (λ xs. value_by (word_of text p.value) text None head.line (field_of xs) p.value p.more) (sym t.is) ∙ p.reads) in
     record {
       gap = run.gap;
       s = record { target = t.target; behind_target = eq.gap; behind_equals = v.gap; value = v.value };
@@ -402,16 +398,18 @@ all-part : (text : List ℕ) (n : ℕ) → AllReads text n → (settings : Setti
     case_from text None settings 0 more ≡ Ok case → (a : AllOf text settings rest case) × EndsBefore a.all
 all-part text n later settings rest case more few p e =
     let t = p.tail in
-    let a = later settings p.behind case (Prim.omega (arith, t.shorter)) t.here t.clean (ap (case_from text None settings 0) t.tokens ∙ e) in
-    (record {
-      all = prepend p.gap p.part a.all;
-      is = p.is ∙ ap (λ xs. gap_before p.gap (part_before p.part xs)) a.is ∙ sym (prepend-bytes p.gap p.part a.all);
-      none = t.none a.none;
-      holds = λ blocks. let h = a.holds blocks in record {
-        statements = prepend-are p.gap p.part a.all p.gap_is p.part_is h.statements;
-        tells = λ f. ap (λ xs. told settings f ++ map rows_of xs) (prepend-values p.gap p.part a.all f) ∙ h.tells f;
-      };
-    }, prepend-ends p.gap p.part a.all p.ends)
+    let a = later settings p.behind case (Prim.omega (arith, t.shorter)) t.here t.clean (ap (case_from text None settings 0) t.tokens ∙ e) in (
+      record {
+        all = prepend p.gap p.part a.all;
+        is = p.is ∙ ap (λ xs. gap_before p.gap (part_before p.part xs)) a.is ∙ sym (prepend-bytes p.gap p.part a.all);
+        none = t.none a.none;
+        holds = λ blocks. let h = a.holds blocks in record {
+          statements = prepend-are p.gap p.part a.all p.gap_is p.part_is h.statements;
+          tells = λ f. ap (λ xs. told settings f ++ map rows_of xs) (prepend-values p.gap p.part a.all f) ∙ h.tells f;
+        };
+      },
+      prepend-ends p.gap p.part a.all p.ends,
+    )
 
 -- the end of a statement, and what is behind it
 all-behind : (text : List ℕ) (n : ℕ) → AllReads text n → (settings : Settings) (line : ℕ) (rest : List ℕ) (case : CaseMatrices) (left : List Token) → length rest ≤ n → IsRest text rest →
@@ -441,17 +439,19 @@ all-statement text n later settings next rest case line read few st set e =
           let h = a.holds blocks in
           let sa = sets-as settings next o st.s.value (read.0).rows st.takes (st.rows_are blocks) (ap (λ (x : Option Field). with_setting settings x (read.0).rows) (sym st.field_is) ∙ set) in
           record {
-            statements =
-                (skips-are st.gap [] st.gap_is tt,
-                record {
-                  target = st.target;
-                  behind_target = st.behind_target;
-                  blank_behind_target = st.blank_behind_target;
-                  behind_equals = st.behind_equals;
-                  value = st.value;
-                  takes = λ f is_set. taken o sa.takes f (sym (field-is (target_text st.s.target) o refl f) ∙ is_set);
-                },
-                behind-value st.s.value a.all b.1 (subst (Stops st.s.value) a.is st.stops), h.statements);
+            statements = (
+              skips-are st.gap [] st.gap_is tt,
+              record {
+                target = st.target;
+                behind_target = st.behind_target;
+                blank_behind_target = st.blank_behind_target;
+                behind_equals = st.behind_equals;
+                value = st.value;
+                takes = λ f is_set. taken o sa.takes f (sym (field-is (target_text st.s.target) o refl f) ∙ is_set);
+              },
+              behind-value st.s.value a.all b.1 (subst (Stops st.s.value) a.is st.stops),
+              h.statements,
+            );
             tells = λ f.
                 ap (λ t. told settings f ++ map rows_of (cond t (st.s.value ∷ values_of f a.all) (values_of f a.all))) (field-is (target_text st.s.target) o refl f)
                 ∙ sa.tells f (values_of f a.all) ∙ h.tells f;
@@ -472,8 +472,8 @@ all-read text (suc n) settings rest case few r clean e = by_tokens (tokens_at te
         (sym (case-separator text settings token tokens t) ∙ e)).0
     | inr t ↦
         let p = then-ok (statement_at text None token tokens)
-            (λ (read : Setting × List Token). and_then (with_setting settings (read.0).field (read.0).rows) (λ next. case_from text None next (length tokens - length read.1) tokens)) case
-            (sym (case-other text settings token tokens t) ∙ e) in
+        (λ (read : Setting × List Token). and_then (with_setting settings (read.0).field (read.0).rows) (λ next. case_from text None next (length tokens - length read.1) tokens)) case
+        (sym (case-other text settings token tokens t) ∙ e) in
         let q = then-ok (with_setting settings ((p.0).0).field ((p.0).0).rows) (λ next. case_from text None next (length tokens - length (p.0).1) tokens) case p.2 in
         all-statement text n later settings q.0 rest case token.line p.0 (Prim.omega arith) (statement-of text rest token tokens p.0 r clean is p.1) q.1
         (sym (case-rest text q.0 (p.0).1 tokens (rest-statement text None token tokens p.0 p.1)) ∙ q.2)
@@ -601,7 +601,7 @@ body-of text matrices clean e =
     let whole : IsRest text text = record { before = []; is = refl } in
     let clean_at = clean-as text (token_list text) (tokens_at text 0 text) (at-start text) clean in
     let s = start-read text (suc (length text)) text matrices (Prim.omega arith) whole clean_at
-        (ap (λ (l : TokenList). statements_from text None l.tokens) (sym (at-start text)) ∙ ap (λ stop. statements_from text stop (token_list text).tokens) (sym clean.fault) ∙ e) in
+    (ap (λ (l : TokenList). statements_from text None l.tokens) (sym (at-start text)) ∙ ap (λ stop. statements_from text stop (token_list text).tokens) (sym clean.fault) ∙ e) in
     let a = all-read text (suc (length s.behind)) no_settings s.behind matrices (Prim.omega arith) s.here s.clean s.reads in
     let blocks = none-at_all text (s.none a.none) in
     let h = a.holds blocks in
@@ -622,9 +622,11 @@ body-of text matrices clean e =
 mark-of : (bytes : List ℕ) → (mark : Bool) × (bytes ≡ cond mark (239 ∷ 187 ∷ 191 ∷ without_mark bytes) (without_mark bytes))
 unfolding without_mark
 mark-of bytes = elim (cases_Bool (bytes_eq (take 3 bytes) (239 ∷ 187 ∷ 191 ∷ []))) [
-  | inl t ↦
-      (true, sym (take-append-drop 3 bytes) ∙ ap (λ xs. xs ++ drop 3 bytes) ((bytes_eq-Decides (take 3 bytes) (239 ∷ 187 ∷ 191 ∷ [])).0 t)
-      ∙ ap (λ xs. 239 ∷ 187 ∷ 191 ∷ xs) (sym (cond-true (bytes_eq (take 3 bytes) (239 ∷ 187 ∷ 191 ∷ [])) _ _ t)))
+  | inl t ↦ (
+    true,
+    sym (take-append-drop 3 bytes) ∙ ap (λ xs. xs ++ drop 3 bytes) ((bytes_eq-Decides (take 3 bytes) (239 ∷ 187 ∷ 191 ∷ [])).0 t)
+        ∙ ap (λ xs. 239 ∷ 187 ∷ 191 ∷ xs) (sym (cond-true (bytes_eq (take 3 bytes) (239 ∷ 187 ∷ 191 ∷ [])) _ _ t)),
+  )
   | inr t ↦ (false, sym (cond-false (bytes_eq (take 3 bytes) (239 ∷ 187 ∷ 191 ∷ [])) _ _ t))
 ]
 
@@ -636,7 +638,9 @@ read-derived bytes matrices e =
     let b = body-of text matrices (case-clean bytes matrices e) e in
     let m = mark-of bytes in
     let case : CaseText = record { mark = m.0; before = b.before; first = b.first; others = b.others } in
-    let body : text ≡ body_text case = b.is ∙ text-bytes case in
-    (case, m.1 ∙ ap (λ xs. cond m.0 (239 ∷ 187 ∷ 191 ∷ xs) xs) body,
-    record { before = b.before_is; first = b.first_is; behind_name = b.behind_name; others = b.statements; no_blocks = subst HasNoBlocks body b.no_blocks },
-    b.gives)
+    let body : text ≡ body_text case = b.is ∙ text-bytes case in (
+      case,
+      m.1 ∙ ap (λ xs. cond m.0 (239 ∷ 187 ∷ 191 ∷ xs) xs) body,
+      record { before = b.before_is; first = b.first_is; behind_name = b.behind_name; others = b.statements; no_blocks = subst HasNoBlocks body b.no_blocks },
+      b.gives,
+    )

@@ -1,5 +1,5 @@
 -- The texts of trees in front of what follows them.
-use Rattle.std.proofs.Common.{◌≡◌, ℕ, List, [], ◌∷◌, ◌++◌, refl, sym, ap, subst, ◌∙◌, append_assoc, append-nil, codes}
+use Rattle.std.proofs.Common.{◌≡◌, ℕ, List, [], ◌∷◌, ◌++◌, refl, sym, ap, subst, ◌∙◌, append_assoc, codes}
 use Rattle.case_grammar.specs.Gaps.{Skip, blank, continued, skip_text, Gap, gap_text, LineEnd, bare, commented, line_end_text}
 use Rattle.case_grammar.specs.Values.{Character, one, doubled, characters_text, RowEnd, semicolon, line_end, row_end_text, Value, number, string, matrix, cells, Rows, last_row, row_then, Row, no_elements, elements, More, no_more, last_comma, after_blanks, after_comma, value_text, rows_text, row_text, more_text}
 use Rattle.case_grammar.specs.Statements as statements

@@ -1,27 +1,27 @@
 -- The first token of a text outside brackets, and what it is of.
-use Rattle.std.proofs.Common.{◌≡◌, ◌≢◌, ℕ, zero, suc, ◌+◌, ◌-◌, ◌<◌, ◌≤◌, ◌==◌, ◌&&◌, ◌||◌, ◌⊎◌, Bool, true, false, not, List, [], ◌∷◌, ◌++◌, length, refl, sym, ap, subst, ◌∙◌, arith, Option, Some, None, Result, Ok, Err, cond, inl, inr, length-append}
+use Rattle.std.proofs.Common.{◌≡◌, ℕ, suc, ◌<◌, Bool, true, false, List, [], ◌∷◌, ◌++◌, length, refl, sym, ap, subst, ◌∙◌, arith, length-append}
 use Rattle.std.proofs.lemmas.Bool.{false≢true}
 use Rattle.case_tokens.specs.declared.Kind.TheVariants as kind
 use Rattle.case_tokens.specs.declared.Token.{Token}
-use Rattle.case_tokens.specs.Bytes.{is_mark, ends_run}
-use Rattle.case_tokens.specs.TokenLists.{TokenList, is_inside, with_first}
+use Rattle.case_tokens.specs.Bytes.{ends_run}
+use Rattle.case_tokens.specs.TokenLists.{TokenList, with_first}
 use Rattle.case_tokens.specs.Pieces.{piece_at}
 use Rattle.case_text.specs.declared.words.Bracket.{Bracket}
 use Rattle.case_text.specs.declared.words.Bracket.TheVariants as bracket
 use Rattle.case_text.specs.declared.words.Word.{Word}
 use Rattle.case_text.specs.declared.words.Word.TheVariants as word
 use Rattle.case_text.specs.Words.{word_of, mark_of, text_of, is_separator, is_equals, is_run}
-use Rattle.case_grammar.specs.Gaps.{Gap, gap_text, IsGap, BeginsBlank, IsSome, blank, continued, LineEnd, bare, commented, line_end_text, IsLineEnd}
+use Rattle.case_grammar.specs.Gaps.{Gap, IsGap, BeginsBlank, IsSome, blank, continued, LineEnd, bare, commented, line_end_text}
 use Rattle.case_grammar.specs.Values.{Character, IsString}
 use Rattle.case_grammar.specs.Statements as statements
 use Rattle.case_grammar.specs.Statements.{Ending, ending_text, IsEnding, Part, IsPart}
-use Rattle.case_grammar.proofs.Texts.{gap_before, gap-before, line_end_before, line_end-before, characters_before, part_before, part-before, IsRest, rest-append, rest-cons}
-use Rattle.case_grammar.proofs.Places.{opened, tokens_at, token_at, token-word, token-text}
+use Rattle.case_grammar.proofs.Texts.{gap_before, line_end_before, line_end-before, characters_before, part_before, IsRest, rest-append, rest-cons}
+use Rattle.case_grammar.proofs.Places.{tokens_at, token-word, token-text}
 use Rattle.case_grammar.proofs.Pieces.{EndsRun, at-comma, at-semicolon, at-equals, at-square, at-curly, string_rest, string-bytes}
 use Rattle.case_grammar.proofs.Fine.{IsClean}
 use Rattle.case_grammar.proofs.Seen.{at-any}
 use Rattle.case_grammar.proofs.Blocks.{NoneFrom}
-use Rattle.case_grammar.proofs.Found.{Found, finds_end, finds_line, finds_mark, finds_string, finds_run, clean-as, clean-behind}
+use Rattle.case_grammar.proofs.Found.{Found, finds_end, finds_line, finds_mark, finds_string, finds_run, clean-behind}
 use Rattle.case_grammar.proofs.Inside.{MarkIs, is_comma, is_semicolon, is_square, is_curly_opening, is_square_end, is_curly_end, is_equals_mark, mark-is, opening_of, shorter-gap}
 
 -- what is left behind the token

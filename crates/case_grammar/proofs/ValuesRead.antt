@@ -1,21 +1,18 @@
 -- A value that is read stands there by the grammar.
-use Rattle.std.proofs.Common.{◌≡◌, ◌≢◌, ℕ, zero, suc, ◌+◌, ◌-◌, ◌<◌, ◌≤◌, ◌==◌, ◌&&◌, ◌||◌, ◌⊎◌, Bool, true, false, not, List, [], ◌∷◌, ◌++◌, length, refl, sym, ap, subst, ◌∙◌, arith, Option, Some, None, Result, Ok, Err, cond, codes, inl, inr, length-append}
+use Rattle.std.proofs.Common.{◌≡◌, ℕ, ◌<◌, ◌&&◌, ◌||◌, Bool, true, false, List, [], ◌∷◌, ◌++◌, length, refl, sym, ap, subst, ◌∙◌, arith, Option, Some, None, Ok, codes, inl, inr, length-append}
 use Rattle.std.specs.Prelude.{is_some}
 use Rattle.std.specs.Str.{bytes_eq}
-use Rattle.std.proofs.lemmas.Bool.{cases_Bool, or_cases, and_parts, false≢true, cond-true, cond-false}
+use Rattle.std.proofs.lemmas.Bool.{or_cases, and_parts, false≢true}
 use Rattle.std.proofs.lemmas.Slice.Eq.{bytes_eq-Decides}
 use Rattle.scaled_decimal.specs.Reading.{is_number_text}
 use Rattle.scaled_decimal.proofs.ReadingLaws.{is_number_text-IsNumber}
-use Rattle.record_reading.specs.Records.{Record}
 use Rattle.record_reading.specs.Steps.{and_then}
 use Rattle.record_reading.proofs.StepLemmas.{then-ok, ok-same}
 use Rattle.case_tokens.specs.declared.Token.{Token}
-use Rattle.case_tokens.specs.TokenLists.{TokenList}
 use Rattle.case_text.specs.declared.CaseFault.{CaseFault}
 use Rattle.case_text.specs.declared.CaseFault.TheVariants as fault
 use Rattle.case_text.specs.declared.Field.{Field}
 use Rattle.case_text.specs.declared.Field.TheVariants as field
-use Rattle.case_text.specs.declared.nests.Before.{Before}
 use Rattle.case_text.specs.declared.nests.Before.TheVariants as before
 use Rattle.case_text.specs.declared.words.Bracket.{Bracket}
 use Rattle.case_text.specs.declared.words.Bracket.TheVariants as bracket
@@ -27,10 +24,10 @@ use Rattle.case_text.specs.Nests.{first_nest, behind_brackets}
 use Rattle.case_text.specs.Statements.{Setting, behind_end, ended, plain_value, bracketed, value_by, matrix_rows, not_version_one}
 use Rattle.case_text.proofs.StatementLemmas.{allowed, refused, no-ok, same-ok}
 use Rattle.case_grammar.specs.Gaps.{Gap, IsGap}
-use Rattle.case_grammar.specs.Values.{Value, number, string, matrix, cells, Rows, last_row, row_then, Row, no_elements, elements, More, no_more, last_comma, after_blanks, after_comma, Content, numbers, plain, anything, IsValue, IsElement, AreRows, IsRow, IsMore, IsString, Character, one, doubled, characters_text, cells_of, rows_of, rows_text}
+use Rattle.case_grammar.specs.Values.{Value, number, string, matrix, cells, Rows, last_row, row_then, Row, no_elements, elements, More, no_more, last_comma, after_blanks, after_comma, Content, numbers, plain, anything, IsValue, IsElement, AreRows, IsRow, IsMore, IsString, Character, one, doubled, characters_text, rows_of, rows_text}
 use Rattle.case_grammar.specs.Statements.{IsTwo, IsNumeral}
 use Rattle.case_grammar.specs.CaseTexts.{HasNoBlocks}
-use Rattle.case_grammar.proofs.Texts.{gap_before, value_before, rows_before, rows-before, characters_before, IsRest, rest-gap, rest-cons}
+use Rattle.case_grammar.proofs.Texts.{gap_before, value_before, rows_before, rows-before, characters_before, IsRest}
 use Rattle.case_grammar.proofs.Places.{tokens_at}
 use Rattle.case_grammar.proofs.Pieces.{EndsRun, string_rest}
 use Rattle.case_grammar.proofs.Closing.{nest_in}

@@ -1,12 +1,12 @@
 -- The bytes of names and numbers: none of them ends a run, and no number begins with three points.
-use Rattle.std.proofs.Common.{◌≡◌, ◌≢◌, ℕ, ◌+◌, ◌<◌, ◌≤◌, ◌==◌, ◌&&◌, ◌||◌, ◌⊎◌, Bool, true, false, not, List, [], ◌∷◌, ◌++◌, length, refl, sym, ap, subst, ◌∙◌, arith, inl, inr, codes}
+use Rattle.std.proofs.Common.{◌≡◌, ◌≢◌, ℕ, ◌+◌, ◌<◌, ◌≤◌, ◌==◌, ◌&&◌, ◌⊎◌, Bool, true, false, List, [], ◌∷◌, ◌++◌, length, refl, sym, ap, subst, ◌∙◌, arith, inl, inr}
 use Rattle.std.specs.Prelude.{IsTrue, nat_le}
 use Rattle.std.specs.List.{AllByRecursion, AllPass, list_all}
-use Rattle.std.specs.Char.{is_ascii_alphabetic, is_ascii_alphanumeric, is_ascii_digit}
+use Rattle.std.specs.Char.{is_ascii_alphabetic, is_ascii_digit}
 use Rattle.std.proofs.lemmas.Bool.{ne_eqb, eqb-true, leb-true, and_parts, and_left, or_from, or_cases, false≢true}
 use Rattle.std.proofs.lemmas.List.Sums.{list_all-from_AllPass}
-use Rattle.scaled_decimal.specs.Decimal.{Decimal, is_mark as is_exponent_mark, IsSign, IsMantissa, IsMarked, IsExponent, Spells, IsWord, IsNotFinite, IsNumber}
-use Rattle.case_tokens.specs.Bytes.{is_blank, is_line_end, is_quote, is_percent, is_mark, ends_run, is_parting, is_opening, is_closing}
+use Rattle.scaled_decimal.specs.Decimal.{is_mark as is_exponent_mark, IsSign, IsMantissa, IsExponent, Spells, IsWord, IsNumber}
+use Rattle.case_tokens.specs.Bytes.{ends_run}
 use Rattle.case_tokens.specs.Pieces.{is_continuation}
 use Rattle.case_text.specs.Names.{is_name_part}
 use Rattle.case_grammar.specs.Statements.{IsName, Target, further_text, target_text, IsTarget}
@@ -80,9 +80,16 @@ pub letter : (b : ℕ) → (97 ≤ b) × (b ≤ 122) → IsInner b
 letter b h = inr (inr (inr (inr h)))
 
 pub target-inner : (target : Target) → IsTarget target → AreInner (target_text target)
-target-inner target h =
-    (letter 109 (Prim.omega arith, Prim.omega arith), (letter 112 (Prim.omega arith, Prim.omega arith), (letter 99 (Prim.omega arith, Prim.omega arith),
-    (inr (inl (Prim.omega arith, Prim.omega arith)), inner-append target.name (further_text target.further) (name-inner target.name h.0) (further-inner target.further h.1)))))
+target-inner target h = (
+  letter 109 (Prim.omega arith, Prim.omega arith),
+  (
+    letter 112 (Prim.omega arith, Prim.omega arith),
+    (
+      letter 99 (Prim.omega arith, Prim.omega arith),
+      (inr (inl (Prim.omega arith, Prim.omega arith)), inner-append target.name (further_text target.further) (name-inner target.name h.0) (further-inner target.further h.1)),
+    ),
+  ),
+)
 
 -- ---- numbers
 digits-inner : (bytes : List ℕ) → list_all is_ascii_digit bytes ≡ true → AreInner bytes

@@ -8,7 +8,7 @@ use Rattle.case_text.specs.declared.Field.TheVariants as field
 use Rattle.case_text.specs.Names.{is_name_part}
 use Rattle.case_text.specs.Matrices.{IsEven, least_columns}
 use Rattle.case_grammar.specs.Gaps.{Skip, blank, continued, skip_text, IsSkip, Gap, gap_text, IsGap, BeginsBlank, IsSome, LineEnd, line_end_text, IsLineEnd, IsOnLine}
-use Rattle.case_grammar.specs.Values.{Character, one, Value, number, string, matrix, cells, value_text, IsValue, AreRows, numbers, cells_of}
+use Rattle.case_grammar.specs.Values.{one, Value, number, string, matrix, cells, value_text, IsValue, AreRows, numbers, cells_of}
 
 -- ---- Names
 -- A NAME is a letter followed by letters, digits and `_`.
