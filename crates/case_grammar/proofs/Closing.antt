@@ -17,7 +17,7 @@ use Rattle.case_text.specs.Words.{word_of, word_by, mark_of, is_curly, same_brac
 use Rattle.case_text.specs.Nests as nests
 use Rattle.case_text.specs.Nests.{Nest, innermost, where_allowed, step_by, step, behind_brackets}
 use Rattle.record_reading.specs.Steps.{and_then}
-use Rattle.case_grammar.specs.Gaps.{Gap, IsGap, BeginsBlank, IsSome, blank, continued, bare, commented}
+use Rattle.case_grammar.specs.Gaps.{Gap, IsGap, BeginsBlank, IsNotEmpty, blank, continued, bare, commented}
 use Rattle.case_grammar.specs.Values.{Value, number, string, matrix, cells, Rows, last_row, row_then, Row, no_elements, elements, More, no_more, last_comma, after_blanks, after_comma, RowEnd, semicolon, line_end, IsRowEnd, Content, numbers, plain, anything, HoldsStrings, HoldsBrackets, IsBehind, IsElement, AreRows, IsRow, IsMore, IsString, Character}
 use Rattle.case_grammar.specs.CaseTexts.{HasNoBlocks}
 use Rattle.case_grammar.proofs.Texts.{gap_before, row_end_before, value_before, rows_before, row_before, more_before, characters_before, IsRest, rest-cons, rest-gap, rest-row_end, rest-value, rest-rows, rest-row}
@@ -149,12 +149,12 @@ followed-gap (string quote characters) gap rest h k p = parted-gap gap rest h k 
 followed-gap (matrix rows) gap rest h k p = tt
 followed-gap (cells rows) gap rest h k p = tt
 
-parted-some : (gap : Gap) (rest : List ℕ) → IsGap gap → BeginsBlank gap → IsSome gap → is_parted (gap_before gap rest) ≡ true
+parted-some : (gap : Gap) (rest : List ℕ) → IsGap gap → BeginsBlank gap → IsNotEmpty gap → is_parted (gap_before gap rest) ≡ true
 parted-some [] rest h k some = absurd some
 parted-some (blank b ∷ gap) rest h k some = blank-follows b h.0
 parted-some (continued c ∷ gap) rest h k some = absurd k
 
-followed-blanks : (value : Value) (gap : Gap) (rest : List ℕ) → IsGap gap → IsBehind value gap → IsSome gap → IsFollowed value (gap_before gap rest)
+followed-blanks : (value : Value) (gap : Gap) (rest : List ℕ) → IsGap gap → IsBehind value gap → IsNotEmpty gap → IsFollowed value (gap_before gap rest)
 followed-blanks (number text) gap rest h k some = parted-some gap rest h k some
 followed-blanks (string quote characters) gap rest h k some = parted-some gap rest h k some
 followed-blanks (matrix rows) gap rest h k some = tt

@@ -30,9 +30,9 @@ use Rattle.case_text.specs.Statements.{Setting, Read, behind_end, ended, plain_v
 use Rattle.case_text.specs.Settings.{Settings, no_settings, with_setting, with_field, all_set}
 use Rattle.case_text.specs.Cases.{case_from, named_from, function_from, statements_from, without_mark, case_of}
 use Rattle.case_text.proofs.StatementLemmas as statement_lemmas
-use Rattle.case_grammar.specs.Gaps.{Gap, IsGap, BeginsBlank, IsSome, blank, continued}
+use Rattle.case_grammar.specs.Gaps.{Gap, IsGap, BeginsBlank, IsNotEmpty, blank, continued}
 use Rattle.case_grammar.specs.Values.{Character, one, Value, number, string, matrix, cells, Rows, IsValue, IsString, AreRows, plain, anything, numbers, rows_of, Content}
-use Rattle.case_grammar.specs.Statements.{IsName, Target, target_text, IsTarget, First, first_text, IsFirst, Statement, IsStatement, Takes, Part, Statements, ends, another, AreStatements, AreBehindName, AreBehindValue, values_of, HasEnd, ending_text, parts_text}
+use Rattle.case_grammar.specs.Statements.{IsName, Target, target_text, IsTarget, First, first_text, IsFirst, Statement, IsStatement, Takes, Part, Statements, ends, another, AreStatements, EndWord, EndStatement, AreBehind, values_of, HasEnd, ending_text, parts_text}
 use Rattle.case_grammar.specs.CaseTexts.{CaseText, body_text, case_text, HasNoBlocks, IsText, Gives, IsCaseText}
 use Rattle.case_grammar.proofs.Texts.{gap_before, value_before, rows_before, characters_before, first_before, first-before, statement_before, parts_before, parts-before, statements_bytes, statements-bytes, IsRest, rest-append, rest-cons, rest-gap, rest-rows, rest-parts, rest-statement, rest-first}
 use Rattle.case_grammar.proofs.Places.{tokens_at, token_at, token-word, token-text, at-start}
@@ -253,20 +253,19 @@ reads-cells text blocks None line rows rest h t r =
     }
 
 -- what stands behind a value lets it end
-behind-run : (digits : List ℕ) (more : Statements) → AreStatements more → AreBehindValue (number digits) more → EndsRun false (statements_bytes more)
-behind-run digits (ends parts ending) h k = text-ends parts ending h.0 k
-behind-run digits (another parts s more) h k = word-ends parts (statement_before s (statements_bytes more)) h.0 k.0
+behind-word : (all : Statements) → AreStatements all → EndWord all → EndsRun false (statements_bytes all)
+behind-word (ends parts ending) h k = text-ends parts ending h.0 k
+behind-word (another parts s more) h k = word-ends parts (statement_before s (statements_bytes more)) h.0 k
 
-behind-string : (quote : ℕ) (characters : List Character) (more : Statements) → (quote ≡ 39) ⊎ (quote ≡ 34) → AreStatements more → AreBehindValue (string quote characters) more →
-    GoesOnWithout quote (statements_bytes more)
-behind-string quote characters (ends parts ending) q h k = unquoted-ending quote parts ending q h.0
-behind-string quote characters (another parts s more) q h k = unquoted-parts quote parts (statement_before s (statements_bytes more)) q h.0 k
+behind-string : (quote : ℕ) (more : Statements) → (quote ≡ 39) ⊎ (quote ≡ 34) → AreStatements more → EndStatement more → GoesOnWithout quote (statements_bytes more)
+behind-string quote (ends parts ending) q h k = unquoted-ending quote parts ending q h.0
+behind-string quote (another parts s more) q h k = unquoted-parts quote parts (statement_before s (statements_bytes more)) q h.0 k
 
-pub reads-value : (text : List ℕ) → HasNoBlocks text → (field : Option Field) (line : ℕ) (value : Value) (more : Statements) → IsValue value → TakesAs field value → AreStatements more → AreBehindValue value more →
+pub reads-value : (text : List ℕ) → HasNoBlocks text → (field : Option Field) (line : ℕ) (value : Value) (more : Statements) → IsValue value → TakesAs field value → AreStatements more → AreBehind value more →
     IsRest text (value_before value (statements_bytes more)) → ReadsValue text field line value (statements_bytes more)
-reads-value text blocks field line (number digits) more h t s k r = reads-number text field line digits (statements_bytes more) h t r (behind-run digits more s k)
+reads-value text blocks field line (number digits) more h t s k r = reads-number text field line digits (statements_bytes more) h t r (behind-word more s k.1)
 reads-value text blocks field line (string quote characters) more h t s k r =
-    reads-string text field line quote characters (statements_bytes more) h.1 t r (behind-string quote characters more (h.1).0 s k)
+    reads-string text field line quote characters (statements_bytes more) h.1 t r (behind-string quote more (h.1).0 s k)
 reads-value text blocks field line (matrix rows) more h t s k r = reads-matrix text blocks field line rows (statements_bytes more) h t r
 reads-value text blocks field line (cells rows) more h t s k r = reads-cells text blocks field line rows (statements_bytes more) h t r
 
@@ -299,7 +298,7 @@ at-target : (text : List ℕ) (target : Target) (rest : List ℕ) → IsTarget t
 at-target text target rest h r stops = at-word text 109 (codes "pc." ++ (target.name ++ _)) rest r (target-inner target h) (λ e. Prim.omega arith) stops
 
 pub reads-statement : (text : List ℕ) → HasNoBlocks text → (s : Statement) (field : Option Field) (more : Statements) → IsStatement s → field_of (target_text s.target) ≡ field → TakesAs field s.value →
-    AreStatements more → AreBehindValue s.value more → IsRest text (statement_before s (statements_bytes more)) → ReadsStatement text s field (statements_bytes more)
+    AreStatements more → AreBehind s.value more → IsRest text (statement_before s (statements_bytes more)) → ReadsStatement text s field (statements_bytes more)
 unfolding mark_of
 reads-statement text blocks s field more h f t all k r =
     let target : List ℕ = target_text s.target in
@@ -417,18 +416,17 @@ pub record ReadsAll (text : List ℕ) (settings : Settings) (list : TokenList) (
   pub case_is : case_from text None settings 0 list.tokens ≡ Ok case
   pub fault : list.fault ≡ None
 
-can-end : (value : Value) (parts : List Part) (s : Statement) (more : Statements) → AreBehindValue value (another parts s more) → HasEnd parts
-can-end (number digits) parts s more h = h.1
-can-end (string quote characters) parts s more h = h
-can-end (matrix rows) parts s more h = h
-can-end (cells rows) parts s more h = h
+can-end : (value : Value) (more : Statements) → AreBehind value more → EndStatement more
+can-end (number digits) more h = h.0
+can-end (string quote characters) more h = h
+can-end (matrix rows) more h = h
+can-end (cells rows) more h = h
 
-ends-behind : (text : List ℕ) → HasNoBlocks text → (line : ℕ) (value : Value) (more : Statements) → AreStatements more → AreBehindValue value more → IsRest text (statements_bytes more) →
+ends-behind : (text : List ℕ) → HasNoBlocks text → (line : ℕ) (more : Statements) → AreStatements more → EndStatement more → IsRest text (statements_bytes more) →
     EndsAt text line (tokens_at text 0 (statements_bytes more))
-ends-behind text blocks line value (ends parts ending) h k r =
+ends-behind text blocks line (ends parts ending) h k r =
     ends-all text blocks line parts (ending_text ending) h.0 r (inr (ap (λ (l : TokenList). l.tokens) (at-ending text blocks ending h.1 (rest-parts text parts (ending_text ending) r))))
-ends-behind text blocks line value (another parts s more) h k r =
-    ends-all text blocks line parts (statement_before s (statements_bytes more)) h.0 r (inl (can-end value parts s more k))
+ends-behind text blocks line (another parts s more) h k r = ends-all text blocks line parts (statement_before s (statements_bytes more)) h.0 r (inl k)
 
 case-end : (text : List ℕ) (settings : Settings) (list : TokenList) (case : CaseMatrices) → list ≡ record { tokens = []; fault = None } → all_set settings ≡ Ok case →
     case_from text None settings 0 list.tokens ≡ Ok case
@@ -451,7 +449,7 @@ reads-all text blocks (another parts s more) settings case h r tells =
     let r2 = rest-statement text s (statements_bytes more) r1 in
     let same = same-all text blocks parts (statement_before s (statements_bytes more)) h.0 r in
     let st = reads-statement text blocks s o more h.1 refl takes h.3 h.2 r1 in
-    let end = ends-behind text blocks st.token.line s.value more h.3 h.2 r2 in
+    let end = ends-behind text blocks st.token.line more h.3 (can-end s.value more h.2) r2 in
     let n = next-set settings case o s.value (λ f. values_of f more) takes
     (λ f. ap (λ b. told settings f ++ map rows_of (cond b (s.value ∷ values_of f more) (values_of f more))) (sym (field-is (target_text s.target) o refl f)) ∙ tells f) in
     let behind = reads-all text blocks more n.next case h.3 r2
@@ -498,14 +496,10 @@ unfolding letters_from
 mpc-inner = small (codes "mpc") refl
 
 -- a gap that parts words begins with a blank
-blank-gap : (gap : Gap) (rest : List ℕ) → IsGap gap → BeginsBlank gap → IsSome gap → EndsRun false (gap_before gap rest)
+blank-gap : (gap : Gap) (rest : List ℕ) → IsGap gap → BeginsBlank gap → IsNotEmpty gap → EndsRun false (gap_before gap rest)
 blank-gap [] rest h k some = absurd some
 blank-gap (blank b ∷ gap) rest h k some = blank-ends false b h.0
 blank-gap (continued c ∷ gap) rest h k some = absurd k
-
-behind-name : (all : Statements) → AreStatements all → AreBehindName all → EndsRun false (statements_bytes all)
-behind-name (ends parts ending) h k = text-ends parts ending h.0 k
-behind-name (another parts s more) h k = word-ends parts (statement_before s (statements_bytes more)) h.0 k
 
 no-mark : (bytes : List ℕ) → HasNoMark bytes → without_mark bytes ≡ bytes
 unfolding without_mark
@@ -593,7 +587,7 @@ body-read case matrices h gives =
     let r2 = rest-first text case.first rest r1 in
     let start : token_list text ≡ tokens_at text 0 (text_bytes case) = at-start text ∙ ap (tokens_at text 0) (sym (text-bytes case)) in
     let same = same-all text h.no_blocks case.before (first_before case.first rest) h.before r0 in
-    let first = reads-first text case.first rest h.first r1 (behind-name case.others h.others h.behind_name) in
+    let first = reads-first text case.first rest h.first r1 (behind-word case.others h.others h.behind_name) in
     let all = reads-all text h.no_blocks case.others no_settings matrices h.others r2 (λ f. ap (λ xs. xs ++ map rows_of (values_of f case.others)) (told-none f) ∙ gives f) in
     let none : (token_list text).fault ≡ None =
     ap (λ (l : TokenList). l.fault) start ∙ same.fault ∙ ap (λ (l : TokenList). l.fault) first.tokens ∙ first.fault ∙ all.fault in

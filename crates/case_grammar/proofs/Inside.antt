@@ -20,7 +20,7 @@ use Rattle.case_text.specs.Nests as nests
 use Rattle.case_text.specs.Nests.{Nest, innermost, where_allowed, step_by, step, behind_brackets}
 use Rattle.case_text.proofs.StatementLemmas.{no-ok}
 use Rattle.record_reading.specs.Steps.{and_then}
-use Rattle.case_grammar.specs.Gaps.{Gap, gap_text, IsGap, BeginsBlank, IsSome, blank, continued, LineEnd, bare, commented, line_end_text}
+use Rattle.case_grammar.specs.Gaps.{Gap, gap_text, IsGap, BeginsBlank, IsNotEmpty, blank, continued, LineEnd, bare, commented, line_end_text}
 use Rattle.case_grammar.specs.Values.{Value, number, string, matrix, cells, Rows, last_row, row_then, Row, no_elements, elements, More, no_more, last_comma, after_blanks, after_comma, RowEnd, semicolon, line_end, IsRowEnd, Content, numbers, plain, anything, HoldsStrings, IsBehind, IsElement, AreRows, IsRow, IsMore, IsString, Character, rows_text}
 use Rattle.case_grammar.proofs.Texts.{gap_before, row_end_before, line_end_before, value_before, rows_before, row_before, more_before, characters_before, rows-before, gap-before, line_end-before, IsRest, rest-append, rest-cons}
 use Rattle.case_grammar.proofs.Places.{opened, tokens_at, token_at, place_of, place-more, token-word}
@@ -620,7 +620,7 @@ gap-behind (string quote characters) gap rest h = begins-blank gap rest h
 gap-behind (matrix rows) gap rest h = tt
 gap-behind (cells rows) gap rest h = tt
 
-some-gap : (at start : ℕ) (gap : Gap) → start ≡ at + length (gap_text gap) → nat_lt at start ≡ true → IsSome gap
+some-gap : (at start : ℕ) (gap : Gap) → start ≡ at + length (gap_text gap) → nat_lt at start ≡ true → IsNotEmpty gap
 some-gap at start [] e h = absurd (false≢true (sym (le-ltb at start (Prim.omega arith)) ∙ h))
 some-gap at start (skip ∷ gap) e h = tt
 

@@ -8,7 +8,7 @@ use Rattle.case_tokens.specs.declared.Kind.TheVariants as kind
 use Rattle.case_tokens.specs.Bytes.{is_blank, is_line_end, is_quote, is_percent, is_parting, is_opening, is_closing, ends_run, may_follow}
 use Rattle.case_tokens.specs.Pieces.{is_parted}
 use Rattle.case_tokens.specs.TokenLists.{is_inside, with_first}
-use Rattle.case_grammar.specs.Gaps.{blank, continued, Gap, gap_text, IsGap, BeginsBlank, IsSome, LineEnd, bare, commented, IsLineEnd}
+use Rattle.case_grammar.specs.Gaps.{blank, continued, Gap, gap_text, IsGap, BeginsBlank, IsNotEmpty, LineEnd, bare, commented, IsLineEnd}
 use Rattle.case_grammar.specs.CaseTexts.{HasNoBlocks}
 use Rattle.case_grammar.proofs.Texts.{gap_before, gap-before, line_end_before, IsRest, rest-append, rest-cons, rest-skip}
 use Rattle.case_grammar.proofs.Places.{opened, tokens_at, token_at, place_of, place-more}
@@ -28,7 +28,7 @@ place-gap text gap rest r =
     let e = gap-before gap rest in
     place-more text (gap_text gap) rest (subst (IsRest text) e r) ∙ ap (λ xs. place_of text xs + length (gap_text gap)) (sym e)
 
-pub gap-some : (gap : Gap) → IsSome gap → 0 < length (gap_text gap)
+pub gap-some : (gap : Gap) → IsNotEmpty gap → 0 < length (gap_text gap)
 gap-some [] h = absurd h
 gap-some (blank b ∷ gap) h = Prim.omega arith
 gap-some (continued c ∷ gap) h = Prim.omega arith

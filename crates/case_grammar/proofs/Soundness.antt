@@ -27,7 +27,7 @@ use Rattle.case_text.specs.Cases.{case_from, is_run_of, function_from, statement
 use Rattle.case_text.proofs.StatementLemmas.{allowed, refused, no-ok, same-ok, rest-statement}
 use Rattle.case_grammar.specs.Gaps.{blank, continued, Gap, IsGap, BeginsBlank}
 use Rattle.case_grammar.specs.Values.{Value, number, string, matrix, cells, rows_of, cells_of, IsValue}
-use Rattle.case_grammar.specs.Statements.{target_text, IsTarget, First, IsFirst, Statement, IsMatrixOf, Takes, Part, skipped, line_end, semicolon, comma, IsPart, AreParts, HasEnd, PartsWord, EndsWord, Ending, here, in_comment, in_continuation, ending_text, IsEnding, Statements, ends, another, AreStatements, AreBehindName, AreBehindValue, values_of}
+use Rattle.case_grammar.specs.Statements.{target_text, IsTarget, First, IsFirst, Statement, IsMatrixOf, Takes, Part, skipped, line_end, semicolon, comma, IsPart, AreParts, HasEnd, PartsWord, EndsWord, Ending, here, in_comment, in_continuation, ending_text, IsEnding, Statements, ends, another, AreStatements, EndWord, EndStatement, AreBehind, values_of}
 use Rattle.case_grammar.specs.CaseTexts.{CaseText, body_text, HasNoBlocks, IsCaseText}
 use Rattle.case_grammar.proofs.Texts.{gap_before, first_before, statement_before, part_before, parts_before, statements_bytes, IsRest}
 use Rattle.case_grammar.proofs.Places.{tokens_at, at-start}
@@ -277,12 +277,7 @@ unfolding prepend
 prepend-values gap part (ends parts ending) f = refl
 prepend-values gap part (another parts s more) f = refl
 
--- something ends a statement before another
-abbrev EndsBefore : Statements → Type 0
-EndsBefore (ends parts ending) = Unit {0}
-EndsBefore (another parts s more) = HasEnd parts
-
-prepend-ends : (gap : Gap) (part : Part) (all : Statements) → HasEnd (part ∷ []) → EndsBefore (prepend gap part all)
+prepend-ends : (gap : Gap) (part : Part) (all : Statements) → HasEnd (part ∷ []) → EndStatement (prepend gap part all)
 unfolding prepend
 prepend-ends gap part (ends parts ending) h = tt
 prepend-ends gap part (another parts s more) h = skips-end gap (part ∷ parts) (first-ends part parts h)
@@ -314,19 +309,19 @@ ending-parts (line_end end ∷ parts) ending k = tt
 ending-parts (semicolon ∷ parts) ending k = tt
 ending-parts (comma ∷ parts) ending k = tt
 
-behind-name : (all : Statements) → EndsRun false (statements_bytes all) → AreBehindName all
+behind-name : (all : Statements) → EndsRun false (statements_bytes all) → EndWord all
 behind-name (ends parts ending) k = ending-parts parts ending k
 behind-name (another parts s more) k = name-parts parts s (statements_bytes more) k
 
-behind-value : (value : Value) (all : Statements) → EndsBefore all → Stops value (statements_bytes all) → AreBehindValue value all
-behind-value (number digits) (ends parts ending) h k = ending-parts parts ending k
-behind-value (number digits) (another parts s more) h k = (word-parts parts (statement_before s (statements_bytes more)) h k, h)
-behind-value (string quote characters) (ends parts ending) h k = tt
-behind-value (string quote characters) (another parts s more) h k = h
-behind-value (matrix rows) (ends parts ending) h k = tt
-behind-value (matrix rows) (another parts s more) h k = h
-behind-value (cells rows) (ends parts ending) h k = tt
-behind-value (cells rows) (another parts s more) h k = h
+value-parts : (all : Statements) → EndStatement all → EndsRun false (statements_bytes all) → EndWord all
+value-parts (ends parts ending) h k = ending-parts parts ending k
+value-parts (another parts s more) h k = word-parts parts (statement_before s (statements_bytes more)) h k
+
+behind-value : (value : Value) (all : Statements) → EndStatement all → Stops value (statements_bytes all) → AreBehind value all
+behind-value (number digits) all h k = (h, value-parts all h k)
+behind-value (string quote characters) all h k = h
+behind-value (matrix rows) all h k = h
+behind-value (cells rows) all h k = h
 
 -- ---- the text ends, or has a first token
 record EndOf (text rest : List ℕ) : Type 0 where
@@ -395,7 +390,7 @@ all-end text settings rest case h e = record {
 
 -- something that parts statements, and what is behind it
 all-part : (text : List ℕ) (n : ℕ) → AllReads text n → (settings : Settings) (rest : List ℕ) (case : CaseMatrices) (more : List Token) → length rest ≤ n → PartOf text rest more →
-    case_from text None settings 0 more ≡ Ok case → (a : AllOf text settings rest case) × EndsBefore a.all
+    case_from text None settings 0 more ≡ Ok case → (a : AllOf text settings rest case) × EndStatement a.all
 all-part text n later settings rest case more few p e =
     let t = p.tail in
     let a = later settings p.behind case (Prim.omega (arith, t.shorter)) t.here t.clean (ap (case_from text None settings 0) t.tokens ∙ e) in (
@@ -413,10 +408,10 @@ all-part text n later settings rest case more few p e =
 
 -- the end of a statement, and what is behind it
 all-behind : (text : List ℕ) (n : ℕ) → AllReads text n → (settings : Settings) (line : ℕ) (rest : List ℕ) (case : CaseMatrices) (left : List Token) → length rest ≤ n → IsRest text rest →
-    IsClean text (tokens_at text 0 rest) → behind_end text line (tokens_at text 0 rest).tokens ≡ Ok left → case_from text None settings 0 left ≡ Ok case → (a : AllOf text settings rest case) × EndsBefore a.all
+    IsClean text (tokens_at text 0 rest) → behind_end text line (tokens_at text 0 rest).tokens ≡ Ok left → case_from text None settings 0 left ≡ Ok case → (a : AllOf text settings rest case) × EndStatement a.all
 unfolding behind_end all-end
 all-behind text n later settings line rest case left few r clean h e = by_tokens (tokens_at text 0 rest).tokens refl h where
-  by_tokens : (tokens : List Token) → (tokens_at text 0 rest).tokens ≡ tokens → behind_end text line tokens ≡ Ok left → (a : AllOf text settings rest case) × EndsBefore a.all
+  by_tokens : (tokens : List Token) → (tokens_at text 0 rest).tokens ≡ tokens → behind_end text line tokens ≡ Ok left → (a : AllOf text settings rest case) × EndStatement a.all
   by_tokens [] is h =
       (all-end text settings rest case (end-of text rest r clean is) (ap (case_from text None settings 0) (ok-same {F = CaseFault} [] left h) ∙ e), tt)
   by_tokens (token ∷ tokens) is h =
@@ -591,7 +586,7 @@ record BodyOf (text : List ℕ) (matrices : CaseMatrices) : Type 0 where
   is : text ≡ parts_before before (first_before first (statements_bytes others))
   before_is : AreParts before
   first_is : IsFirst first
-  behind_name : AreBehindName others
+  behind_name : EndWord others
   statements : AreStatements others
   no_blocks : HasNoBlocks text
   gives : (f : Field) → map rows_of (values_of f others) ≡ matrix_of matrices f ∷ []

@@ -11,7 +11,7 @@ use Rattle.case_text.specs.declared.words.Bracket.TheVariants as bracket
 use Rattle.case_text.specs.declared.words.Word.{Word}
 use Rattle.case_text.specs.declared.words.Word.TheVariants as word
 use Rattle.case_text.specs.Words.{word_of, mark_of, text_of, is_separator, is_equals, is_run}
-use Rattle.case_grammar.specs.Gaps.{Gap, IsGap, BeginsBlank, IsSome, blank, continued, LineEnd, bare, commented, line_end_text}
+use Rattle.case_grammar.specs.Gaps.{Gap, IsGap, BeginsBlank, IsNotEmpty, blank, continued, LineEnd, bare, commented, line_end_text}
 use Rattle.case_grammar.specs.Values.{Character, IsString}
 use Rattle.case_grammar.specs.Statements as statements
 use Rattle.case_grammar.specs.Statements.{Ending, ending_text, IsEnding, Part, IsPart}
@@ -220,6 +220,6 @@ gap-blank [] rest h = tt
 gap-blank (blank b ∷ gap) rest h = tt
 gap-blank (continued c ∷ gap) rest h = false≢true h
 
-pub gap-some_word : (gap : Gap) (b : ℕ) (rest : List ℕ) → ends_run false b ≡ false → EndsRun false (gap_before gap (b ∷ rest)) → IsSome gap
+pub gap-some_word : (gap : Gap) (b : ℕ) (rest : List ℕ) → ends_run false b ≡ false → EndsRun false (gap_before gap (b ∷ rest)) → IsNotEmpty gap
 gap-some_word [] b rest e h = false≢true (sym e ∙ h)
 gap-some_word (skip ∷ gap) b rest e h = tt

@@ -7,7 +7,7 @@ use Rattle.case_tokens.specs.TokenLists.{is_blank_line}
 use Rattle.case_text.specs.declared.Field.{Field}
 use Rattle.case_text.specs.Matrices.{CaseMatrices, matrix_of}
 use Rattle.case_grammar.specs.Values.{rows_of}
-use Rattle.case_grammar.specs.Statements.{First, first_text, IsFirst, Part, parts_text, AreParts, Statements, statements_text, AreStatements, AreBehindName, values_of}
+use Rattle.case_grammar.specs.Statements.{First, first_text, IsFirst, Part, parts_text, AreParts, Statements, statements_text, AreStatements, EndWord, values_of}
 
 -- ---- A text is a list of statements, and is skipped what stands before the first.
 pub record CaseText : Type 0 where
@@ -31,7 +31,7 @@ HasNoBlocks text = (before rest : List ℕ) → text ≡ before ++ rest → IsTr
 pub record IsText (case : CaseText) : Type 0 where
   pub before : AreParts case.before
   pub first : IsFirst case.first
-  pub behind_name : AreBehindName case.others
+  pub behind_name : EndWord case.others
   pub others : AreStatements case.others
   pub no_blocks : HasNoBlocks (body_text case)
 

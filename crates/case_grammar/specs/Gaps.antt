@@ -3,7 +3,7 @@ use Rattle.std.specs.Prelude.{◌≢◌, ℕ, List, [], ◌∷◌, ◌++◌, cod
 use Rattle.std.specs.List.{AllByRecursion}
 use Rattle.case_tokens.specs.Bytes.{is_blank}
 
--- A line ends at a line feed: these bytes have none.
+-- A line ends at a line feed, the byte 10. These bytes have none.
 abbrev pub IsOnLine : List ℕ → Type 0
 IsOnLine bytes = AllByRecursion (λ byte. byte ≢ 10) bytes
 
@@ -16,7 +16,7 @@ pub data Skip : Type 0 where
 
 abbrev pub skip_text : Skip → List ℕ
 skip_text (blank byte) = byte ∷ []
-skip_text (continued rest) = codes "..." ++ (rest ++ 10 ∷ [])
+skip_text (continued rest) = codes "..." ++ (rest ++ codes "\n")
 
 abbrev pub IsSkip : Skip → Type 0
 IsSkip (blank byte) = IsTrue (is_blank byte)
@@ -39,10 +39,10 @@ BeginsBlank [] = Unit {0}
 BeginsBlank (blank byte ∷ gap) = Unit {0}
 BeginsBlank (continued rest ∷ gap) = ⊥
 
--- blanks part two words, or continuations with them
-abbrev pub IsSome : Gap → Type 0
-IsSome [] = ⊥
-IsSome (skip ∷ gap) = Unit {0}
+-- Something stands between.
+abbrev pub IsNotEmpty : Gap → Type 0
+IsNotEmpty [] = ⊥
+IsNotEmpty (skip ∷ gap) = Unit {0}
 
 -- ---- A line ends
 pub data LineEnd : Type 0 where
@@ -52,8 +52,8 @@ pub data LineEnd : Type 0 where
   commented : List ℕ → LineEnd
 
 abbrev pub line_end_text : LineEnd → List ℕ
-line_end_text bare = 10 ∷ []
-line_end_text (commented comment) = 37 ∷ (comment ++ 10 ∷ [])
+line_end_text bare = codes "\n"
+line_end_text (commented comment) = codes "%" ++ (comment ++ codes "\n")
 
 abbrev pub IsLineEnd : LineEnd → Type 0
 IsLineEnd bare = Unit {0}

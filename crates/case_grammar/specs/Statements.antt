@@ -7,7 +7,7 @@ use Rattle.case_text.specs.declared.Field.{Field}
 use Rattle.case_text.specs.declared.Field.TheVariants as field
 use Rattle.case_text.specs.Names.{is_name_part}
 use Rattle.case_text.specs.Matrices.{IsEven, least_columns}
-use Rattle.case_grammar.specs.Gaps.{Skip, blank, continued, skip_text, IsSkip, Gap, gap_text, IsGap, BeginsBlank, IsSome, LineEnd, line_end_text, IsLineEnd, IsOnLine}
+use Rattle.case_grammar.specs.Gaps.{Skip, blank, continued, skip_text, IsSkip, Gap, gap_text, IsGap, BeginsBlank, IsNotEmpty, LineEnd, line_end_text, IsLineEnd, IsOnLine}
 use Rattle.case_grammar.specs.Values.{one, Value, number, string, matrix, cells, value_text, IsValue, AreRows, numbers, cells_of}
 
 -- ---- Names
@@ -23,7 +23,7 @@ pub record Target : Type 0 where
 
 abbrev pub further_text : List (List ℕ) → List ℕ
 further_text [] = []
-further_text (name ∷ names) = 46 ∷ (name ++ further_text names)
+further_text (name ∷ names) = codes "." ++ (name ++ further_text names)
 
 abbrev pub target_text : Target → List ℕ
 target_text target = codes "mpc." ++ (target.name ++ further_text target.further)
@@ -39,11 +39,11 @@ pub record First : Type 0 where
   pub name : List ℕ
 
 abbrev pub first_text : First → List ℕ
-first_text first = codes "function" ++ (gap_text first.behind_function ++ (codes "mpc" ++ (gap_text first.behind_mpc ++ 61 ∷ (gap_text first.behind_equals ++ first.name))))
+first_text first = codes "function" ++ (gap_text first.behind_function ++ (codes "mpc" ++ (gap_text first.behind_mpc ++ (codes "=" ++ (gap_text first.behind_equals ++ first.name)))))
 
 pub record IsFirst (first : First) : Type 0 where
   pub behind_function : IsGap first.behind_function
-  pub parted : IsSome first.behind_function
+  pub parted : IsNotEmpty first.behind_function
   pub blank_behind_function : BeginsBlank first.behind_function
   pub behind_mpc : IsGap first.behind_mpc
   pub blank_behind_mpc : BeginsBlank first.behind_mpc
@@ -58,7 +58,7 @@ pub record Statement : Type 0 where
   pub value : Value
 
 abbrev pub statement_text : Statement → List ℕ
-statement_text s = target_text s.target ++ (gap_text s.behind_target ++ 61 ∷ (gap_text s.behind_equals ++ value_text s.value))
+statement_text s = target_text s.target ++ (gap_text s.behind_target ++ (codes "=" ++ (gap_text s.behind_equals ++ value_text s.value)))
 
 -- the names of the five fields that a case has to set
 abbrev pub name_of : Field → List ℕ
@@ -122,8 +122,8 @@ pub data Part : Type 0 where
 abbrev pub part_text : Part → List ℕ
 part_text (skipped skip) = skip_text skip
 part_text (line_end end) = line_end_text end
-part_text semicolon = 59 ∷ []
-part_text comma = 44 ∷ []
+part_text semicolon = codes ";"
+part_text comma = codes ","
 
 abbrev pub IsPart : Part → Type 0
 IsPart (skipped skip) = IsSkip skip
@@ -149,7 +149,7 @@ pub data Ending : Type 0 where
 
 abbrev pub ending_text : Ending → List ℕ
 ending_text here = []
-ending_text (in_comment comment) = 37 ∷ comment
+ending_text (in_comment comment) = codes "%" ++ comment
 ending_text (in_continuation rest) = codes "..." ++ rest
 
 abbrev pub IsEnding : Ending → Type 0
@@ -168,7 +168,7 @@ abbrev pub statements_text : Statements → List ℕ
 statements_text (ends parts ending) = parts_text parts ++ ending_text ending
 statements_text (another parts s more) = parts_text parts ++ (statement_text s ++ statements_text more)
 
--- After the value stands `;`, `,`, a comment or a line end.
+-- After the value stands `;`, `,`, a comment or a line end,
 abbrev pub HasEnd : List Part → Type 0
 HasEnd [] = ⊥
 HasEnd (skipped skip ∷ parts) = HasEnd parts
@@ -176,7 +176,12 @@ HasEnd (line_end end ∷ parts) = Unit {0}
 HasEnd (semicolon ∷ parts) = Unit {0}
 HasEnd (comma ∷ parts) = Unit {0}
 
--- Right after a NAME or a number `...` belongs to that: something else begins what parts it from the next statement,
+-- or the end of the text.
+abbrev pub EndStatement : Statements → Type 0
+EndStatement (ends parts ending) = Unit {0}
+EndStatement (another parts s more) = HasEnd parts
+
+-- Right after a NAME or a number `...` belongs to that: something else begins what stands between it and the next statement,
 abbrev pub PartsWord : List Part → Type 0
 PartsWord [] = ⊥
 PartsWord (skipped (blank byte) ∷ parts) = Unit {0}
@@ -185,32 +190,28 @@ PartsWord (line_end end ∷ parts) = Unit {0}
 PartsWord (semicolon ∷ parts) = Unit {0}
 PartsWord (comma ∷ parts) = Unit {0}
 
--- and what parts it from the end of the text.
+-- and between it and the end of the text, where nothing need stand.
 abbrev pub EndsWord : List Part → Ending → Type 0
 EndsWord [] here = Unit {0}
 EndsWord [] (in_comment comment) = Unit {0}
 EndsWord [] (in_continuation rest) = ⊥
 EndsWord (part ∷ parts) ending = PartsWord (part ∷ parts)
 
--- Behind the NAME of the first statement another may follow on its line.
-abbrev pub AreBehindName : Statements → Type 0
-AreBehindName (ends parts ending) = EndsWord parts ending
-AreBehindName (another parts s more) = PartsWord parts
+-- So behind the NAME of the first statement another may follow on its line.
+abbrev pub EndWord : Statements → Type 0
+EndWord (ends parts ending) = EndsWord parts ending
+EndWord (another parts s more) = PartsWord parts
 
--- behind a value of another statement
-abbrev pub AreBehindValue : Value → Statements → Type 0
-AreBehindValue (number text) (ends parts ending) = EndsWord parts ending
-AreBehindValue (number text) (another parts s more) = PartsWord parts × HasEnd parts
-AreBehindValue (string quote characters) (ends parts ending) = Unit {0}
-AreBehindValue (string quote characters) (another parts s more) = HasEnd parts
-AreBehindValue (matrix rows) (ends parts ending) = Unit {0}
-AreBehindValue (matrix rows) (another parts s more) = HasEnd parts
-AreBehindValue (cells rows) (ends parts ending) = Unit {0}
-AreBehindValue (cells rows) (another parts s more) = HasEnd parts
+-- what stands behind the value of a statement
+abbrev pub AreBehind : Value → Statements → Type 0
+AreBehind (number text) more = EndStatement more × EndWord more
+AreBehind (string quote characters) more = EndStatement more
+AreBehind (matrix rows) more = EndStatement more
+AreBehind (cells rows) more = EndStatement more
 
 abbrev pub AreStatements : Statements → Type 0
 AreStatements (ends parts ending) = AreParts parts × IsEnding ending
-AreStatements (another parts s more) = AreParts parts × IsStatement s × AreBehindValue s.value more × AreStatements more
+AreStatements (another parts s more) = AreParts parts × IsStatement s × AreBehind s.value more × AreStatements more
 
 -- the values that a field is set to
 abbrev pub values_of : Field → Statements → List Value

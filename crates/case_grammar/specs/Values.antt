@@ -1,9 +1,9 @@
 -- Values: numbers, strings, matrices and cell lists.
-use Rattle.std.specs.Prelude.{◌≡◌, ◌≢◌, ◌⊎◌, ℕ, ◌+◌, ◌<◌, List, [], ◌∷◌, ◌++◌}
+use Rattle.std.specs.Prelude.{◌≡◌, ◌≢◌, ◌⊎◌, ℕ, ◌+◌, ◌<◌, List, [], ◌∷◌, ◌++◌, codes}
 use Rattle.std.specs.List.{AllByRecursion}
 use Rattle.scaled_decimal.specs.Decimal.{IsNumber}
 use Rattle.record_reading.specs.Records.{Record}
-use Rattle.case_grammar.specs.Gaps.{Gap, gap_text, IsGap, BeginsBlank, IsSome, LineEnd, line_end_text, IsLineEnd}
+use Rattle.case_grammar.specs.Gaps.{Gap, gap_text, IsGap, BeginsBlank, IsNotEmpty, LineEnd, line_end_text, IsLineEnd}
 
 -- ---- A string stands between two `'` or two `"` on one line. In it stand
 pub data Character : Type 0 where
@@ -32,7 +32,7 @@ pub data RowEnd : Type 0 where
   line_end : LineEnd → RowEnd
 
 abbrev pub row_end_text : RowEnd → List ℕ
-row_end_text semicolon = 59 ∷ []
+row_end_text semicolon = codes ";"
 row_end_text (line_end end) = line_end_text end
 
 abbrev pub IsRowEnd : RowEnd → Type 0
@@ -80,8 +80,8 @@ abbrev mutual
   pub value_text : Value → List ℕ
   value_text (number text) = text
   value_text (string quote characters) = quote ∷ (characters_text quote characters ++ quote ∷ [])
-  value_text (matrix rows) = 91 ∷ (rows_text rows ++ 93 ∷ [])
-  value_text (cells rows) = 123 ∷ (rows_text rows ++ 125 ∷ [])
+  value_text (matrix rows) = codes "[" ++ (rows_text rows ++ codes "]")
+  value_text (cells rows) = codes "{" ++ (rows_text rows ++ codes "}")
 
   pub rows_text : Rows → List ℕ
   rows_text (last_row row) = row_text row
@@ -93,9 +93,9 @@ abbrev mutual
 
   pub more_text : More → List ℕ
   more_text (no_more gap) = gap_text gap
-  more_text (last_comma before behind) = gap_text before ++ 44 ∷ gap_text behind
+  more_text (last_comma before behind) = gap_text before ++ (codes "," ++ gap_text behind)
   more_text (after_blanks gap value more) = gap_text gap ++ (value_text value ++ more_text more)
-  more_text (after_comma before behind value more) = gap_text before ++ 44 ∷ (gap_text behind ++ (value_text value ++ more_text more))
+  more_text (after_comma before behind value more) = gap_text before ++ (codes "," ++ (gap_text behind ++ (value_text value ++ more_text more)))
 
 -- ---- What may stand inside brackets:
 pub data Content : Type 0 where
@@ -144,7 +144,7 @@ abbrev mutual
   IsMore content depth element (no_more gap) = IsGap gap × IsBehind element gap
   IsMore content depth element (last_comma before behind) = IsGap before × IsBehind element before × IsGap behind
   IsMore content depth element (after_blanks gap value more) =
-      IsGap gap × IsBehind element gap × IsSome gap × IsElement content depth value × IsMore content depth value more
+      IsGap gap × IsBehind element gap × IsNotEmpty gap × IsElement content depth value × IsMore content depth value more
   IsMore content depth element (after_comma before behind value more) =
       IsGap before × IsBehind element before × IsGap behind × IsElement content depth value × IsMore content depth value more
 
