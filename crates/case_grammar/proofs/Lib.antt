@@ -17,3 +17,4 @@ pub mod Inside
 pub mod Tokens
 pub mod ValuesRead
 pub mod Soundness
+pub mod WorkedTexts

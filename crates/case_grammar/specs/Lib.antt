@@ -2,3 +2,4 @@ pub mod Gaps
 pub mod Values
 pub mod Statements
 pub mod CaseTexts
+pub mod Worked
