@@ -8,7 +8,7 @@ use Rattle.case_tokens.specs.Pieces.{is_block_rest}
 use Rattle.case_tokens.specs.TokenLists.{is_blank_line}
 use Rattle.case_tokens.proofs.TokenLemmas.{blank_line-push}
 use Rattle.case_grammar.specs.Gaps.{IsOnLine}
-use Rattle.case_grammar.specs.CaseTexts.{HasNoBlocks}
+use Rattle.case_grammar.proofs.Lines.{IsBlockless}
 use Rattle.case_grammar.proofs.Texts.{IsRest}
 use Rattle.case_grammar.proofs.Places.{before_of, before-is}
 
@@ -16,7 +16,7 @@ use Rattle.case_grammar.proofs.Places.{before_of, before-is}
 abbrev pub NoneFrom : List ℕ → List ℕ → Type 0
 NoneFrom text rest = (before behind : List ℕ) → text ≡ before ++ behind → length behind ≤ length rest → IsTrue (is_blank_line before) → IsTrue (is_block_rest (before_first is_line_end behind)) → ⊥
 
-pub none-at_all : (text : List ℕ) → NoneFrom text text → HasNoBlocks text
+pub none-at_all : (text : List ℕ) → NoneFrom text text → IsBlockless text
 none-at_all text h before rest e blank block = h before rest e (Prim.omega (arith, ap (λ (xs : List ℕ). length xs) e, length-append before rest)) blank block
 
 -- ---- where a text is cut within a part of it

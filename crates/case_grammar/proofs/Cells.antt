@@ -13,7 +13,7 @@ use Rattle.case_text.specs.Words.{word_of, text_of, mark_of, is_run}
 use Rattle.case_text.specs.Matrices.{rows_from, some_row, closes, ends_row}
 use Rattle.case_grammar.specs.Gaps.{Gap, IsGap}
 use Rattle.case_grammar.specs.Values.{Value, number, string, matrix, cells, Rows, last_row, row_then, Row, no_elements, elements, More, no_more, last_comma, after_blanks, after_comma, RowEnd, semicolon, line_end, IsRowEnd, numbers, IsElement, AreRows, IsRow, IsMore, more_cells, row_cells, cells_of, value_text}
-use Rattle.case_grammar.specs.CaseTexts.{HasNoBlocks}
+use Rattle.case_grammar.proofs.Lines.{IsBlockless}
 use Rattle.case_grammar.proofs.Texts.{gap_before, row_end_before, value_before, rows_before, row_before, more_before, IsRest, rest-cons, rest-gap, rest-row_end, rest-value, rest-row}
 use Rattle.case_grammar.proofs.Places.{tokens_at, token_at, token-word, token-text}
 use Rattle.case_grammar.proofs.Words.{number-some}
@@ -29,7 +29,7 @@ unfolding rows_from
 rows-by text row token tokens w e =
     ap (λ (x : Word). cond (closes x) (some_row row) (cond (ends_row x) (some_row row ++ rows_from text [] tokens) (rows_from text (row ++ cond (is_run x) (text_of text token ∷ []) []) tokens))) e
 
-module _ (text : List ℕ) (blocks : HasNoBlocks text) where
+module _ (text : List ℕ) (blocks : IsBlockless text) where
   rows-gap : (row : Record) (gap : Gap) (rest : List ℕ) → IsGap gap → IsRest text (gap_before gap rest) →
       rows_from text row (tokens_at text 1 (gap_before gap rest)).tokens ≡ rows_from text row (tokens_at text 1 rest).tokens
   rows-gap row gap rest h r = ap (λ (list : TokenList). rows_from text row list.tokens) (at-gap_before text 1 gap rest h r)

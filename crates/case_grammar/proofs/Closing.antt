@@ -19,7 +19,7 @@ use Rattle.case_text.specs.Nests.{Nest, innermost, where_allowed, step_by, step,
 use Rattle.record_reading.specs.Steps.{and_then}
 use Rattle.case_grammar.specs.Gaps.{Gap, IsGap, BeginsBlank, IsNotEmpty, blank, continued, bare, commented}
 use Rattle.case_grammar.specs.Values.{Value, number, string, matrix, cells, Rows, last_row, row_then, Row, no_elements, elements, More, no_more, last_comma, after_blanks, after_comma, RowEnd, semicolon, line_end, IsRowEnd, Content, numbers, plain, anything, HoldsStrings, HoldsBrackets, IsBehind, IsElement, AreRows, IsRow, IsMore, IsString, Character}
-use Rattle.case_grammar.specs.CaseTexts.{HasNoBlocks}
+use Rattle.case_grammar.proofs.Lines.{IsBlockless}
 use Rattle.case_grammar.proofs.Texts.{gap_before, row_end_before, value_before, rows_before, row_before, more_before, characters_before, IsRest, rest-cons, rest-gap, rest-row_end, rest-value, rest-rows, rest-row}
 use Rattle.case_grammar.proofs.Places.{opened, tokens_at, token_at, place_of, place-more, token-word}
 use Rattle.case_grammar.proofs.Pieces.{at-comma, at-semicolon, at-square, at-curly, at-square_end, at-curly_end, at-string, string_rest, string-bytes}
@@ -175,7 +175,7 @@ row-parted semicolon rest = refl
 row-parted (line_end bare) rest = refl
 row-parted (line_end (commented c)) rest = refl
 
-module _ (text : List ℕ) (blocks : HasNoBlocks text) (only : Bool) where
+module _ (text : List ℕ) (blocks : IsBlockless text) (only : Bool) where
   -- ---- the parts of rows
   closes-gap : (nest : Nest) (depth : ℕ) (gap : Gap) (rest : List ℕ) (left : TokenList) → IsGap gap → IsRest text (gap_before gap rest) →
       Closes text only nest (tokens_at text depth rest) left → Closes text only nest (tokens_at text depth (gap_before gap rest)) left

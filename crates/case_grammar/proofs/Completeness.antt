@@ -33,7 +33,9 @@ use Rattle.case_text.proofs.StatementLemmas as statement_lemmas
 use Rattle.case_grammar.specs.Gaps.{Gap, IsGap, BeginsBlank, IsNotEmpty, blank, continued}
 use Rattle.case_grammar.specs.Values.{Character, one, Value, number, string, matrix, cells, Rows, IsValue, IsString, AreRows, plain, anything, numbers, rows_of, Content}
 use Rattle.case_grammar.specs.Statements.{IsName, Target, target_text, IsTarget, First, first_text, IsFirst, Statement, IsStatement, Takes, Part, Statements, ends, another, AreStatements, EndWord, EndStatement, AreBehind, values_of, HasEnd, ending_text, parts_text}
-use Rattle.case_grammar.specs.CaseTexts.{CaseText, body_text, case_text, HasNoBlocks, IsText, Gives, IsCaseText}
+use Rattle.case_grammar.specs.CaseTexts.{CaseText, body_text, case_text, IsText, Gives, IsCaseText}
+use Rattle.case_grammar.proofs.BlockForms.{blockless}
+use Rattle.case_grammar.proofs.Lines.{IsBlockless}
 use Rattle.case_grammar.proofs.Texts.{gap_before, value_before, rows_before, characters_before, first_before, first-before, statement_before, parts_before, parts-before, statements_bytes, statements-bytes, IsRest, rest-append, rest-cons, rest-gap, rest-rows, rest-parts, rest-statement, rest-first}
 use Rattle.case_grammar.proofs.Places.{tokens_at, token_at, token-word, token-text, at-start}
 use Rattle.case_grammar.proofs.Words.{AreInner, letter, name-inner, target-inner, number-some}
@@ -164,7 +166,7 @@ closes-top text only b st closing rest r w e =
     closes-at text only (nest_in [] b st) _ _ _ e
     (closes-last text only (nest_in [] b st) _ _ _ (step-closing text only (token_at text (closing ∷ rest) kind.Mark 1) [] b st (token-word text kind.Mark 1 closing rest r ∙ w)) refl)
 
-closes-square : (text : List ℕ) → HasNoBlocks text → (only : Bool) (content : Content) (rows : Rows) (rest : List ℕ) → AreRows content 1 rows → Allows content only bracket.Square →
+closes-square : (text : List ℕ) → IsBlockless text → (only : Bool) (content : Content) (rows : Rows) (rest : List ℕ) → AreRows content 1 rows → Allows content only bracket.Square →
     IsRest text (rows_before rows (93 ∷ rest)) → Closes text only (nest_in [] bracket.Square before.Nothing) (tokens_at text 1 (rows_before rows (93 ∷ rest))) (tokens_at text 0 rest)
 unfolding mark_of
 closes-square text blocks only content rows rest h allows r =
@@ -172,7 +174,7 @@ closes-square text blocks only content rows rest h allows r =
     closes-rows text blocks only rows content 1 [] bracket.Square (93 ∷ rest) (tokens_at text 0 rest) h allows refl r refl
     (λ st. closes-top text only bracket.Square st 93 rest s refl (at-square_end text 0 rest s))
 
-closes-curly : (text : List ℕ) → HasNoBlocks text → (only : Bool) (content : Content) (rows : Rows) (rest : List ℕ) → AreRows content 1 rows → Allows content only bracket.Curly →
+closes-curly : (text : List ℕ) → IsBlockless text → (only : Bool) (content : Content) (rows : Rows) (rest : List ℕ) → AreRows content 1 rows → Allows content only bracket.Curly →
     IsRest text (rows_before rows (125 ∷ rest)) → Closes text only (nest_in [] bracket.Curly before.Nothing) (tokens_at text 1 (rows_before rows (125 ∷ rest))) (tokens_at text 0 rest)
 unfolding mark_of
 closes-curly text blocks only content rows rest h allows r =
@@ -196,7 +198,7 @@ record TakesMatrix (text : List ℕ) (field : Option Field) (rows : Rows) (rest 
   closes : Closes text (is_some field) (first_nest bracket.Square) (tokens_at text 1 (rows_before rows (93 ∷ rest))) (tokens_at text 0 rest)
   rows_are : matrix_rows field text (tokens_at text 1 (rows_before rows (93 ∷ rest))).tokens ≡ kept field (matrix rows)
 
-matrix-set : (text : List ℕ) → HasNoBlocks text → (f : Field) (rows : Rows) (rest : List ℕ) → takes_bracket (Some f) bracket.Square ≡ true → AreRows numbers 1 rows →
+matrix-set : (text : List ℕ) → IsBlockless text → (f : Field) (rows : Rows) (rest : List ℕ) → takes_bracket (Some f) bracket.Square ≡ true → AreRows numbers 1 rows →
     IsRest text (rows_before rows (93 ∷ rest)) → TakesMatrix text (Some f) rows rest
 matrix-set text blocks f rows rest t h r = record {
   takes = t;
@@ -204,7 +206,7 @@ matrix-set text blocks f rows rest t h r = record {
   rows_are = rows-rows text blocks rows 1 rest h r;
 }
 
-matrix-taken : (text : List ℕ) → HasNoBlocks text → (field : Option Field) (rows : Rows) (rest : List ℕ) → IsValue (matrix rows) → TakesAs field (matrix rows) →
+matrix-taken : (text : List ℕ) → IsBlockless text → (field : Option Field) (rows : Rows) (rest : List ℕ) → IsValue (matrix rows) → TakesAs field (matrix rows) →
     IsRest text (rows_before rows (93 ∷ rest)) → TakesMatrix text field rows rest
 matrix-taken text blocks None rows rest h t r = record { takes = refl; closes = closes-square text blocks false plain rows rest h.2 (allows-plain false refl) r; rows_are = refl }
 matrix-taken text blocks (Some field.Version) rows rest h t r = absurd t
@@ -213,7 +215,7 @@ matrix-taken text blocks (Some field.Bus) rows rest h t r = matrix-set text bloc
 matrix-taken text blocks (Some field.Gen) rows rest h t r = matrix-set text blocks field.Gen rows rest refl t.0 r
 matrix-taken text blocks (Some field.Branch) rows rest h t r = matrix-set text blocks field.Branch rows rest refl t.0 r
 
-reads-matrix : (text : List ℕ) → HasNoBlocks text → (field : Option Field) (line : ℕ) (rows : Rows) (rest : List ℕ) → IsValue (matrix rows) → TakesAs field (matrix rows) →
+reads-matrix : (text : List ℕ) → IsBlockless text → (field : Option Field) (line : ℕ) (rows : Rows) (rest : List ℕ) → IsValue (matrix rows) → TakesAs field (matrix rows) →
     IsRest text (91 ∷ rows_before rows (93 ∷ rest)) → ReadsValue text field line (matrix rows) rest
 unfolding value_by mark_of
 reads-matrix text blocks field line rows rest h t r =
@@ -236,7 +238,7 @@ cells-untaken field.Bus rows h = h
 cells-untaken field.Gen rows h = h
 cells-untaken field.Branch rows h = h
 
-reads-cells : (text : List ℕ) → HasNoBlocks text → (field : Option Field) (line : ℕ) (rows : Rows) (rest : List ℕ) → IsValue (cells rows) → TakesAs field (cells rows) →
+reads-cells : (text : List ℕ) → IsBlockless text → (field : Option Field) (line : ℕ) (rows : Rows) (rest : List ℕ) → IsValue (cells rows) → TakesAs field (cells rows) →
     IsRest text (123 ∷ rows_before rows (125 ∷ rest)) → ReadsValue text field line (cells rows) rest
 unfolding value_by mark_of
 reads-cells text blocks (Some f) line rows rest h t r = absurd (cells-untaken f rows t)
@@ -261,7 +263,7 @@ behind-string : (quote : ℕ) (more : Statements) → (quote ≡ 39) ⊎ (quote 
 behind-string quote (ends parts ending) q h k = unquoted-ending quote parts ending q h.0
 behind-string quote (another parts s more) q h k = unquoted-parts quote parts (statement_before s (statements_bytes more)) q h.0 k
 
-pub reads-value : (text : List ℕ) → HasNoBlocks text → (field : Option Field) (line : ℕ) (value : Value) (more : Statements) → IsValue value → TakesAs field value → AreStatements more → AreBehind value more →
+pub reads-value : (text : List ℕ) → IsBlockless text → (field : Option Field) (line : ℕ) (value : Value) (more : Statements) → IsValue value → TakesAs field value → AreStatements more → AreBehind value more →
     IsRest text (value_before value (statements_bytes more)) → ReadsValue text field line value (statements_bytes more)
 reads-value text blocks field line (number digits) more h t s k r = reads-number text field line digits (statements_bytes more) h t r (behind-word more s k.1)
 reads-value text blocks field line (string quote characters) more h t s k r =
@@ -297,7 +299,7 @@ at-target : (text : List ℕ) (target : Target) (rest : List ℕ) → IsTarget t
     tokens_at text 0 (target_text target ++ rest) ≡ with_first (token_at text (target_text target ++ rest) kind.Run (length (target_text target))) (tokens_at text 0 rest)
 at-target text target rest h r stops = at-word text 109 (codes "pc." ++ (target.name ++ _)) rest r (target-inner target h) (λ e. Prim.omega arith) stops
 
-pub reads-statement : (text : List ℕ) → HasNoBlocks text → (s : Statement) (field : Option Field) (more : Statements) → IsStatement s → field_of (target_text s.target) ≡ field → TakesAs field s.value →
+pub reads-statement : (text : List ℕ) → IsBlockless text → (s : Statement) (field : Option Field) (more : Statements) → IsStatement s → field_of (target_text s.target) ≡ field → TakesAs field s.value →
     AreStatements more → AreBehind s.value more → IsRest text (statement_before s (statements_bytes more)) → ReadsStatement text s field (statements_bytes more)
 unfolding mark_of
 reads-statement text blocks s field more h f t all k r =
@@ -422,7 +424,7 @@ can-end (string quote characters) more h = h
 can-end (matrix rows) more h = h
 can-end (cells rows) more h = h
 
-ends-behind : (text : List ℕ) → HasNoBlocks text → (line : ℕ) (more : Statements) → AreStatements more → EndStatement more → IsRest text (statements_bytes more) →
+ends-behind : (text : List ℕ) → IsBlockless text → (line : ℕ) (more : Statements) → AreStatements more → EndStatement more → IsRest text (statements_bytes more) →
     EndsAt text line (tokens_at text 0 (statements_bytes more))
 ends-behind text blocks line (ends parts ending) h k r =
     ends-all text blocks line parts (ending_text ending) h.0 r (inr (ap (λ (l : TokenList). l.tokens) (at-ending text blocks ending h.1 (rest-parts text parts (ending_text ending) r))))
@@ -433,7 +435,7 @@ case-end : (text : List ℕ) (settings : Settings) (list : TokenList) (case : Ca
 unfolding case_from
 case-end text settings list case e h = ap (λ (l : TokenList). case_from text None settings 0 l.tokens) e ∙ h
 
-pub reads-all : (text : List ℕ) → HasNoBlocks text → (all : Statements) (settings : Settings) (case : CaseMatrices) → AreStatements all → IsRest text (statements_bytes all) →
+pub reads-all : (text : List ℕ) → IsBlockless text → (all : Statements) (settings : Settings) (case : CaseMatrices) → AreStatements all → IsRest text (statements_bytes all) →
     ((f : Field) → told settings f ++ map rows_of (values_of f all) ≡ matrix_of case f ∷ []) → ReadsAll text settings (tokens_at text 0 (statements_bytes all)) case
 reads-all text blocks (ends parts ending) settings case h r tells =
     let same = same-all text blocks parts (ending_text ending) h.0 r in
@@ -581,14 +583,15 @@ body-read : (case : CaseText) (matrices : CaseMatrices) → IsText case → Give
     statements_from (body_text case) (token_list (body_text case)).fault (token_list (body_text case)).tokens ≡ Ok matrices
 body-read case matrices h gives =
     let text : List ℕ = body_text case in
+    let blocks = blockless (body_text case) h.no_blocks in
     let rest : List ℕ = statements_bytes case.others in
     let r0 : IsRest text (text_bytes case) = record { before = []; is = sym (text-bytes case) } in
     let r1 = rest-parts text case.before (first_before case.first rest) r0 in
     let r2 = rest-first text case.first rest r1 in
     let start : token_list text ≡ tokens_at text 0 (text_bytes case) = at-start text ∙ ap (tokens_at text 0) (sym (text-bytes case)) in
-    let same = same-all text h.no_blocks case.before (first_before case.first rest) h.before r0 in
+    let same = same-all text blocks case.before (first_before case.first rest) h.before r0 in
     let first = reads-first text case.first rest h.first r1 (behind-word case.others h.others h.behind_name) in
-    let all = reads-all text h.no_blocks case.others no_settings matrices h.others r2 (λ f. ap (λ xs. xs ++ map rows_of (values_of f case.others)) (told-none f) ∙ gives f) in
+    let all = reads-all text blocks case.others no_settings matrices h.others r2 (λ f. ap (λ xs. xs ++ map rows_of (values_of f case.others)) (told-none f) ∙ gives f) in
     let none : (token_list text).fault ≡ None =
     ap (λ (l : TokenList). l.fault) start ∙ same.fault ∙ ap (λ (l : TokenList). l.fault) first.tokens ∙ first.fault ∙ all.fault in
     ap (λ stop. statements_from text stop (token_list text).tokens) none

@@ -9,7 +9,7 @@ use Rattle.case_tokens.specs.Bytes.{is_blank, is_line_end, is_quote, is_percent,
 use Rattle.case_tokens.specs.Pieces.{is_parted}
 use Rattle.case_tokens.specs.TokenLists.{is_inside, with_first}
 use Rattle.case_grammar.specs.Gaps.{blank, continued, Gap, gap_text, IsGap, BeginsBlank, IsNotEmpty, LineEnd, bare, commented, IsLineEnd}
-use Rattle.case_grammar.specs.CaseTexts.{HasNoBlocks}
+use Rattle.case_grammar.proofs.Lines.{IsBlockless}
 use Rattle.case_grammar.proofs.Texts.{gap_before, gap-before, line_end_before, IsRest, rest-append, rest-cons, rest-skip}
 use Rattle.case_grammar.proofs.Places.{opened, tokens_at, token_at, place_of, place-more}
 use Rattle.case_grammar.proofs.Words.{AreInner, runs_on, number-inner, number-begins, number-some, no_point}
@@ -33,7 +33,7 @@ gap-some [] h = absurd h
 gap-some (blank b ∷ gap) h = Prim.omega arith
 gap-some (continued c ∷ gap) h = Prim.omega arith
 
-pub at-line_end_before : (text : List ℕ) (depth : ℕ) (end : LineEnd) (rest : List ℕ) → HasNoBlocks text → IsLineEnd end → IsRest text (line_end_before end rest) → IsRest text (10 ∷ rest) →
+pub at-line_end_before : (text : List ℕ) (depth : ℕ) (end : LineEnd) (rest : List ℕ) → IsBlockless text → IsLineEnd end → IsRest text (line_end_before end rest) → IsRest text (10 ∷ rest) →
     tokens_at text depth (line_end_before end rest) ≡ with_first (token_at text (10 ∷ rest) kind.LineEnd 1) (tokens_at text depth rest)
 at-line_end_before text depth bare rest blocks h r s = at-line_end text depth rest s
 at-line_end_before text depth (commented c) rest blocks h r s =

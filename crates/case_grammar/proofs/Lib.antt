@@ -1,3 +1,5 @@
+pub mod Lines
+pub mod BlockForms
 pub mod Texts
 pub mod Places
 pub mod Words

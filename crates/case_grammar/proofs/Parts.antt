@@ -13,7 +13,7 @@ use Rattle.case_text.specs.Cases.{case_from, statements_from, function_from}
 use Rattle.record_reading.specs.Steps.{and_then}
 use Rattle.case_grammar.specs.Gaps.{Skip, blank, continued, IsSkip, bare, commented}
 use Rattle.case_grammar.specs.Statements.{Part, skipped, line_end, semicolon, comma, IsPart, AreParts, HasEnd, PartsWord, EndsWord, Ending, here, in_comment, in_continuation, ending_text, IsEnding}
-use Rattle.case_grammar.specs.CaseTexts.{HasNoBlocks}
+use Rattle.case_grammar.proofs.Lines.{IsBlockless}
 use Rattle.case_grammar.proofs.Texts.{skip_before, part_before, parts_before, IsRest, rest-part}
 use Rattle.case_grammar.proofs.Places.{tokens_at, token_at, token-word, at-end}
 use Rattle.case_grammar.proofs.Pieces.{EndsRun, GoesOnWithout, at-comma, at-semicolon, at-comment, at-unended}
@@ -96,7 +96,7 @@ ends-none text line list e = record {
   same = λ settings. ap (case_from text None settings 0) e;
 }
 
-module _ (text : List ℕ) (blocks : HasNoBlocks text) where
+module _ (text : List ℕ) (blocks : IsBlockless text) where
   at-skip : (skip : Skip) (rest : List ℕ) → IsSkip skip → IsRest text (skip_before skip rest) → tokens_at text 0 (skip_before skip rest) ≡ tokens_at text 0 rest
   at-skip skip rest h r = at-gap_before text 0 (skip ∷ []) rest (h, tt) r
 

@@ -11,7 +11,7 @@ use Rattle.case_tokens.specs.Pieces.{piece_at, comment_at, is_block_rest, is_con
 use Rattle.case_tokens.specs.TokenLists.{is_inside, is_blank_line, with_first}
 use Rattle.case_grammar.specs.Gaps.{IsOnLine}
 use Rattle.case_grammar.specs.Values.{Character, one, doubled, characters_text, IsCharacter, IsString}
-use Rattle.case_grammar.specs.CaseTexts.{HasNoBlocks}
+use Rattle.case_grammar.proofs.Lines.{IsBlockless}
 use Rattle.case_grammar.proofs.Texts.{characters_before, characters-before, IsRest}
 use Rattle.case_grammar.proofs.Places.{opened, tokens_at, token_at, before_of, before-is, at-gap, at-token}
 
@@ -65,7 +65,7 @@ piece-comment inside blank c rest on k never =
     cond-false (blank && is_block_rest (before_first is_line_end (37 ∷ (c ++ rest)))) _ _ never ∙ ap (λ n. piece.Gap n) (Prim.omega (arith, line-length c rest on k))
 
 -- where no block comment may stand
-no-block : (text rest : List ℕ) → HasNoBlocks text → IsRest text rest → (is_blank_line (before_of text rest) && is_block_rest (before_first is_line_end rest)) ≡ false
+no-block : (text rest : List ℕ) → IsBlockless text → IsRest text rest → (is_blank_line (before_of text rest) && is_block_rest (before_first is_line_end rest)) ≡ false
 no-block text rest never r = by_tests (is_blank_line (before_of text rest)) (is_block_rest (before_first is_line_end rest)) refl refl where
   by_tests : (x y : Bool) → is_blank_line (before_of text rest) ≡ x → is_block_rest (before_first is_line_end rest) ≡ y → (x && y) ≡ false
   by_tests true true h k = absurd (never r.before rest r.is (ap is_blank_line (sym (before-is text r.before rest r.is)) ∙ h) k)
@@ -76,7 +76,7 @@ pub at-comment_by : (text : List ℕ) (depth : ℕ) (c rest : List ℕ) → (is_
     IsRest text (37 ∷ (c ++ rest)) → IsOnLine c → IsAtLineEnd rest → tokens_at text depth (37 ∷ (c ++ rest)) ≡ tokens_at text depth rest
 at-comment_by text depth c rest never r on k = at-gap text depth 37 c rest r (piece-comment (is_inside (opened depth)) _ c rest on k never)
 
-pub at-comment : (text : List ℕ) (depth : ℕ) (c rest : List ℕ) → HasNoBlocks text → IsRest text (37 ∷ (c ++ rest)) → IsOnLine c → IsAtLineEnd rest →
+pub at-comment : (text : List ℕ) (depth : ℕ) (c rest : List ℕ) → IsBlockless text → IsRest text (37 ∷ (c ++ rest)) → IsOnLine c → IsAtLineEnd rest →
     tokens_at text depth (37 ∷ (c ++ rest)) ≡ tokens_at text depth rest
 at-comment text depth c rest never r on k = at-comment_by text depth c rest (no-block text (37 ∷ (c ++ rest)) never r) r on k
 

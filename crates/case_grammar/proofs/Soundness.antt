@@ -28,7 +28,9 @@ use Rattle.case_text.proofs.StatementLemmas.{allowed, refused, no-ok, same-ok, r
 use Rattle.case_grammar.specs.Gaps.{blank, continued, Gap, IsGap, BeginsBlank}
 use Rattle.case_grammar.specs.Values.{Value, number, string, matrix, cells, rows_of, cells_of, IsValue}
 use Rattle.case_grammar.specs.Statements.{target_text, IsTarget, First, IsFirst, Statement, IsMatrixOf, Takes, Part, skipped, line_end, semicolon, comma, IsPart, AreParts, HasEnd, PartsWord, EndsWord, Ending, here, in_comment, in_continuation, ending_text, IsEnding, Statements, ends, another, AreStatements, EndWord, EndStatement, AreBehind, values_of}
-use Rattle.case_grammar.specs.CaseTexts.{CaseText, body_text, HasNoBlocks, IsCaseText}
+use Rattle.case_grammar.specs.CaseTexts.{CaseText, body_text, IsCaseText}
+use Rattle.case_grammar.proofs.BlockForms.{no-blocks}
+use Rattle.case_grammar.proofs.Lines.{IsBlockless}
 use Rattle.case_grammar.proofs.Texts.{gap_before, first_before, statement_before, part_before, parts_before, statements_bytes, IsRest}
 use Rattle.case_grammar.proofs.Places.{tokens_at, at-start}
 use Rattle.case_grammar.proofs.Pieces.{EndsRun}
@@ -88,7 +90,7 @@ record StatementOf (text rest : List ℕ) (line : ℕ) (read : Setting × List T
   value : IsValue s.value
   takes : TakesMostly (field_of (target_text s.target)) s.value
   field_is : (read.0).field ≡ field_of (target_text s.target)
-  rows_are : HasNoBlocks text → (read.0).rows ≡ kept (field_of (target_text s.target)) s.value
+  rows_are : IsBlockless text → (read.0).rows ≡ kept (field_of (target_text s.target)) s.value
   ends : behind_end text line (tokens_at text 0 behind).tokens ≡ Ok read.1
   stops : Stops s.value behind
   clean : IsClean text (tokens_at text 0 behind)
@@ -365,7 +367,7 @@ record AllOf (text : List ℕ) (settings : Settings) (rest : List ℕ) (case : C
   all : Statements
   is : rest ≡ statements_bytes all
   none : NoneFrom text rest
-  holds : HasNoBlocks text → Holds text settings all case
+  holds : IsBlockless text → Holds text settings all case
 
 abbrev AllReads : List ℕ → ℕ → Type 0
 AllReads text n =
@@ -588,7 +590,7 @@ record BodyOf (text : List ℕ) (matrices : CaseMatrices) : Type 0 where
   first_is : IsFirst first
   behind_name : EndWord others
   statements : AreStatements others
-  no_blocks : HasNoBlocks text
+  no_blocks : IsBlockless text
   gives : (f : Field) → map rows_of (values_of f others) ≡ matrix_of matrices f ∷ []
 
 body-of : (text : List ℕ) (matrices : CaseMatrices) → IsClean text (token_list text) → statements_from text (token_list text).fault (token_list text).tokens ≡ Ok matrices → BodyOf text matrices
@@ -636,6 +638,6 @@ read-derived bytes matrices e =
     let body : text ≡ body_text case = b.is ∙ text-bytes case in (
       case,
       m.1 ∙ ap (λ xs. cond m.0 (239 ∷ 187 ∷ 191 ∷ xs) xs) body,
-      record { before = b.before_is; first = b.first_is; behind_name = b.behind_name; others = b.statements; no_blocks = subst HasNoBlocks body b.no_blocks },
+      record { before = b.before_is; first = b.first_is; behind_name = b.behind_name; others = b.statements; no_blocks = no-blocks (body_text case) (subst IsBlockless body b.no_blocks) },
       b.gives,
     )

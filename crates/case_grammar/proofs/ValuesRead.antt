@@ -26,7 +26,7 @@ use Rattle.case_text.proofs.StatementLemmas.{allowed, refused, no-ok, same-ok}
 use Rattle.case_grammar.specs.Gaps.{Gap, IsGap}
 use Rattle.case_grammar.specs.Values.{Value, number, string, matrix, cells, Rows, last_row, row_then, Row, no_elements, elements, More, no_more, last_comma, after_blanks, after_comma, Content, numbers, plain, anything, IsValue, IsElement, AreRows, IsRow, IsMore, IsString, Character, one, doubled, characters_text, rows_of, rows_text}
 use Rattle.case_grammar.specs.Statements.{IsTwo, IsNumeral}
-use Rattle.case_grammar.specs.CaseTexts.{HasNoBlocks}
+use Rattle.case_grammar.proofs.Lines.{IsBlockless}
 use Rattle.case_grammar.proofs.Texts.{gap_before, value_before, rows_before, rows-before, characters_before, IsRest}
 use Rattle.case_grammar.proofs.Places.{tokens_at}
 use Rattle.case_grammar.proofs.Pieces.{EndsRun, string_rest}
@@ -90,7 +90,7 @@ pub record ValueOf (text : List ℕ) (field : Option Field) (line : ℕ) (rest :
   pub takes : TakesMostly field value
   pub is : rest ≡ gap_before gap (value_before value behind)
   pub field_is : (read.0).field ≡ field
-  pub rows_are : HasNoBlocks text → (read.0).rows ≡ kept field value
+  pub rows_are : IsBlockless text → (read.0).rows ≡ kept field value
   pub ends : behind_end text line (tokens_at text 0 behind).tokens ≡ Ok read.1
   pub stops : Stops value behind
   pub clean : IsClean text (tokens_at text 0 behind)
@@ -243,7 +243,7 @@ record Choice (text : List ℕ) (field : Option Field) (inner : Bracket) : Type 
   only : only_of content ≡ is_some field
   inner_is : bracket_of content ≡ inner
   takes : (rows : Rows) → AreRows content 1 rows → TakesMostly field (value_with content rows)
-  rows_are : HasNoBlocks text → (rows : Rows) (behind : List ℕ) → AreRows content 1 rows → IsRest text (rows_before rows (closing_of (bracket_of content) ∷ behind)) →
+  rows_are : IsBlockless text → (rows : Rows) (behind : List ℕ) → AreRows content 1 rows → IsRest text (rows_before rows (closing_of (bracket_of content) ∷ behind)) →
       matrix_rows field text (tokens_at text 1 (rows_before rows (closing_of (bracket_of content) ∷ behind))).tokens ≡ kept field (value_with content rows)
 
 of-numbers : (text : List ℕ) (f : Field) → ((rows : Rows) → AreRows numbers 1 rows → TakesMostly (Some f) (matrix rows)) → Choice text (Some f) bracket.Square

@@ -1,9 +1,7 @@
 -- The text of a case, and the matrices that it gives.
-use Rattle.std.specs.Prelude.{◌≡◌, ℕ, Bool, List, [], ◌∷◌, ◌++◌, map, IsTrue, if◌then◌else◌}
-use Rattle.std.specs.List.{before_first}
-use Rattle.case_tokens.specs.Bytes.{is_line_end}
-use Rattle.case_tokens.specs.Pieces.{is_block_rest}
-use Rattle.case_tokens.specs.TokenLists.{is_blank_line}
+use Rattle.std.specs.Prelude.{◌≡◌, ◌⊎◌, ℕ, Bool, List, [], ◌∷◌, ◌++◌, map, codes, IsTrue, if◌then◌else◌}
+use Rattle.std.specs.List.{AllByRecursion}
+use Rattle.case_tokens.specs.Bytes.{is_blank}
 use Rattle.case_text.specs.declared.Field.{Field}
 use Rattle.case_text.specs.Matrices.{CaseMatrices, matrix_of}
 use Rattle.case_grammar.specs.Values.{rows_of}
@@ -24,9 +22,23 @@ body_text case = parts_text case.before ++ (first_text case.first ++ statements_
 abbrev pub case_text : CaseText → List ℕ
 case_text case = if case.mark then 239 ∷ 187 ∷ 191 ∷ body_text case else body_text case
 
--- Block comments are refused: no line of the text has, blanks aside, `%{` or `%}` alone.
+-- ---- Block comments are refused. One begins or ends with `%{` or `%}` on a line of its own:
+pub record HasBlock (text : List ℕ) : Type 0 where
+  -- the lines before, blanks, a brace, blanks, and what is behind
+  pub before : List ℕ
+  pub front : List ℕ
+  pub brace : ℕ
+  pub back : List ℕ
+  pub behind : List ℕ
+  pub is : text ≡ before ++ (front ++ (codes "%" ++ (brace ∷ (back ++ behind))))
+  pub starts : (before ≡ []) ⊎ ((lines : List ℕ) × (before ≡ lines ++ codes "\n"))
+  pub front_blank : AllByRecursion (λ byte. IsTrue (is_blank byte)) front
+  pub brace_is : (codes "{" ≡ brace ∷ []) ⊎ (codes "}" ≡ brace ∷ [])
+  pub back_blank : AllByRecursion (λ byte. IsTrue (is_blank byte)) back
+  pub ends : (behind ≡ []) ⊎ ((lines : List ℕ) × (behind ≡ codes "\n" ++ lines))
+
 abbrev pub HasNoBlocks : List ℕ → Type 0
-HasNoBlocks text = (before rest : List ℕ) → text ≡ before ++ rest → IsTrue (is_blank_line before) → IsTrue (is_block_rest (before_first is_line_end rest)) → ⊥
+HasNoBlocks text = ¬ HasBlock text
 
 pub record IsText (case : CaseText) : Type 0 where
   pub before : AreParts case.before
