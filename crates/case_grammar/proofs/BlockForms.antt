@@ -1,15 +1,15 @@
 -- A text without block comments, by its lines and as the tokens tell it.
-use Rattle.std.proofs.Common.{◌≡◌, ◌≢◌, ℕ, ◌+◌, ◌<◌, ◌≤◌, ◌==◌, ◌&&◌, ◌||◌, ◌⊎◌, Bool, true, false, List, [], ◌∷◌, ◌++◌, length, take, refl, sym, ap, subst, ◌∙◌, arith, inl, inr, append-nil, append_assoc, codes}
+use Rattle.std.proofs.Common.{◌≡◌, ◌≢◌, ℕ, ◌==◌, ◌&&◌, ◌||◌, ◌⊎◌, true, List, [], ◌∷◌, ◌++◌, length, take, refl, sym, ap, subst, ◌∙◌, arith, inl, inr, append-nil, append_assoc, codes}
 use Rattle.std.specs.Prelude.{IsTrue}
-use Rattle.std.specs.List.{AllByRecursion, before_first, list_all, position_or_len}
+use Rattle.std.specs.List.{AllByRecursion, before_first, list_all}
 use Rattle.std.proofs.lemmas.List.{take_at}
-use Rattle.std.proofs.lemmas.Bool.{cases_Bool, and_parts, and_from, or_cases, eqb-true, eq-eqb, ne_eqb, false≢true, cond-true, cond-false}
+use Rattle.std.proofs.lemmas.Bool.{cases_Bool, and_parts, and_from, or_cases, eqb-true, ne_eqb, false≢true, cond-false}
 use Rattle.case_tokens.specs.Bytes.{is_line_end, is_blank, is_percent}
 use Rattle.case_tokens.specs.Pieces.{is_block_rest}
 use Rattle.case_tokens.specs.TokenLists.{last_line, is_blank_line}
 use Rattle.case_tokens.proofs.TokenLemmas.{blank_line-push}
 use Rattle.case_grammar.specs.Gaps.{IsOnLine}
-use Rattle.case_grammar.specs.CaseTexts.{HasBlock, HasNoBlocks}
+use Rattle.case_grammar.specs.CaseTexts.{HasNoBlocks}
 use Rattle.case_grammar.proofs.Lines.{IsBlockless}
 use Rattle.case_grammar.proofs.Pieces.{IsAtLineEnd, line-length}
 use Rattle.case_grammar.proofs.Seen.{LineOf, line-of}

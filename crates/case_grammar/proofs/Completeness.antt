@@ -32,7 +32,7 @@ use Rattle.case_text.specs.Cases.{case_from, named_from, function_from, statemen
 use Rattle.case_text.proofs.StatementLemmas as statement_lemmas
 use Rattle.case_grammar.specs.Gaps.{Gap, IsGap, BeginsBlank, IsNotEmpty, blank, continued}
 use Rattle.case_grammar.specs.Values.{Character, one, Value, number, string, matrix, cells, Rows, IsValue, IsString, AreRows, plain, anything, numbers, rows_of, Content}
-use Rattle.case_grammar.specs.Statements.{IsName, Target, target_text, IsTarget, First, first_text, IsFirst, Statement, IsStatement, Takes, Part, Statements, ends, another, AreStatements, EndWord, EndStatement, AreBehind, values_of, HasEnd, ending_text, parts_text}
+use Rattle.case_grammar.specs.Statements.{IsName, Target, target_text, IsTarget, First, first_text, IsFirst, Statement, IsStatement, Takes, Statements, ends, another, AreStatements, AreApart, AreEnded, AreBehind, values_of, ending_text, parts_text}
 use Rattle.case_grammar.specs.CaseTexts.{CaseText, body_text, case_text, IsText, Gives, IsCaseText}
 use Rattle.case_grammar.proofs.BlockForms.{blockless}
 use Rattle.case_grammar.proofs.Lines.{IsBlockless}
@@ -255,11 +255,11 @@ reads-cells text blocks None line rows rest h t r =
     }
 
 -- what stands behind a value lets it end
-behind-word : (all : Statements) → AreStatements all → EndWord all → EndsRun false (statements_bytes all)
+behind-word : (all : Statements) → AreStatements all → AreApart all → EndsRun false (statements_bytes all)
 behind-word (ends parts ending) h k = text-ends parts ending h.0 k
 behind-word (another parts s more) h k = word-ends parts (statement_before s (statements_bytes more)) h.0 k
 
-behind-string : (quote : ℕ) (more : Statements) → (quote ≡ 39) ⊎ (quote ≡ 34) → AreStatements more → EndStatement more → GoesOnWithout quote (statements_bytes more)
+behind-string : (quote : ℕ) (more : Statements) → (quote ≡ 39) ⊎ (quote ≡ 34) → AreStatements more → AreEnded more → GoesOnWithout quote (statements_bytes more)
 behind-string quote (ends parts ending) q h k = unquoted-ending quote parts ending q h.0
 behind-string quote (another parts s more) q h k = unquoted-parts quote parts (statement_before s (statements_bytes more)) q h.0 k
 
@@ -418,13 +418,13 @@ pub record ReadsAll (text : List ℕ) (settings : Settings) (list : TokenList) (
   pub case_is : case_from text None settings 0 list.tokens ≡ Ok case
   pub fault : list.fault ≡ None
 
-can-end : (value : Value) (more : Statements) → AreBehind value more → EndStatement more
+can-end : (value : Value) (more : Statements) → AreBehind value more → AreEnded more
 can-end (number digits) more h = h.0
 can-end (string quote characters) more h = h
 can-end (matrix rows) more h = h
 can-end (cells rows) more h = h
 
-ends-behind : (text : List ℕ) → IsBlockless text → (line : ℕ) (more : Statements) → AreStatements more → EndStatement more → IsRest text (statements_bytes more) →
+ends-behind : (text : List ℕ) → IsBlockless text → (line : ℕ) (more : Statements) → AreStatements more → AreEnded more → IsRest text (statements_bytes more) →
     EndsAt text line (tokens_at text 0 (statements_bytes more))
 ends-behind text blocks line (ends parts ending) h k r =
     ends-all text blocks line parts (ending_text ending) h.0 r (inr (ap (λ (l : TokenList). l.tokens) (at-ending text blocks ending h.1 (rest-parts text parts (ending_text ending) r))))

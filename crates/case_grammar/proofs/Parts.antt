@@ -12,7 +12,7 @@ use Rattle.case_text.specs.Settings.{with_setting}
 use Rattle.case_text.specs.Cases.{case_from, statements_from, function_from}
 use Rattle.record_reading.specs.Steps.{and_then}
 use Rattle.case_grammar.specs.Gaps.{Skip, blank, continued, IsSkip, bare, commented}
-use Rattle.case_grammar.specs.Statements.{Part, skipped, line_end, semicolon, comma, IsPart, AreParts, HasEnd, PartsWord, EndsWord, Ending, here, in_comment, in_continuation, ending_text, IsEnding}
+use Rattle.case_grammar.specs.Statements.{Part, skipped, line_end, semicolon, comma, IsPart, AreParts, HasEnd, IsApart, IsApartFromEnd, Ending, here, in_comment, in_continuation, ending_text, IsEnding}
 use Rattle.case_grammar.proofs.Lines.{IsBlockless}
 use Rattle.case_grammar.proofs.Texts.{skip_before, part_before, parts_before, IsRest, rest-part}
 use Rattle.case_grammar.proofs.Places.{tokens_at, token_at, token-word, at-end}
@@ -158,7 +158,7 @@ module _ (text : List ℕ) (blocks : IsBlockless text) where
   at-ending (in_continuation c) h r = at-unended text 0 c r h ∙ at-end text
 
 -- ---- how what stands behind a statement begins
-pub word-ends : (parts : List Part) (rest : List ℕ) → AreParts parts → PartsWord parts → EndsRun false (parts_before parts rest)
+pub word-ends : (parts : List Part) (rest : List ℕ) → AreParts parts → IsApart parts → EndsRun false (parts_before parts rest)
 word-ends [] rest h k = absurd k
 word-ends (skipped (blank b) ∷ parts) rest h k = blank-ends false b h.0
 word-ends (skipped (continued c) ∷ parts) rest h k = absurd k
@@ -167,7 +167,7 @@ word-ends (line_end (commented c) ∷ parts) rest h k = refl
 word-ends (semicolon ∷ parts) rest h k = refl
 word-ends (comma ∷ parts) rest h k = refl
 
-pub text-ends : (parts : List Part) (ending : Ending) → AreParts parts → EndsWord parts ending → EndsRun false (parts_before parts (ending_text ending))
+pub text-ends : (parts : List Part) (ending : Ending) → AreParts parts → IsApartFromEnd parts ending → EndsRun false (parts_before parts (ending_text ending))
 text-ends [] here h k = tt
 text-ends [] (in_comment c) h k = refl
 text-ends [] (in_continuation c) h k = absurd k

@@ -27,7 +27,7 @@ use Rattle.case_text.specs.Cases.{case_from, is_run_of, function_from, statement
 use Rattle.case_text.proofs.StatementLemmas.{allowed, refused, no-ok, same-ok, rest-statement}
 use Rattle.case_grammar.specs.Gaps.{blank, continued, Gap, IsGap, BeginsBlank}
 use Rattle.case_grammar.specs.Values.{Value, number, string, matrix, cells, rows_of, cells_of, IsValue}
-use Rattle.case_grammar.specs.Statements.{target_text, IsTarget, First, IsFirst, Statement, IsMatrixOf, Takes, Part, skipped, line_end, semicolon, comma, IsPart, AreParts, HasEnd, PartsWord, EndsWord, Ending, here, in_comment, in_continuation, ending_text, IsEnding, Statements, ends, another, AreStatements, EndWord, EndStatement, AreBehind, values_of}
+use Rattle.case_grammar.specs.Statements.{target_text, IsTarget, First, IsFirst, Statement, IsMatrixOf, Takes, Part, skipped, line_end, semicolon, comma, IsPart, AreParts, HasEnd, IsApart, IsApartFromEnd, Ending, here, in_comment, in_continuation, ending_text, IsEnding, Statements, ends, another, AreStatements, AreApart, AreEnded, AreBehind, values_of}
 use Rattle.case_grammar.specs.CaseTexts.{CaseText, body_text, IsCaseText}
 use Rattle.case_grammar.proofs.BlockForms.{no-blocks}
 use Rattle.case_grammar.proofs.Lines.{IsBlockless}
@@ -279,13 +279,13 @@ unfolding prepend
 prepend-values gap part (ends parts ending) f = refl
 prepend-values gap part (another parts s more) f = refl
 
-prepend-ends : (gap : Gap) (part : Part) (all : Statements) → HasEnd (part ∷ []) → EndStatement (prepend gap part all)
+prepend-ends : (gap : Gap) (part : Part) (all : Statements) → HasEnd (part ∷ []) → AreEnded (prepend gap part all)
 unfolding prepend
 prepend-ends gap part (ends parts ending) h = tt
 prepend-ends gap part (another parts s more) h = skips-end gap (part ∷ parts) (first-ends part parts h)
 
 -- ---- what stands behind a word, and behind a value
-word-parts : (parts : List Part) (rest : List ℕ) → HasEnd parts → EndsRun false (parts_before parts rest) → PartsWord parts
+word-parts : (parts : List Part) (rest : List ℕ) → HasEnd parts → EndsRun false (parts_before parts rest) → IsApart parts
 word-parts [] rest h k = h
 word-parts (skipped (blank b) ∷ parts) rest h k = tt
 word-parts (skipped (continued c) ∷ parts) rest h k = false≢true k
@@ -293,7 +293,7 @@ word-parts (line_end end ∷ parts) rest h k = tt
 word-parts (semicolon ∷ parts) rest h k = tt
 word-parts (comma ∷ parts) rest h k = tt
 
-name-parts : (parts : List Part) (s : Statement) (rest : List ℕ) → EndsRun false (parts_before parts (statement_before s rest)) → PartsWord parts
+name-parts : (parts : List Part) (s : Statement) (rest : List ℕ) → EndsRun false (parts_before parts (statement_before s rest)) → IsApart parts
 name-parts [] s rest k = false≢true k
 name-parts (skipped (blank b) ∷ parts) s rest k = tt
 name-parts (skipped (continued c) ∷ parts) s rest k = false≢true k
@@ -301,7 +301,7 @@ name-parts (line_end end ∷ parts) s rest k = tt
 name-parts (semicolon ∷ parts) s rest k = tt
 name-parts (comma ∷ parts) s rest k = tt
 
-ending-parts : (parts : List Part) (ending : Ending) → EndsRun false (parts_before parts (ending_text ending)) → EndsWord parts ending
+ending-parts : (parts : List Part) (ending : Ending) → EndsRun false (parts_before parts (ending_text ending)) → IsApartFromEnd parts ending
 ending-parts [] here k = tt
 ending-parts [] (in_comment c) k = tt
 ending-parts [] (in_continuation c) k = false≢true k
@@ -311,15 +311,15 @@ ending-parts (line_end end ∷ parts) ending k = tt
 ending-parts (semicolon ∷ parts) ending k = tt
 ending-parts (comma ∷ parts) ending k = tt
 
-behind-name : (all : Statements) → EndsRun false (statements_bytes all) → EndWord all
+behind-name : (all : Statements) → EndsRun false (statements_bytes all) → AreApart all
 behind-name (ends parts ending) k = ending-parts parts ending k
 behind-name (another parts s more) k = name-parts parts s (statements_bytes more) k
 
-value-parts : (all : Statements) → EndStatement all → EndsRun false (statements_bytes all) → EndWord all
+value-parts : (all : Statements) → AreEnded all → EndsRun false (statements_bytes all) → AreApart all
 value-parts (ends parts ending) h k = ending-parts parts ending k
 value-parts (another parts s more) h k = word-parts parts (statement_before s (statements_bytes more)) h k
 
-behind-value : (value : Value) (all : Statements) → EndStatement all → Stops value (statements_bytes all) → AreBehind value all
+behind-value : (value : Value) (all : Statements) → AreEnded all → Stops value (statements_bytes all) → AreBehind value all
 behind-value (number digits) all h k = (h, value-parts all h k)
 behind-value (string quote characters) all h k = h
 behind-value (matrix rows) all h k = h
@@ -392,7 +392,7 @@ all-end text settings rest case h e = record {
 
 -- something that parts statements, and what is behind it
 all-part : (text : List ℕ) (n : ℕ) → AllReads text n → (settings : Settings) (rest : List ℕ) (case : CaseMatrices) (more : List Token) → length rest ≤ n → PartOf text rest more →
-    case_from text None settings 0 more ≡ Ok case → (a : AllOf text settings rest case) × EndStatement a.all
+    case_from text None settings 0 more ≡ Ok case → (a : AllOf text settings rest case) × AreEnded a.all
 all-part text n later settings rest case more few p e =
     let t = p.tail in
     let a = later settings p.behind case (Prim.omega (arith, t.shorter)) t.here t.clean (ap (case_from text None settings 0) t.tokens ∙ e) in (
@@ -410,10 +410,10 @@ all-part text n later settings rest case more few p e =
 
 -- the end of a statement, and what is behind it
 all-behind : (text : List ℕ) (n : ℕ) → AllReads text n → (settings : Settings) (line : ℕ) (rest : List ℕ) (case : CaseMatrices) (left : List Token) → length rest ≤ n → IsRest text rest →
-    IsClean text (tokens_at text 0 rest) → behind_end text line (tokens_at text 0 rest).tokens ≡ Ok left → case_from text None settings 0 left ≡ Ok case → (a : AllOf text settings rest case) × EndStatement a.all
+    IsClean text (tokens_at text 0 rest) → behind_end text line (tokens_at text 0 rest).tokens ≡ Ok left → case_from text None settings 0 left ≡ Ok case → (a : AllOf text settings rest case) × AreEnded a.all
 unfolding behind_end all-end
 all-behind text n later settings line rest case left few r clean h e = by_tokens (tokens_at text 0 rest).tokens refl h where
-  by_tokens : (tokens : List Token) → (tokens_at text 0 rest).tokens ≡ tokens → behind_end text line tokens ≡ Ok left → (a : AllOf text settings rest case) × EndStatement a.all
+  by_tokens : (tokens : List Token) → (tokens_at text 0 rest).tokens ≡ tokens → behind_end text line tokens ≡ Ok left → (a : AllOf text settings rest case) × AreEnded a.all
   by_tokens [] is h =
       (all-end text settings rest case (end-of text rest r clean is) (ap (case_from text None settings 0) (ok-same {F = CaseFault} [] left h) ∙ e), tt)
   by_tokens (token ∷ tokens) is h =
@@ -588,7 +588,7 @@ record BodyOf (text : List ℕ) (matrices : CaseMatrices) : Type 0 where
   is : text ≡ parts_before before (first_before first (statements_bytes others))
   before_is : AreParts before
   first_is : IsFirst first
-  behind_name : EndWord others
+  behind_name : AreApart others
   statements : AreStatements others
   no_blocks : IsBlockless text
   gives : (f : Field) → map rows_of (values_of f others) ≡ matrix_of matrices f ∷ []

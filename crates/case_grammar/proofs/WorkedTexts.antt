@@ -1,5 +1,5 @@
 -- Worked texts are read, or refused, by computation.
-use Rattle.std.proofs.Common.{◌≡◌, ℕ, List, [], ◌∷◌, ◌++◌, refl, Ok, Err, codes}
+use Rattle.std.proofs.Common.{◌≡◌, ℕ, List, [], refl, Ok, Err, codes}
 use Rattle.record_reading.specs.Records.{first_ragged}
 use Rattle.scaled_decimal.specs.Reading.{is_number_text, decimal_in}
 use Rattle.case_tokens.specs.Pieces.{is_block_rest, comment_at, string_length, quoted_at, run_at, piece_at}
@@ -10,7 +10,7 @@ use Rattle.case_text.specs.declared.Field.TheVariants as field
 use Rattle.case_text.specs.Words.{word_of, mark_of}
 use Rattle.case_text.specs.Names.{is_name_text, is_names_text, is_target, field_of, is_version_one, is_version_two}
 use Rattle.case_text.specs.Nests.{step_by, behind_brackets}
-use Rattle.case_text.specs.Matrices.{CaseMatrices, rows_from}
+use Rattle.case_text.specs.Matrices.{rows_from}
 use Rattle.case_text.specs.Statements.{behind_end, plain_value, bracketed, value_by, statement_at}
 use Rattle.case_text.specs.Settings.{uneven, with_setting, matrices, all_set}
 use Rattle.case_text.specs.Cases.{case_of, without_mark, statements_from, function_from, named_from, case_from}

@@ -5,17 +5,17 @@ use Rattle.case_tokens.specs.Bytes.{is_blank}
 use Rattle.case_text.specs.declared.Field.{Field}
 use Rattle.case_text.specs.Matrices.{CaseMatrices, matrix_of}
 use Rattle.case_grammar.specs.Values.{rows_of}
-use Rattle.case_grammar.specs.Statements.{First, first_text, IsFirst, Part, parts_text, AreParts, Statements, statements_text, AreStatements, EndWord, values_of}
+use Rattle.case_grammar.specs.Statements.{First, first_text, IsFirst, Part, parts_text, AreParts, Statements, statements_text, AreStatements, AreApart, values_of}
 
--- ---- A text is a list of statements, and is skipped what stands before the first.
+-- ---- A text is a list of statements. Before the first stands what is skipped between them.
 pub record CaseText : Type 0 where
-  -- whether a byte order mark stands at the start
+  -- A byte order mark at the start is dropped: whether there is one.
   pub mark : Bool
   pub before : List Part
   pub first : First
   pub others : Statements
 
--- the text without the byte order mark, which is dropped
+-- the text without the byte order mark
 abbrev pub body_text : CaseText → List ℕ
 body_text case = parts_text case.before ++ (first_text case.first ++ statements_text case.others)
 
@@ -43,7 +43,7 @@ HasNoBlocks text = ¬ HasBlock text
 pub record IsText (case : CaseText) : Type 0 where
   pub before : AreParts case.before
   pub first : IsFirst case.first
-  pub behind_name : EndWord case.others
+  pub behind_name : AreApart case.others
   pub others : AreStatements case.others
   pub no_blocks : HasNoBlocks (body_text case)
 
@@ -51,6 +51,6 @@ pub record IsText (case : CaseText) : Type 0 where
 abbrev pub Gives : CaseText → CaseMatrices → Type 0
 Gives case matrices = (f : Field) → map rows_of (values_of f case.others) ≡ matrix_of matrices f ∷ []
 
--- the bytes are the text of a case with these matrices
+-- The bytes are the text of a case with these matrices.
 abbrev pub IsCaseText : List ℕ → CaseMatrices → Type 0
 IsCaseText bytes matrices = (case : CaseText) × (bytes ≡ case_text case) × IsText case × Gives case matrices

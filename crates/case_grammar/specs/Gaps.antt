@@ -1,4 +1,8 @@
 -- What stands between the words of a case: blanks, continuations, comments and line ends.
+--
+-- The grammar is one of trees. A `data` lists the forms that a tree may have, each with its parts. `x_text` is the text that a tree of
+-- that kind stands for: `codes "..."` are the bytes of what is quoted, and `++` joins bytes. `IsX` says which trees are of the grammar:
+-- `Unit {0}` is always so, `⊥` never, `×` is "and", `⊎` is "or". A text is a case where some tree of the grammar has this text.
 use Rattle.std.specs.Prelude.{◌≢◌, ℕ, List, [], ◌∷◌, ◌++◌, codes, IsTrue}
 use Rattle.std.specs.List.{AllByRecursion}
 use Rattle.case_tokens.specs.Bytes.{is_blank}

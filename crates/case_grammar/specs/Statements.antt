@@ -1,5 +1,5 @@
 -- Statements: the first, those that set a field, and what stands between them.
-use Rattle.std.specs.Prelude.{◌≡◌, ℕ, Bool, List, [], ◌∷◌, ◌++◌, codes, IsTrue, if◌then◌else◌}
+use Rattle.std.specs.Prelude.{◌≡◌, ℕ, Bool, List, [], ◌∷◌, ◌++◌, map, codes, IsTrue, if◌then◌else◌}
 use Rattle.std.specs.List.{AllByRecursion}
 use Rattle.std.specs.Char.{is_ascii_alphabetic}
 use Rattle.std.specs.Str.{bytes_eq}
@@ -60,7 +60,7 @@ pub record Statement : Type 0 where
 abbrev pub statement_text : Statement → List ℕ
 statement_text s = target_text s.target ++ (gap_text s.behind_target ++ (codes "=" ++ (gap_text s.behind_equals ++ value_text s.value)))
 
--- the names of the five fields that a case has to set
+-- ---- The names of the five fields that a case has to set:
 abbrev pub name_of : Field → List ℕ
 name_of field.Version = codes "version"
 name_of field.BaseMva = codes "baseMVA"
@@ -72,7 +72,7 @@ name_of field.Branch = codes "branch"
 abbrev pub sets : Field → Statement → Bool
 sets f s = bytes_eq (target_text s.target) (codes "mpc." ++ name_of f)
 
--- bus, gen and branch are matrices of numbers, whose rows are equally long and have so many columns at least
+-- `bus`, `gen` and `branch` are matrices of numbers, whose rows are equally long, and where there are rows, have so many columns at least
 abbrev pub IsMatrixOf : Field → Value → Type 0
 IsMatrixOf f (number text) = ⊥
 IsMatrixOf f (string quote characters) = ⊥
@@ -82,7 +82,7 @@ IsMatrixOf f (cells rows) = ⊥
 -- `version` is the string `'2'`
 abbrev pub IsTwo : Value → Type 0
 IsTwo (number text) = ⊥
-IsTwo (string quote characters) = characters ≡ one 50 ∷ []
+IsTwo (string quote characters) = characters ≡ map one (codes "2")
 IsTwo (matrix rows) = ⊥
 IsTwo (cells rows) = ⊥
 
@@ -93,6 +93,7 @@ IsNumeral (string quote characters) = ⊥
 IsNumeral (matrix rows) = ⊥
 IsNumeral (cells rows) = ⊥
 
+-- what each of the five is set to
 abbrev pub Takes : Field → Value → Type 0
 Takes field.Version value = IsTwo value
 Takes field.BaseMva value = IsNumeral value
@@ -177,37 +178,37 @@ HasEnd (semicolon ∷ parts) = Unit {0}
 HasEnd (comma ∷ parts) = Unit {0}
 
 -- or the end of the text.
-abbrev pub EndStatement : Statements → Type 0
-EndStatement (ends parts ending) = Unit {0}
-EndStatement (another parts s more) = HasEnd parts
+abbrev pub AreEnded : Statements → Type 0
+AreEnded (ends parts ending) = Unit {0}
+AreEnded (another parts s more) = HasEnd parts
 
--- Right after a NAME or a number `...` belongs to that: something else begins what stands between it and the next statement,
-abbrev pub PartsWord : List Part → Type 0
-PartsWord [] = ⊥
-PartsWord (skipped (blank byte) ∷ parts) = Unit {0}
-PartsWord (skipped (continued rest) ∷ parts) = ⊥
-PartsWord (line_end end ∷ parts) = Unit {0}
-PartsWord (semicolon ∷ parts) = Unit {0}
-PartsWord (comma ∷ parts) = Unit {0}
+-- Right after a word or a number `...` belongs to that: something else begins what stands between a NAME or a number and the next statement,
+abbrev pub IsApart : List Part → Type 0
+IsApart [] = ⊥
+IsApart (skipped (blank byte) ∷ parts) = Unit {0}
+IsApart (skipped (continued rest) ∷ parts) = ⊥
+IsApart (line_end end ∷ parts) = Unit {0}
+IsApart (semicolon ∷ parts) = Unit {0}
+IsApart (comma ∷ parts) = Unit {0}
 
 -- and between it and the end of the text, where nothing need stand.
-abbrev pub EndsWord : List Part → Ending → Type 0
-EndsWord [] here = Unit {0}
-EndsWord [] (in_comment comment) = Unit {0}
-EndsWord [] (in_continuation rest) = ⊥
-EndsWord (part ∷ parts) ending = PartsWord (part ∷ parts)
+abbrev pub IsApartFromEnd : List Part → Ending → Type 0
+IsApartFromEnd [] here = Unit {0}
+IsApartFromEnd [] (in_comment comment) = Unit {0}
+IsApartFromEnd [] (in_continuation rest) = ⊥
+IsApartFromEnd (part ∷ parts) ending = IsApart (part ∷ parts)
 
 -- So behind the NAME of the first statement another may follow on its line.
-abbrev pub EndWord : Statements → Type 0
-EndWord (ends parts ending) = EndsWord parts ending
-EndWord (another parts s more) = PartsWord parts
+abbrev pub AreApart : Statements → Type 0
+AreApart (ends parts ending) = IsApartFromEnd parts ending
+AreApart (another parts s more) = IsApart parts
 
 -- what stands behind the value of a statement
 abbrev pub AreBehind : Value → Statements → Type 0
-AreBehind (number text) more = EndStatement more × EndWord more
-AreBehind (string quote characters) more = EndStatement more
-AreBehind (matrix rows) more = EndStatement more
-AreBehind (cells rows) more = EndStatement more
+AreBehind (number text) more = AreEnded more × AreApart more
+AreBehind (string quote characters) more = AreEnded more
+AreBehind (matrix rows) more = AreEnded more
+AreBehind (cells rows) more = AreEnded more
 
 abbrev pub AreStatements : Statements → Type 0
 AreStatements (ends parts ending) = AreParts parts × IsEnding ending

@@ -21,6 +21,7 @@ abbrev pub IsCharacter : ℕ → Character → Type 0
 IsCharacter quote (one byte) = (byte ≢ quote) × (byte ≢ 10)
 IsCharacter quote doubled = Unit {0}
 
+-- 39 is `'`, and 34 is `"`
 abbrev pub IsString : ℕ → List Character → Type 0
 IsString quote characters = ((quote ≡ 39) ⊎ (quote ≡ 34)) × AllByRecursion (IsCharacter quote) characters
 
