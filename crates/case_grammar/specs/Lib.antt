@@ -1,0 +1,5 @@
+pub mod Gaps
+pub mod Values
+pub mod Statements
+pub mod CaseTexts
+pub mod Worked
