@@ -49,7 +49,7 @@ fn expect_reserve<R: Abort + AllocGlobal>(
     let line = format!(in rt.alloc();
         "sced {words} --case case.m --ptdf shift.csv --offers offers.csv"
     )?;
-    let files = [
+    let files: [(&str, &[u8]); 5] = [
         ("case.m", case.as_bytes()),
         ("shift.csv", SHIFT.as_bytes()),
         ("offers.csv", OFFERS.as_bytes()),
