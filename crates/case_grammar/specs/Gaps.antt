@@ -2,7 +2,9 @@
 --
 -- The grammar is one of trees. A `data` lists the forms that a tree may have, each with its parts. `x_text` is the text that a tree of
 -- that kind stands for: `codes "..."` are the bytes of what is quoted, and `++` joins bytes. `IsX` says which trees are of the grammar:
--- `Unit {0}` is always so, `⊥` never, `×` is "and", `⊎` is "or". A text is a case where some tree of the grammar has this text.
+-- `Unit {0}` is always so, `⊥` never, `×` is "and", `⊎` is "or", `¬` is "not", `≡` is "is", `≢` is "is not"; of a `record` all lines hold.
+-- `(x : A) × B` is "there is an x so that B", `(x : A) → B` is "B for each x". `x ∷ xs` is the list that begins with x, `[]` the one of
+-- none, and `AllByRecursion P xs` says P of each in xs. A text is a case where some tree of the grammar has this text.
 use Rattle.std.specs.Prelude.{◌≢◌, ℕ, List, [], ◌∷◌, ◌++◌, codes, IsTrue}
 use Rattle.std.specs.List.{AllByRecursion}
 use Rattle.case_tokens.specs.Bytes.{is_blank}
@@ -26,7 +28,7 @@ abbrev pub IsSkip : Skip → Type 0
 IsSkip (blank byte) = IsTrue (is_blank byte)
 IsSkip (continued rest) = IsOnLine rest
 
--- A gap is any number of these.
+-- A gap is any number of these: the blanks of the rules, a continuation being one of them.
 abbrev pub Gap : Type 0
 Gap = List Skip
 
@@ -37,7 +39,8 @@ gap_text (skip ∷ gap) = skip_text skip ++ gap_text gap
 abbrev pub IsGap : Gap → Type 0
 IsGap gap = AllByRecursion IsSkip gap
 
--- Right after a word or a number `...` belongs to that: a gap there begins with a blank.
+-- Right after a word or a number `...` belongs to that, and inside brackets no `...` stands right after a string: a gap there begins with a
+-- blank, where it has anything.
 abbrev pub BeginsBlank : Gap → Type 0
 BeginsBlank [] = Unit {0}
 BeginsBlank (blank byte ∷ gap) = Unit {0}

@@ -72,14 +72,15 @@ name_of field.Branch = codes "branch"
 abbrev pub sets : Field → Statement → Bool
 sets f s = bytes_eq (target_text s.target) (codes "mpc." ++ name_of f)
 
--- `bus`, `gen` and `branch` are matrices of numbers, whose rows are equally long, and where there are rows, have so many columns at least
+-- `bus`, `gen` and `branch` are matrices of numbers alone, which is more than is asked of other values, whose rows are equally long, and
+-- where there are rows, have so many columns at least
 abbrev pub IsMatrixOf : Field → Value → Type 0
 IsMatrixOf f (number text) = ⊥
 IsMatrixOf f (string quote characters) = ⊥
 IsMatrixOf f (matrix rows) = AreRows numbers 1 rows × IsEven (least_columns f) (cells_of rows)
 IsMatrixOf f (cells rows) = ⊥
 
--- `version` is the string `'2'`
+-- `version` is the string `'2'` or `"2"`
 abbrev pub IsTwo : Value → Type 0
 IsTwo (number text) = ⊥
 IsTwo (string quote characters) = characters ≡ map one (codes "2")

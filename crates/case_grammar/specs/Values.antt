@@ -117,7 +117,8 @@ HoldsBrackets numbers = ⊥
 HoldsBrackets plain = ⊥
 HoldsBrackets anything = Unit {0}
 
--- A number or a string inside brackets is followed by a blank, a line end, `,`, `;`, `]`, `}` or `%`.
+-- A number or a string inside brackets is followed by a blank, a line end, `,`, `;`, `]`, `}` or `%`: by the forms above one of these stands
+-- behind it but where the gap behind it begins with a continuation.
 abbrev pub IsBehind : Value → Gap → Type 0
 IsBehind (number text) gap = BeginsBlank gap
 IsBehind (string quote characters) gap = BeginsBlank gap
