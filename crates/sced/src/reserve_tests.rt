@@ -11,8 +11,7 @@ const RESERVES: &str = "offer,1,50,2\noffer,2,50,5\nneed,,60,\n";
 /// More is needed than is offered.
 const TOO_FEW: &str = "offer,1,50,2\noffer,2,50,5\nneed,,110,\n";
 
-/// Unit 1 sells 60 of its 100, so that 40 are left for reserve: a MW more of either would have unit 2 offer a MW of reserve in its place,
-/// for 3 more.
+/// Unit 1 sells 60 of its 100 and keeps 40 for reserve: a MW more of either would have unit 2 keep one in its place, for 3 more.
 const CLEARED: &str =
     "cleared\nwelfare -780\nenergy 13\nreserve price 5 need 60\nbus 1 price 13 congestion 0\nbus 2 price 13 congestion 0\nbus 3 price 13 congestion 0\nblock 1 sell 1 mw 60\nblock 2 sell 1 mw 0\nroom 1 dual 3\nunit 1 mw 60 paid 780\nunit 2 mw 0 paid 0\nreserve 1 mw 40 paid 200\nreserve 2 mw 20 paid 100\nload 1 mw 0 pays 0\nload 2 mw 0 pays 0\nload 3 mw 60 pays 780\nsurplus 0\n";
 
@@ -145,12 +144,10 @@ fn refuses_reserves(rt: HostRuntime) -> Result<(), Fail> {
     for (records, told) in [
         ("offer,1,1\n", "Width line 2"),
         (many.as_str(), "TooMany count 1002"),
-        ("bid,1,1,1\n", "Word line 2"),
         ("need,1,x,\n", "Word line 2"),
         ("offer,1,x,2\n", "Cell line 2 col 3 BadNumber"),
         ("offer,3,1,2\n", "NoUnit line 2"),
         ("offer,1,-1,2\n", "Negative line 2"),
-        ("need,,-1,\n", "Negative line 2"),
         ("offer,1,1,2\noffer,1,1,3\n", "Twice line 3"),
         ("need,,1,\nneed,,1,\n", "Twice line 3"),
     ] {
