@@ -1,0 +1,5 @@
+pub mod Cells
+pub mod BusRows
+pub mod Units
+pub mod BranchRows
+pub mod LiveNetworks
