@@ -1,5 +1,5 @@
 -- The fixed part of a unit is the number of its range that is nearest 0.
-use Rattle.std.proofs.Common.{◌≡◌, ℕ, ◌≤◌, ◌+◌, ℤ, pos, negsuc, Bool, true, false, List, [], ◌∷◌, map, refl, sym, ap, subst, ◌∙◌, arith, Option, Some, None}
+use Rattle.std.proofs.Common.{◌≡◌, ℕ, ◌≤◌, ◌+◌, ℤ, pos, negsuc, Bool, true, false, List, [], ◌∷◌, map, refl, sym, subst, arith, Option, Some, None}
 use Rattle.std.specs.Prelude.{if◌then◌else◌, ◌≤ℤ◌, ◌<ℤ◌, unsigned_abs}
 use Rattle.std.specs.Int.Signed.{lt_z, lt_z_no, lt_z_yes}
 use Rattle.std.specs.List.{AllByRecursion, AllZip, filter_map, enumerate_from}
@@ -11,7 +11,7 @@ use Rattle.net_case.specs.declared.live_parts.Branches.{Branches}
 use Rattle.net_case.specs.declared.live_parts.NetUnit.{NetUnit}
 use Rattle.net_case.specs.Networks.{LiveNetwork}
 use Rattle.net_case.specs.NetworkReading.{nearest_0, unit_within, unit_list_of}
-use Rattle.network_meaning.specs.Units.{IsUnit, AreGiven, IsGenRow}
+use Rattle.network_meaning.specs.Units.{IsUnit, IsGenRow}
 use Rattle.network_meaning.specs.LiveNetworks.{IsLiveNetwork}
 use Rattle.network_meaning.specs.Rooms.{IsNearestZero, HasRoom, HaveRoom}
 

@@ -1,5 +1,5 @@
 -- Worked cases are read, or refused, by computation.
-use Rattle.std.proofs.Common.{◌≡◌, ℕ, List, [], ◌∷◌, refl, sym, ◌∙◌, Result, Ok, Err, codes}
+use Rattle.std.proofs.Common.{◌≡◌, [], ◌∷◌, refl, sym, ◌∙◌, Ok, Err, codes}
 use Rattle.scaled_decimal.specs.declared.DecimalFault.TheVariants.{NotFinite, TooFine}
 use Rattle.scaled_decimal.specs.Reading.{units_of, units_in, whole_number, decimal_in, sign_in}
 use Rattle.record_reading.specs.Rows.{gather}
@@ -10,7 +10,6 @@ use Rattle.net_case.specs.declared.live_parts.Branches.TheVariants.{Read, Skip}
 use Rattle.net_case.specs.declared.live_parts.NetFault.{NetFault}
 use Rattle.net_case.specs.declared.live_parts.NetFault.TheVariants as fault
 use Rattle.net_case.specs.declared.live_parts.PostRating.TheVariants as post
-use Rattle.net_case.specs.Networks.{LiveNetwork}
 use Rattle.net_case.specs.NetworkReading.{network_of, few_rows, bus_rows, bus_row_after, counted_in, row_of_type, demands_in, place_of_number, unit_row, unit_where, bounds_in, branch_row, branch_where, limits_in, limit_in, rated_limit, shifted_in}
 use Rattle.network_meaning.specs.Worked.{cells, worked, worked_network, worked_pool, with_rows, some_bus, some_unit, some_branch, HasNone, WorkedCases}
 use Rattle.network_meaning.proofs.NetworksRead.{network-read, read-network}

@@ -1,5 +1,5 @@
 -- Fixed parts of units, and their room.
-use Rattle.std.specs.Prelude.{◌≡◌, ℕ, ◌≤◌, ℤ, ◌≤ℤ◌, ◌-ℤ◌, unsigned_abs}
+use Rattle.std.specs.Prelude.{◌≡◌, ◌≤◌, ℤ, ◌≤ℤ◌, ◌-ℤ◌, unsigned_abs}
 use Rattle.std.specs.List.{AllZip}
 use Rattle.market_data.specs.declared.participants.Unit as kept
 use Rattle.market_data.specs.declared.participants.UnitList.{UnitList}
