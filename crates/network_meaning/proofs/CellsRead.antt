@@ -1,9 +1,8 @@
 -- What is read of cells is what they say.
-use Rattle.std.proofs.Common.{◌≡◌, ℕ, ◌≤◌, ◌<◌, ◌&&◌, ℤ, pos, negsuc, Bool, true, false, List, refl, sym, ap, subst, ◌∙◌, arith, Option, Some, None, Result, Ok, Err, cond}
+use Rattle.std.proofs.Common.{◌≡◌, ℕ, ◌≤◌, ◌&&◌, ℤ, pos, negsuc, Bool, true, false, List, refl, sym, ap, subst, ◌∙◌, arith, Result, Ok, Err}
 use Rattle.std.specs.Prelude.{unsigned_abs, if◌then◌else◌}
-use Rattle.std.specs.Int.Signed.{le_z, lt_z}
+use Rattle.std.specs.Int.Signed.{le_z}
 use Rattle.std.proofs.lemmas.Grind.{common_steps}
-use Rattle.std.proofs.lemmas.Bool.{and_parts}
 use Rattle.fraction_theory.specs.declared.Sign.{Sign}
 use Rattle.record_reading.specs.Records.{Record}
 use Rattle.record_reading.specs.Steps.{and_then}
@@ -14,7 +13,6 @@ use Rattle.scaled_decimal.specs.Reading.{Reads, HasSign, units_of, sign_in}
 use Rattle.scaled_decimal.proofs.ReadingLaws.{Reads-units_of, units_of-Reads, HasSign-sign_in, sign_in-HasSign}
 use Rattle.case_text.specs.declared.Field.{Field}
 use Rattle.case_text.specs.declared.Field.TheVariants as field
-use Rattle.net_case.specs.declared.live_parts.NetFault.{NetFault}
 use Rattle.net_case.specs.declared.live_parts.NetFault.TheVariants as fault
 use Rattle.net_case.specs.NetworkReading.{in_cell, number_in, sign_at, service_in, is_above, counted_in}
 use Rattle.network_meaning.specs.Cells.{cell, IsAmount, IsWhole, IsOfSign}

@@ -5,3 +5,5 @@ pub mod Places
 pub mod UnitsRead
 pub mod BranchesRead
 pub mod NetworksRead
+pub mod RoomsRead
+pub mod WorkedCases

@@ -1,7 +1,7 @@
 -- What is read of a case is its live network, and the live network of a case is read of it.
 use Rattle.std.proofs.Common.{◌≡◌, ℕ, ◌≤◌, Bool, true, false, List, [], length, refl, sym, ap, subst, ◌∙◌, arith, Option, Some, None, Result, Ok, Err}
 use Rattle.std.specs.Prelude.{if◌then◌else◌, nat_lt}
-use Rattle.std.specs.List.{AllByRecursion, AllZip}
+use Rattle.std.specs.List.{AllZip}
 use Rattle.std.proofs.lemmas.Grind.{common_steps}
 use Rattle.market_data.specs.Scales.{most_buses, most_lines, most_units}
 use Rattle.market_data.specs.declared.participants.Bus.{Bus}
@@ -21,13 +21,13 @@ use Rattle.net_case.specs.declared.live_parts.NetFault.TheVariants as fault
 use Rattle.net_case.specs.declared.live_parts.NetUnit.{NetUnit}
 use Rattle.net_case.specs.Networks.{LiveNetwork}
 use Rattle.net_case.specs.NetworkReading.{ReadBuses, Places, referenced, reference_of, bus_row, bus_rows, live_buses, places_from, unit_row, branch_row, few_rows, branch_count, branches_in, network_of}
-use Rattle.network_meaning.specs.BusRows.{BusRow, IsBusRow, AreApart, in_service, IsReference, IsPlaced}
+use Rattle.network_meaning.specs.BusRows.{BusRow, IsBusRow, AreApart, IsReference, IsPlaced}
 use Rattle.network_meaning.specs.Units.{AreGiven, IsGenRow}
 use Rattle.network_meaning.specs.BranchRows.{IsBranchRow}
 use Rattle.network_meaning.specs.LiveNetworks.{AreBranches, IsLiveNetwork}
 use Rattle.network_meaning.proofs.RowsRead.{given-read, read-given}
 use Rattle.network_meaning.proofs.BusesRead.{all_read, rows-read, read-rows}
-use Rattle.network_meaning.proofs.Places.{IsFine, are-fine, live-read, placed-read, read-placed, buses-differ, reference-read, read-reference}
+use Rattle.network_meaning.proofs.Places.{are-fine, live-read, placed-read, read-placed, buses-differ, reference-read, read-reference}
 use Rattle.network_meaning.proofs.UnitsRead.{AreFound, are-found, gen_row-read, read-gen_row}
 use Rattle.network_meaning.proofs.BranchesRead.{branch_row-read, read-branch_row}
 

@@ -1,12 +1,12 @@
 -- The places of buses among the buses in service, and the place of the reference.
-use Rattle.std.proofs.Common.{◌≡◌, ◌≢◌, ℕ, zero, suc, ◌+◌, ◌≤◌, ◌<◌, ◌==◌, Bool, true, false, not, List, [], ◌∷◌, ◌++◌, length, map, get_or, refl, sym, ap, subst, ◌∙◌, arith, Option, Some, None, cond, length-append}
-use Rattle.std.specs.Prelude.{AllPairs, All, is_some, IsSome, IfSome, filter, position, slice_get, nat_lt}
-use Rattle.std.specs.List.{AllByRecursion, AllZip, filter_map, position_or_len, cons_option}
+use Rattle.std.proofs.Common.{◌≡◌, ◌≢◌, ℕ, suc, ◌+◌, ◌≤◌, ◌==◌, Bool, true, false, List, [], ◌∷◌, ◌++◌, length, map, refl, sym, ap, subst, ◌∙◌, arith, Option, Some, None, length-append}
+use Rattle.std.specs.Prelude.{AllPairs, All, is_some, IsSome, IfSome, filter, position, slice_get}
+use Rattle.std.specs.List.{AllByRecursion, AllZip, cons_option}
 use Rattle.std.proofs.Math.Logic.{⊎_elim}
 use Rattle.std.proofs.Math.Seq.{get_or-append_seam}
 use Rattle.std.proofs.lemmas.Bool.{eqb-true, eq-eqb, ne_eqb, cases_lt}
 use Rattle.std.proofs.lemmas.Grind.{common_steps}
-use Rattle.std.proofs.lemmas.List.{append_assoc, append-nil, length-map}
+use Rattle.std.proofs.lemmas.List.{append_assoc, append-nil}
 use Rattle.std.proofs.lemmas.List.Elements.{All-cons, All-nil}
 use Rattle.std.proofs.lemmas.List.Kept.{AllPairs-cons}
 use Rattle.std.proofs.lemmas.Option.{slice_get_within, get_or_from_slice_get, slice_get-get_or, slice_get-map}
@@ -15,8 +15,8 @@ use Rattle.record_reading.specs.Records.{Record}
 use Rattle.record_reading.specs.Rows.{listed}
 use Rattle.net_case.specs.declared.bus_rows.BusRow as read
 use Rattle.net_case.specs.NetworkReading.{Places, places_from, reference_of, live_buses, next_place}
-use Rattle.network_meaning.specs.BusRows.{BusRow, IsBus, IsBusInService, IsBusRow, numbers, AreApart, in_service, IsReference, IsPlace, IsPlaced}
-use Rattle.network_meaning.proofs.BusesRead.{as_read, all_read}
+use Rattle.network_meaning.specs.BusRows.{BusRow, IsBus, IsBusRow, numbers, AreApart, in_service, IsReference, IsPlace, IsPlaced}
+use Rattle.network_meaning.proofs.BusesRead.{all_read}
 
 pub live-read : (rows : List BusRow) → live_buses (all_read rows) ≡ in_service rows
 live-read [] = refl

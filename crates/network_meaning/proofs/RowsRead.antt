@@ -1,5 +1,5 @@
 -- Rows that are read one by one, each apart from the others.
-use Rattle.std.proofs.Common.{◌≡◌, ℕ, ◌+◌, List, [], ◌∷◌, ◌++◌, refl, sym, ap, ◌∙◌, Option, Some, None, Result, Ok, Err}
+use Rattle.std.proofs.Common.{◌≡◌, ℕ, ◌+◌, List, [], ◌∷◌, ◌++◌, sym, ap, ◌∙◌, Option, Some, None, Result, Ok}
 use Rattle.std.specs.List.{AllZip, filter_map, enumerate_from}
 use Rattle.std.proofs.lemmas.List.{append_assoc, append-nil}
 use Rattle.record_reading.specs.Records.{Record}

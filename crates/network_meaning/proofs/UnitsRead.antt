@@ -1,5 +1,5 @@
 -- Places of buses that are looked up, and the units that are read of gen rows.
-use Rattle.std.proofs.Common.{◌≡◌, ◌≢◌, ℕ, ◌≤◌, ◌<◌, ◌==◌, ◌&&◌, ℤ, pos, negsuc, Bool, true, false, List, [], ◌∷◌, refl, sym, ap, subst, ◌∙◌, arith, Option, Some, None, Result, Ok, Err, inl, inr}
+use Rattle.std.proofs.Common.{◌≡◌, ℕ, ◌≤◌, ◌==◌, ◌&&◌, ℤ, pos, Bool, true, false, List, [], ◌∷◌, refl, sym, ap, subst, ◌∙◌, arith, Option, Some, None, Ok, Err, inl, inr}
 use Rattle.std.specs.Prelude.{if◌then◌else◌, All, Contains, IsSome, unsigned_abs, ◌≤ℤ◌, ◌<ℤ◌}
 use Rattle.std.specs.Int.Signed.{le_z, lt_z, lt_z_no, lt_z_yes}
 use Rattle.std.specs.List.{AllByRecursion}
@@ -20,12 +20,10 @@ use Rattle.record_reading.proofs.StepLemmas.{then-ok, some-ok, ok-same}
 use Rattle.case_text.specs.declared.Field.{Field}
 use Rattle.case_text.specs.declared.Field.TheVariants as field
 use Rattle.net_case.specs.declared.live_parts.NetUnit.{NetUnit}
-use Rattle.net_case.specs.declared.live_parts.NetFault.{NetFault}
 use Rattle.net_case.specs.declared.live_parts.NetFault.TheVariants as fault
 use Rattle.net_case.specs.Columns.{GEN_BUS, GEN_STATUS, PMAX, PMIN}
 use Rattle.net_case.specs.Networks.{most_bus_number}
 use Rattle.net_case.specs.NetworkReading.{number_in, service_in, is_above, Places, places_from, place_of_number, named_place, bounds_in, unit_where, unit_row}
-use Rattle.network_meaning.specs.Cells.{cell}
 use Rattle.network_meaning.specs.BusRows.{BusRow, numbers, AreApart}
 use Rattle.network_meaning.specs.Units.{IsUnitInService, IsUnit, IsGenRow}
 use Rattle.network_meaning.proofs.CellsRead.{amount-read, read-amount, service-read, read-service, between, is_between}

@@ -1,7 +1,11 @@
 -- What the cells of a case say.
 --
--- Where a matrix says something of the network, `IsX` tells when: a record lists what holds together, `×` is "and", `⊎` is "or", `⊥` never
--- holds, `Unit {0}` always does. `Option` is for what may be missing: `None` where it is, and `Some` of it where it is not.
+-- Where rows say something of a network, `IsX` or `AreX` tells when. A record lists conditions that hold together, `×` is "and", `⊎` is "or",
+-- `⊥` never holds, `Unit {0}` always does, and `≢` is "is not". `Option` is for what may be missing: `None` where it is, `Some x` where x is
+-- there. Of lists: `AllZip R xs ys` says that they are as long, and that R holds of each x and the y at its place; `filter_map h xs` has what h
+-- gives of each x in order, without those of which it gives none; `enumerate_from 1 xs` has each x with its number, from 1; `AllPairs R xs`
+-- says that R holds of each x and every later one, `AllByRecursion P xs` that P holds of each; `slice_get xs n` is the x at place n, the first
+-- being 0.
 use Rattle.std.specs.Prelude.{◌≡◌, ℕ, ◌-◌, ◌^◌, ◌<◌, ℤ, List, [], slice_index_or, unsigned_abs}
 use Rattle.fraction_theory.specs.Fraction.{Fraction, over}
 use Rattle.fraction_theory.specs.declared.Sign.{Sign}
