@@ -1,2 +1,5 @@
 mod CellsRead
 mod LinesRead
+mod LinesDerived
+mod TextsDerived
+mod Framed
