@@ -1,5 +1,5 @@
 -- The cells of a record by the grammar are read as that record.
-use Rattle.std.proofs.Common.{◌≡◌, ◌≢◌, ◌==◌, ◌⊎◌, ℕ, Bool, true, false, List, [], ◌∷◌, ◌++◌, Option, Some, refl, sym, ap, subst, ◌∙◌, append_assoc, inl, inr}
+use Rattle.std.proofs.Common.{◌≡◌, ◌≢◌, ◌==◌, ◌⊎◌, ℕ, false, List, [], ◌∷◌, ◌++◌, Option, Some, refl, sym, ap, subst, ◌∙◌, append_assoc, inl, inr}
 use Rattle.std.specs.List.{AllByRecursion}
 use Rattle.std.proofs.lemmas.List.{append-nil}
 use Rattle.std.proofs.lemmas.Bool.{ne_eqb}
@@ -8,7 +8,7 @@ use Rattle.csv.specs.Reading.{default_config}
 use Rattle.csv.specs.declared.parser.State.{State}
 use Rattle.csv.specs.declared.parser.State.TheVariants as st
 use Rattle.csv.specs.declared.parser.Terminator.TheVariants as term
-use Rattle.table_grammar.specs.Cells.{Character, one, doubled, characters_text, characters_bytes, IsCharacter, IsPlain, BeginsUnquoted, IsPlainText, Cell, plain, quoted, unclosed, cell_text, cell_bytes, IsCell, IsClosed, Cells, only, comma, cells_text, record_of, AreCells, LastIsClosed, IsNoEmptyLine, IsRecord}
+use Rattle.table_grammar.specs.Cells.{Character, one, doubled, characters_text, characters_bytes, IsCharacter, IsPlain, BeginsUnquoted, Cell, plain, quoted, unclosed, cell_text, cell_bytes, IsCell, IsClosed, Cells, only, comma, cells_text, record_of, AreCells, LastIsClosed, IsNoEmptyLine, IsRecord}
 
 abbrev pub next : State → List (List ℕ) → List ℕ → List ℕ → Option Read
 next s fields field bytes = next_record default_config s fields field bytes

@@ -3,3 +3,4 @@ mod LinesRead
 mod LinesDerived
 mod TextsDerived
 mod Framed
+mod WorkedTexts

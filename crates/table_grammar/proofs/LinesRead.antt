@@ -1,15 +1,14 @@
 -- The records of a text by the grammar are those that are read.
-use Rattle.std.proofs.Common.{◌≡◌, ◌==◌, ◌+◌, ◌<◌, ℕ, zero, suc, Bool, true, false, List, [], ◌∷◌, ◌++◌, length, Option, Some, None, refl, sym, ap, ◌∙◌, append_assoc, inl, inr, arith, length-append}
+use Rattle.std.proofs.Common.{◌≡◌, ◌==◌, ◌+◌, ◌<◌, ℕ, zero, suc, Bool, true, false, List, [], ◌∷◌, ◌++◌, length, refl, sym, ap, ◌∙◌, inl, inr, arith, length-append}
 use Rattle.std.proofs.lemmas.List.{append-nil}
 use Rattle.std.proofs.lemmas.Bool.{cases_Bool, eqb-true}
 use Rattle.csv.specs.Machine.{next_record}
 use Rattle.csv.specs.Reading.{default_config, records, records_from, records_next, strip_bom}
-use Rattle.csv.specs.declared.parser.State.{State}
 use Rattle.csv.specs.declared.parser.State.TheVariants as st
 use Rattle.csv_table.specs.Table.{table_of}
 use Rattle.record_reading.specs.Records.{Record}
-use Rattle.table_grammar.specs.Cells.{Cells, cells_text, record_of, LastIsClosed, IsRecord}
-use Rattle.table_grammar.specs.TableTexts.{LineEnd, feed, return, return_feed, line_end_text, Lines, no_lines, empty_line, line, last_line, lines_text, records_of, AreLines, TableText, table_text, BeginsUnmarked, IsTableText}
+use Rattle.table_grammar.specs.Cells.{Cells, cells_text, record_of, LastIsClosed}
+use Rattle.table_grammar.specs.TableTexts.{LineEnd, feed, return, return_feed, line_end_text, Lines, no_lines, empty_line, line, last_line, lines_text, records_of, AreLines, table_text, BeginsUnmarked, IsTableText}
 use Rattle.table_grammar.proofs.CellsRead.{next, ended, Follows, record-run}
 
 -- ---- between records

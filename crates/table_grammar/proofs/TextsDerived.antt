@@ -1,9 +1,9 @@
 -- Every text gives records by the grammar, which are those that are read.
-use Rattle.std.proofs.Common.{◌≡◌, ◌≢◌, ◌==◌, ℕ, Bool, true, false, List, [], ◌∷◌, get_or, sym, ap, subst, ◌∙◌, inl, inr, refl}
+use Rattle.std.proofs.Common.{◌≡◌, ◌==◌, ℕ, true, false, List, [], ◌∷◌, get_or, sym, ap, subst, ◌∙◌, inl, inr, refl}
 use Rattle.std.proofs.lemmas.Bool.{cases_Bool, eqb-true, eqb-false}
 use Rattle.csv_table.specs.Table.{table_of}
 use Rattle.record_reading.specs.Records.{Record}
-use Rattle.table_grammar.specs.TableTexts.{Lines, lines_text, records_of, AreLines, BeginsUnmarked, IsTableText}
+use Rattle.table_grammar.specs.TableTexts.{records_of, BeginsUnmarked, IsTableText}
 use Rattle.table_grammar.proofs.LinesRead.{derived-read}
 use Rattle.table_grammar.proofs.LinesDerived.{derived}
 

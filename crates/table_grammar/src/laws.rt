@@ -4,6 +4,7 @@ ghost use Rattle.std.specs.Prelude.{◌≡◌, ℕ, List, Option, Ok};
 ghost use Rattle.csv_table.specs.Table.{table_of, frame_of};
 ghost use Rattle.record_reading.specs.Records.{Record};
 ghost use Rattle.table_grammar.specs.TableTexts.{IsTableText, IsTable};
+ghost use Rattle.table_grammar.specs.Worked.{WorkedTexts};
 
 /// The records that are read of a text are derived from it.
 pub fn read_records_are_derived()
@@ -28,4 +29,9 @@ pub fn read_tables_are_derived()
 /// A table under a header by the grammar is read as that.
 pub fn derived_tables_are_read()
     ensures { (header : Record) (most : Option ℕ) (bytes : List ℕ) (records : List Record) → IsTable header most bytes records → frame_of header most (table_of bytes) ≡ Ok records }
+{}
+
+/// Worked texts have their records.
+pub fn worked_texts()
+    ensures { WorkedTexts }
 {}
