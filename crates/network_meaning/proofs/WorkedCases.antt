@@ -11,7 +11,7 @@ use Rattle.net_case.specs.declared.live_parts.NetFault.{NetFault}
 use Rattle.net_case.specs.declared.live_parts.NetFault.TheVariants as fault
 use Rattle.net_case.specs.declared.live_parts.PostRating.TheVariants as post
 use Rattle.net_case.specs.NetworkReading.{network_of, few_rows, bus_rows, bus_row_after, counted_in, row_of_type, demands_in, place_of_number, unit_row, unit_where, bounds_in, branch_row, branch_where, limits_in, limit_in, rated_limit, shifted_in}
-use Rattle.network_meaning.specs.Worked.{cells, worked, worked_network, worked_pool, with_rows, some_bus, some_unit, some_branch, HasNone, WorkedCases}
+use Rattle.network_meaning.specs.Worked.{cells, worked, worked_network, worked_pool, with_rows, some_bus, some_unit, some_branch, first_unit, first_branch, HasNone, WorkedCases}
 use Rattle.network_meaning.proofs.NetworksRead.{network-read, read-network}
 
 network-is : network_of (Read post.B) worked ≡ Ok worked_network
@@ -22,15 +22,15 @@ pool-is : network_of Skip worked ≡ Ok worked_pool
 unfolding network_of few_rows bus_rows gather bus_row_after counted_in row_of_type demands_in place_of_number unit_row unit_where bounds_in branch_row branch_where limits_in limit_in rated_limit shifted_in units_of units_in whole_number decimal_in sign_in
 pool-is = refl
 
-bus_twice-refused : network_of (Read post.C) (with_rows (cells (codes "7.0 1 0 0 0 0 1 1 0 230 1 1.1 0.9")) some_unit some_branch) ≡ Err (fault.BusTwice 2)
+bus_twice-refused : network_of (Read post.C) (with_rows (cells (codes "7.0 1 0 0 0 0 1 1 0 230 1 1.1 0.9")) first_unit first_branch) ≡ Err (fault.BusTwice 2)
 unfolding network_of few_rows bus_rows gather bus_row_after counted_in row_of_type demands_in place_of_number unit_row unit_where bounds_in branch_row branch_where limits_in limit_in rated_limit shifted_in units_of units_in whole_number decimal_in sign_in
 bus_twice-refused = refl
 
-part_number-refused : network_of (Read post.C) (with_rows (cells (codes "8.5 1 0 0 0 0 1 1 0 230 1 1.1 0.9")) some_unit some_branch) ≡ Err (fault.Cell field.Bus 2 1 (why.Decimal TooFine))
+part_number-refused : network_of (Read post.C) (with_rows (cells (codes "8.5 1 0 0 0 0 1 1 0 230 1 1.1 0.9")) first_unit first_branch) ≡ Err (fault.Cell field.Bus 2 1 (why.Decimal TooFine))
 unfolding network_of few_rows bus_rows gather bus_row_after counted_in row_of_type demands_in place_of_number unit_row unit_where bounds_in branch_row branch_where limits_in limit_in rated_limit shifted_in units_of units_in whole_number decimal_in sign_in
 part_number-refused = refl
 
-large_number-refused : network_of (Read post.C) (with_rows (cells (codes "2147483648 1 0 0 0 0 1 1 0 230 1 1.1 0.9")) some_unit some_branch) ≡ Err (fault.Cell field.Bus 2 1 why.Bounds)
+large_number-refused : network_of (Read post.C) (with_rows (cells (codes "2147483648 1 0 0 0 0 1 1 0 230 1 1.1 0.9")) first_unit first_branch) ≡ Err (fault.Cell field.Bus 2 1 why.Bounds)
 unfolding network_of few_rows bus_rows gather bus_row_after counted_in row_of_type demands_in place_of_number unit_row unit_where bounds_in branch_row branch_where limits_in limit_in rated_limit shifted_in units_of units_in whole_number decimal_in sign_in
 large_number-refused = refl
 
@@ -81,9 +81,9 @@ pub worked-cases : WorkedCases
 worked-cases = record {
   network = network-read (Read post.B) worked worked_network network-is;
   pool = network-read Skip worked worked_pool pool-is;
-  bus_twice = none (with_rows (cells (codes "7.0 1 0 0 0 0 1 1 0 230 1 1.1 0.9")) some_unit some_branch) (fault.BusTwice 2) bus_twice-refused;
-  part_number = none (with_rows (cells (codes "8.5 1 0 0 0 0 1 1 0 230 1 1.1 0.9")) some_unit some_branch) (fault.Cell field.Bus 2 1 (why.Decimal TooFine)) part_number-refused;
-  large_number = none (with_rows (cells (codes "2147483648 1 0 0 0 0 1 1 0 230 1 1.1 0.9")) some_unit some_branch) (fault.Cell field.Bus 2 1 why.Bounds) large_number-refused;
+  bus_twice = none (with_rows (cells (codes "7.0 1 0 0 0 0 1 1 0 230 1 1.1 0.9")) first_unit first_branch) (fault.BusTwice 2) bus_twice-refused;
+  part_number = none (with_rows (cells (codes "8.5 1 0 0 0 0 1 1 0 230 1 1.1 0.9")) first_unit first_branch) (fault.Cell field.Bus 2 1 (why.Decimal TooFine)) part_number-refused;
+  large_number = none (with_rows (cells (codes "2147483648 1 0 0 0 0 1 1 0 230 1 1.1 0.9")) first_unit first_branch) (fault.Cell field.Bus 2 1 why.Bounds) large_number-refused;
   unknown_type = none (with_rows (cells (codes "8 5 0 0 0 0 1 1 0 230 1 1.1 0.9")) some_unit some_branch) (fault.Cell field.Bus 2 2 why.Bounds) unknown_type-refused;
   fine_load = none (with_rows (cells (codes "8 1 0.0000000005 0 0 0 1 1 0 230 1 1.1 0.9")) some_unit some_branch) (fault.Cell field.Bus 2 3 (why.Decimal TooFine)) fine_load-refused;
   no_reference = none (record { bus = some_bus ∷ []; generators = []; branch = [] }) (fault.NoReference) no_reference-refused;

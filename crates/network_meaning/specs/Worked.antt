@@ -71,6 +71,13 @@ some_unit = cells (codes "8 0 0 0 0 1 100 1 100 0")
 abbrev pub some_branch : Record
 some_branch = cells (codes "7 8 0 0.2 0 0 0 0 0 0 1")
 
+-- a unit and a branch out of service at the first bus alone, so that the other row is the one at fault
+abbrev pub first_unit : Record
+first_unit = cells (codes "7 0 0 0 0 1 100 1 100 0")
+
+abbrev pub first_branch : Record
+first_branch = cells (codes "7 7 0 0.2 0 0 0 0 0 0 0")
+
 abbrev pub HasNone : CaseMatrices → Type 0
 HasNone case = (network : LiveNetwork) → IsLiveNetwork (Read post.C) case network → ⊥
 
@@ -78,10 +85,10 @@ pub record WorkedCases : Type 0 where
   pub network : IsLiveNetwork (Read post.B) worked worked_network
   pub pool : IsLiveNetwork Skip worked worked_pool
   -- the number of a bus again
-  pub bus_twice : HasNone (with_rows (cells (codes "7.0 1 0 0 0 0 1 1 0 230 1 1.1 0.9")) some_unit some_branch)
+  pub bus_twice : HasNone (with_rows (cells (codes "7.0 1 0 0 0 0 1 1 0 230 1 1.1 0.9")) first_unit first_branch)
   -- a number that is not whole, one that is too large, and a type that there is not
-  pub part_number : HasNone (with_rows (cells (codes "8.5 1 0 0 0 0 1 1 0 230 1 1.1 0.9")) some_unit some_branch)
-  pub large_number : HasNone (with_rows (cells (codes "2147483648 1 0 0 0 0 1 1 0 230 1 1.1 0.9")) some_unit some_branch)
+  pub part_number : HasNone (with_rows (cells (codes "8.5 1 0 0 0 0 1 1 0 230 1 1.1 0.9")) first_unit first_branch)
+  pub large_number : HasNone (with_rows (cells (codes "2147483648 1 0 0 0 0 1 1 0 230 1 1.1 0.9")) first_unit first_branch)
   pub unknown_type : HasNone (with_rows (cells (codes "8 5 0 0 0 0 1 1 0 230 1 1.1 0.9")) some_unit some_branch)
   -- a load that is finer than its unit
   pub fine_load : HasNone (with_rows (cells (codes "8 1 0.0000000005 0 0 0 1 1 0 230 1 1.1 0.9")) some_unit some_branch)
