@@ -1,13 +1,11 @@
 //! Tests of `command_answers`: each command on a case of three buses, the texts of the five-bus system, limits that give way at a
-//! penalty, outages of units, factors of nine places, transmission rights, and reserve.
+//! penalty, outages of units, factors of nine places, and transmission rights.
 #![tactic(auto)]
 
 #[cfg(test)]
 mod network_tests;
 #[cfg(test)]
 mod places_tests;
-#[cfg(test)]
-mod reserve_tests;
 #[cfg(test)]
 mod rights_tests;
 #[cfg(test)]
