@@ -41,7 +41,7 @@ size_words = codes "4" ∷ codes "8" ∷ codes "16" ∷ codes "32" ∷ codes "64
 
 -- an option `--NAME FILE`, at most once
 abbrev pub table_rule : Text → Rule
-table_rule name = record (new_rule name) { long = Some name }
+table_rule name = record (new_rule name) { long = Some name; value_names = 1 }
 
 -- one that must be there
 abbrev pub file_rule : Text → Rule
@@ -109,9 +109,9 @@ migrate_app = with_file (with_file (new_app (codes "migrate")) (codes "certifica
 abbrev pub make_app : NameList → App
 make_app sizes = with_rule (with_rule (new_app (codes "make")) (value_rule (codes "N") (Names sizes))) (value_rule (codes "SEED") (Signed (pos 0) (pos 4294967295)))
 
--- a command that one of its subcommands must follow, of which `help` is none
+-- a command that tells its version, and that one of its subcommands must follow, of which `help` is none
 abbrev pub needs_subcommand : App → App
-needs_subcommand a = record a { top = record a.top { subcommand_required = true; disable_help_subcommand = true } }
+needs_subcommand a = record a { top = record a.top { has_version = true; subcommand_required = true; disable_help_subcommand = true } }
 
 -- the program's command over the lists of the sizes of rings, of the ratings and of the numbers of places; it has eight subcommands
 unfoldable pub sced_app_over : NameList → NameList → NameList → App
@@ -129,7 +129,7 @@ abbrev pub is_fault : Kinds → Bool
 is_fault [] = false
 is_fault (k ∷ kinds) = true
 
--- whether the command refuses the words, for another cause than memory; words that ask for help are refused
+-- whether the command refuses the words, for another cause than memory; words that ask for help or the version are refused
 unfoldable pub refuses : List Text → Bool
 refuses words = is_fault (fault_of sced_app words)
 

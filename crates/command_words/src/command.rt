@@ -43,16 +43,33 @@ const MIGRATED: &str = "The certificate that is written anew";
 
 const OUT: &str = "The file that it is written to";
 
+/// The kit that proves and builds the program, as `rt version` prints it.
+const VERSION: &str = "rattle-kit-13f logic dac8208d650f15bf";
+
+const STATUSES: &str =
+    "Statuses: 0 done, 1 usage, 2 a file is refused, 3 infeasible, 4 range, 5 a read failed, 6 a write failed, 7 no memory, 8 `no`, beyond rounding, or rights that do not fit";
+
 const SIZE: &str = "How many buses the ring has";
 
 const SEED: &str = "The seed of the ring's numbers, from 0 to 4294967295";
+
+/// An option that takes a value, which help calls by this name.
+fn named_option<'a>(alloc: Global, name: &'a str, value: &'a str, help: &'a str) -> Arg<'a>
+    ensures rule { rule_of result ≡ table_rule name.entry.now }
+    ensures local { result.global ≡ false }
+{
+    Arg::new(alloc, name)
+        .long(name)
+        .value_name(value)
+        .help(help)
+}
 
 /// An option that names a file, where it is there.
 fn table_option<'a>(alloc: Global, name: &'a str, help: &'a str) -> Arg<'a>
     ensures rule { rule_of result ≡ table_rule name.entry.now }
     ensures local { result.global ≡ false }
 {
-    Arg::new(alloc, name).long(name).help(help)
+    named_option(alloc, name, "FILE", help)
 }
 
 /// An option that names a file, and must be there.
@@ -64,11 +81,17 @@ fn file_option<'a>(alloc: Global, name: &'a str, help: &'a str) -> Arg<'a>
 }
 
 /// An option that takes one of these words.
-fn choice_option<'a>(alloc: Global, name: &'a str, help: &'a str, choices: &'a [&'a str]) -> Arg<'a>
+fn choice_option<'a>(
+    alloc: Global,
+    name: &'a str,
+    value: &'a str,
+    help: &'a str,
+    choices: &'a [&'a str],
+) -> Arg<'a>
     ensures rule { rule_of result ≡ choice_rule name.entry.now choices.entry }
     ensures local { result.global ≡ false }
 {
-    table_option(alloc, name, help).value_parser(choices)
+    named_option(alloc, name, value, help).value_parser(choices)
 }
 
 /// The value that is one of the sizes of rings.
@@ -152,7 +175,7 @@ fn with_places<'a>(
     ensures app { IfOk result (λ made. app_of made ≡ with_places (app_of command.entry) places.entry) }
     ensures local { IfOk result (λ made. (fields_of made).has_globals ≡ false) }
 {
-    command.arg(choice_option(alloc, "factor-places", PLACES, places))
+    command.arg(choice_option(alloc, "factor-places", "PLACES", PLACES, places))
 }
 
 /// A command with the files of a market with limits, the rating after an outage, and the places of factors.
@@ -175,7 +198,7 @@ fn with_market<'a>(
     let command = with_table(alloc, command, "reserves", RESERVES)?;
     let command = with_table(alloc, command, "offsets", OFFSETS)?;
     let command = with_table(alloc, command, "penalties", PENALTIES)?;
-    let command = command.arg(choice_option(alloc, "post-rating", POST_RATING, ratings))?;
+    let command = command.arg(choice_option(alloc, "post-rating", "RATING", POST_RATING, ratings))?;
     with_places(alloc, command, places)
 }
 
@@ -313,6 +336,8 @@ fn bare_command<'a>(alloc: Global) -> Command<'a>
         "sced",
         "Clears the market of one interval of an electricity network",
     )
+    .version(VERSION)
+    .after_help(STATUSES)
     .subcommand_required(true)
     .disable_help_subcommand(true)
 }

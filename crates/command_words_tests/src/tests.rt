@@ -22,7 +22,7 @@ fn told(alloc: Global, line: &str) -> Result<String, Fail> {
     Ok(String::from_str(alloc, first)?)
 }
 
-const TABLE: [(&str, &str); 42] = [
+const TABLE: [(&str, &str); 43] = [
     (
         "sced pool --case n.m --offers o.csv",
         "Pool(PoolFiles { case: \"n.m\", offers: \"o.csv\" })",
@@ -77,7 +77,7 @@ const TABLE: [(&str, &str); 42] = [
     ),
     (
         "sced check --case n.m --ptdf p --factor-places 7",
-        "error: invalid value '7' for '--factor-places <factor-places>'",
+        "error: invalid value '7' for '--factor-places <PLACES>'",
     ),
     ("sced make 4 7", "Make(RingWords { buses: 4, seed: 7 })"),
     (
@@ -121,11 +121,11 @@ const TABLE: [(&str, &str); 42] = [
     ),
     (
         "sced clear --case n.m --ptdf p --offers o --post-rating d",
-        "error: invalid value 'd' for '--post-rating <post-rating>'",
+        "error: invalid value 'd' for '--post-rating <RATING>'",
     ),
     (
         "sced clear --case n.m --ptdf p --offers o --lodf l --lodf l",
-        "error: the argument '--lodf <lodf>' cannot be used multiple times",
+        "error: the argument '--lodf <FILE>' cannot be used multiple times",
     ),
     (
         "sced pool --case n.m --offers o --ptdf p",
@@ -137,7 +137,7 @@ const TABLE: [(&str, &str); 42] = [
     ),
     (
         "sced clear --case n.m --ptdf p --offers o --reserves v --reserves v",
-        "error: the argument '--reserves <reserves>' cannot be used multiple times",
+        "error: the argument '--reserves <FILE>' cannot be used multiple times",
     ),
     (
         "sced",
@@ -146,6 +146,10 @@ const TABLE: [(&str, &str); 42] = [
     (
         "sced --help",
         "Clears the market of one interval of an electricity network",
+    ),
+    (
+        "sced --version",
+        "sced rattle-kit-13f logic dac8208d650f15bf",
     ),
     (
         "sced pool --help",
@@ -189,6 +193,14 @@ fn words_are_read(rt: HostRuntime) -> Result<(), Fail> {
     Ok(())
 }
 
+/// Help tells the statuses at its end.
+#[test]
+fn help_tells_the_statuses(rt: HostRuntime) -> Result<(), Fail> {
+    let help = told_whole(rt.alloc(), "sced --help")?;
+    assert!(rt; help.contains("4 range"), "{help}");
+    Ok(())
+}
+
 /// The help of each command that reads a market tells of the table of reserve.
 #[test]
 fn help_tells_of_reserve(rt: HostRuntime) -> Result<(), Fail> {
@@ -199,7 +211,7 @@ fn help_tells_of_reserve(rt: HostRuntime) -> Result<(), Fail> {
         "sced rights --help",
     ] {
         let help = told_whole(rt.alloc(), line)?;
-        assert!(rt; help.contains("--reserves <reserves>"), "{line}");
+        assert!(rt; help.contains("--reserves <FILE>"), "{line}");
     }
     Ok(())
 }

@@ -68,7 +68,7 @@ fn refuses_words(rt: HostRuntime) -> Result<(), Fail> {
         ("", "error: "),
         (
             "sced pool --help",
-            "Clears the market as if no branch had a limit\n\nUsage: sced pool --case <case> --offers <offers>\n",
+            "Clears the market as if no branch had a limit\n\nUsage: sced pool --case <FILE> --offers <FILE>\n",
         ),
         (
             "sced reply --case a",
@@ -80,7 +80,7 @@ fn refuses_words(rt: HostRuntime) -> Result<(), Fail> {
         ),
         (
             "sced pool --case=a --case=a --offers=b",
-            "error: the argument '--case <case>' cannot be used multiple times\n",
+            "error: the argument '--case <FILE>' cannot be used multiple times\n",
         ),
     ] {
         let want = begins(Status::Usage, start);
