@@ -1,0 +1,3 @@
+pub mod Partitions
+pub mod Ways
+pub mod Potentials
