@@ -1,3 +1,5 @@
+pub mod Connection
 pub mod Partitions
-pub mod Ways
 pub mod Potentials
+pub mod Reactances
+pub mod Ways
