@@ -1,3 +1,4 @@
+pub mod Carried
 pub mod Connection
 pub mod Partitions
 pub mod Potentials
