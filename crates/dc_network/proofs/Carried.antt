@@ -1,10 +1,9 @@
 -- What a branch carries of 1 from bus to bus is one number, of a size of at most 1.
-use Rattle.std.specs.Prelude.{◌≡◌, ◌≢◌, ℕ, ◌<◌, ◌==◌, ℤ, pos, Bool, List, [], ◌∷◌, ◌⊎◌, length, Contains, Option, if◌then◌else◌, refl}
+use Rattle.std.specs.Prelude.{◌≡◌, ◌≢◌, ℕ, ◌<◌, pos, Bool, [], ◌∷◌, Contains, if◌then◌else◌, refl}
 use Rattle.std.proofs.Common.{ap, sym, ◌∙◌, subst, inl, inr}
 use mathlib.Core.Path.{ap₂}
 use Rattle.std.proofs.lemmas.Bool.Decides.{eqb_tells}
-use Rattle.std.proofs.lemmas.List.Elements.{All-contains}
-use Rattle.fraction_theory.specs.Fraction.{Fraction, whole, ◌+ℚ◌, ◌-ℚ◌, ◌*ℚ◌, neg_ℚ}
+use Rattle.fraction_theory.specs.Fraction.{Fraction, whole, ◌+ℚ◌, ◌-ℚ◌, ◌*ℚ◌}
 use Rattle.fraction_theory.specs.Order.{◌≤ℚ◌}
 use Rattle.fraction_theory.specs.Signs.{abs_ℚ}
 use Rattle.fraction_theory.specs.Sums.{sum_by}
@@ -13,11 +12,9 @@ use Rattle.fraction_theory.proofs.OrderLaws.{≤ℚ_refl}
 use Rattle.fraction_theory.proofs.Ring.{by_ring, by_ring1, at, pnil, pone, pneg, ◌⊕◌, ◌⊗◌}
 use Rattle.fraction_theory.proofs.SignLaws.{abs_above}
 use Rattle.fraction_theory.proofs.ListSums.{except, put_at-here, put_at-elsewhere, same_or_not, sum_by-members, sum_by-one, sum_by-split}
-use Rattle.net_case.specs.Networks.{LiveNetwork, IsNetBranch}
-use Rattle.net_case.specs.declared.live_parts.NetBranch.{NetBranch}
 use Rattle.net_paths.specs.Loops.{kept}
 use Rattle.network_theory.specs.Carrying.{IsCarried, one_at, put_through}
-use Rattle.network_theory.specs.Networks.{Branch, Network, IsBranchOf, IsConnected, IsNetwork, IsSolution, IsTransfer, flow, injection, places}
+use Rattle.network_theory.specs.Networks.{Branch, Network, IsConnected, IsNetwork, IsSolution, IsTransfer, flow, injection, places}
 use Rattle.network_theory.proofs.ByParts.{law_of_balance}
 use Rattle.network_theory.proofs.Existence.{law_of_solutions}
 use Rattle.network_theory.proofs.Factors.{law_of_the_factors}
@@ -25,7 +22,7 @@ use Rattle.network_theory.proofs.Places.{below_places, distinct_places, in_place
 use Rattle.network_theory.proofs.SignedSums.{sum_by-minus}
 use Rattle.network_theory.proofs.Solutions.{law_of_one_solution, law_of_rest, zero_within_one}
 use Rattle.dc_network.specs.DcNetworks.{dc_branch, dc_network}
-use Rattle.dc_network.specs.Laws.{IsSound, LawOfOneFactor}
+use Rattle.dc_network.specs.Laws.{LawOfOneFactor}
 use Rattle.dc_network.proofs.Connection.{Contains-map, is_connected, is_network}
 
 -- ---- 1 at a place

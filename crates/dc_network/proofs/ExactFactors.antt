@@ -1,5 +1,5 @@
 -- Flows that meet Kirchhoff's laws are what branches carry by angles, and no others.
-use Rattle.std.specs.Prelude.{◌≡◌, ℕ, ◌<◌, ◌^◌, ◌==◌, ℤ, pos, List, [], ◌∷◌, length, map, All, Contains, Option, refl}
+use Rattle.std.specs.Prelude.{◌≡◌, ℕ, ◌<◌, ◌^◌, ◌==◌, ℤ, pos, List, [], ◌∷◌, length, map, Contains, Option, refl}
 use Rattle.std.proofs.Common.{ap, sym, ◌∙◌}
 use mathlib.Core.Path.{ap₂}
 use Rattle.fraction_theory.specs.Fraction.{Fraction, whole, over, ◌+ℚ◌, ◌-ℚ◌, ◌*ℚ◌, recip_ℚ}
@@ -14,13 +14,13 @@ use Rattle.net_paths.specs.declared.loops_of_tree.Member.{Member}
 use Rattle.net_paths.specs.Loops.{kept, members_of, AreLoops}
 use Rattle.factor_residuals.specs.Injections.{taken_flow}
 use Rattle.factor_residuals.specs.Kirchhoff.{reactance_at}
-use Rattle.network_theory.specs.Carrying.{IsCarried, put_through}
+use Rattle.network_theory.specs.Carrying.{put_through}
 use Rattle.network_theory.specs.Networks.{Branch, Network, IsSolution, flow as carried_flow, injection}
 use Rattle.network_theory.proofs.ByParts.{taken, injection_taken}
 use Rattle.network_theory.proofs.Existence.{law_of_solutions}
 use Rattle.network_theory.proofs.Solutions.{injection_level, injection_minus}
 use Rattle.dc_network.specs.DcNetworks.{dc_branch, dc_network}
-use Rattle.dc_network.specs.Laws.{IsSound, LawOfExactFactors, MeetsKirchhoff, loop_drop}
+use Rattle.dc_network.specs.Laws.{AreExact, IsSound, LawOfExactFactors, MeetsKirchhoff, loop_drop}
 use Rattle.dc_network.proofs.Carried.{carried_by, everywhere}
 use Rattle.dc_network.proofs.Connection.{Contains-map, is_connected, is_network, kept_live}
 use Rattle.dc_network.proofs.Potentials.{AllFall, Falls, angles_from_loops, loops_close, step_drop}
@@ -80,7 +80,7 @@ module _ (network : LiveNetwork) (xs : List ℤ) (lost : Option ℕ) (source sin
 
   -- ---- flows by the angles of the one solution meet Kirchhoff's laws
   abbrev AreCarried : Type 0
-  AreCarried = (l : NetBranch) → Contains branches l → IsCarried n network.reference source sink (dc l) (flow l.row)
+  AreCarried = AreExact network xs lost source sink flow
 
   solution : (angle : ℕ → Fraction) × IsSolution n network.reference (put_through source sink) angle
   solution = law_of_solutions n network.reference (put_through source sink) (is_network network xs lost sound) (is_connected network xs lost sound)
