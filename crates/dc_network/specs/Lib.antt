@@ -1,0 +1,2 @@
+pub mod DcNetworks
+pub mod Laws
