@@ -6,8 +6,7 @@ use Rattle.std.specs.Int.{w128}
 use Rattle.std.proofs.lemmas.Int.{ints, to_z_pos, to_z-of_z, fits_signed_from_abs, unsigned_abs-mul}
 use Rattle.std.proofs.Math.Nat.{lt_of_le_of_lt, mul-le-mul}
 use Rattle.std.specs.Int.Signed.{nat_abs-le}
-use Rattle.market_data.specs.Scales.{most_factor, share_one}
-use Rattle.limit_screen.specs.Bounds.{pickup_one}
+use Rattle.market_model.specs.PickupTable.{pickup_one}
 use mir.Val.{to_z, of_z}
 
 -- what is left of a number where it is kept in 64 or 128 bits
@@ -90,23 +89,6 @@ module _ (a b x y z : ℤ) (n : ℕ) (fa : FitsSigned w64 a) (fb : FitsSigned w6
 
   pub parts_up_to : unsigned_abs (wide (wide (wide x +ℤ wide y) *ℤ wide z)) ≤ 2 ^ 114
   parts_up_to = subst (λ t. unsigned_abs t ≤ 2 ^ 114) (sym parts_are) (Prim.omega (arith, parts_size))
-
--- a product of a share and a factor
-module _ (s h : ℤ) (fs : unsigned_abs s ≤ share_one) (fh : unsigned_abs h ≤ most_factor) where
-  share_size : unsigned_abs (s *ℤ h) ≤ share_one * most_factor
-  share_size = subst (λ t. t ≤ share_one * most_factor) (sym (unsigned_abs-mul s h)) (mul-le-mul fs fh)
-
-  pub kept_share : narrow (narrow s *ℤ narrow h) ≡ s *ℤ h
-  kept_share =
-      ap (λ t. narrow (t *ℤ narrow h)) (narrow_is s (fits_signed_from_abs w64 s (lt_of_le_of_lt fs (Prim.omega arith))))
-      ∙ ap (λ t. narrow (s *ℤ t)) (narrow_is h (fits_signed_from_abs w64 h (lt_of_le_of_lt fh (Prim.omega arith))))
-      ∙ narrow_is (s *ℤ h) (fits_signed_from_abs w64 (s *ℤ h) (lt_of_le_of_lt share_size (Prim.omega arith)))
-
--- a factor in millionths
-pub kept_own : (h : ℤ) → unsigned_abs h ≤ most_factor → narrow (narrow h *ℤ pos share_one) ≡ h *ℤ pos share_one
-kept_own h few =
-    ap (λ t. narrow (t *ℤ pos share_one)) (narrow_is h (fits_signed_from_abs w64 h (lt_of_le_of_lt few (Prim.omega arith))))
-    ∙ narrow_is (h *ℤ pos share_one) (fits_signed_from_abs w64 (h *ℤ pos share_one) (Prim.omega (arith, ints, few)))
 
 -- a whole number of parts as a number of 64 bits
 pub one_is : (n : ℕ) → n ≤ pickup_one → to_z w64 n ≡ pos n

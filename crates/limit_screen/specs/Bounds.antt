@@ -1,15 +1,15 @@
 -- Whole numbers by which it is told that a limit is far from being passed.
 -- Shewchuk, Adaptive Precision Floating-Point Arithmetic and Fast Robust Geometric Predicates, 1997: a test is answered by numbers that are
 -- cheap and near, with how near they are, and by the exact ones only where these cannot tell. Here the cheap numbers are whole ones.
-use Rattle.std.specs.Prelude.{◌≡◌, ℕ, ◌+◌, ◌*◌, ◌<◌, ◌≤◌, ◌^◌, ℤ, pos, ◌+ℤ◌, neg_ℤ, unsigned_abs, List, Option, Some, None, length, slice_index_or}
+use Rattle.std.specs.Prelude.{◌≡◌, ℕ, ◌+◌, ◌<◌, ◌≤◌, ◌^◌, ℤ, pos, ◌+ℤ◌, neg_ℤ, unsigned_abs, List, Option, Some, None, length, slice_index_or}
 use Rattle.std.specs.List.{slice_get}
-use Rattle.fraction_theory.specs.Fraction.{Fraction, over, whole, ◌*ℚ◌}
+use Rattle.fraction_theory.specs.Fraction.{Fraction, whole, ◌*ℚ◌}
 use Rattle.fraction_theory.specs.Order.{◌≤ℚ◌}
 use Rattle.exact_fraction.specs.Floor.{IsFloor}
-use Rattle.market_data.specs.Scales.{factor_one, share_one}
 use Rattle.market_model.specs.declared.participants.Parts.{Parts}
 use Rattle.market_model.specs.Dispatch.{zero}
-use Rattle.market_model.specs.LimitRows.{Carried, pickup_factor}
+use Rattle.market_model.specs.LimitRows.{Carried}
+use Rattle.market_model.specs.PickupTable.{pickup_one}
 use Rattle.limit_screen.specs.declared.bounds.Near.{Near}
 use Rattle.limit_screen.specs.declared.bounds.NearFlow.{NearFlow}
 use Rattle.limit_screen.specs.declared.parts.WholeParts.{WholeParts}
@@ -27,19 +27,10 @@ IsFloorOf x part = (n : ℤ) → part ≡ Some n → IsFloor x n
 abbrev pub AreFloors : List Fraction → List (Option ℤ) → Type 0
 AreFloors numbers parts = EachAt (λ place part. IsFloorOf (slice_index_or numbers place zero) part) parts
 
--- shares are in 10^-6 and factors in 10^-9
-abbrev pub pickup_one : ℕ
-pickup_one = share_one * factor_one
-
--- the pickup factors of lines at an outage of a unit, as so many of 10^-15; some may be missing
-abbrev pub ArePickupFactors : Parts → ℕ → List (Option ℤ) → Type 0
-ArePickupFactors m outage factors = EachAt (λ line factor. (n : ℤ) → factor ≡ Some n → pickup_factor m line outage ≡ over n pickup_one) factors
-
--- of what is carried by lines, and then of what lost units put out, the whole parts, and the pickup factors at all outages of units
+-- of what is carried by lines, and then of what lost units put out, the whole parts
 pub record AreWholeParts (m : Parts) (c : Carried) (parts : WholeParts) : Type 0 where
   pub line : (l : ℕ) (n : ℤ) → slice_get parts.carried.items l ≡ Some (Some n) → IsFloor (c.line l) n
   pub lost : (k : ℕ) (n : ℤ) → slice_get parts.carried.items (length m.lines + k) ≡ Some (Some n) → IsFloor (c.lost k) n
-  pub pickups : EachAt (λ outage factors. ArePickupFactors m outage factors.items) parts.pickups.items
 
 -- x is no further from a whole number than that says
 pub record IsNear (x : Fraction) (near : Near) : Type 0 where

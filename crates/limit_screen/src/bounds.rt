@@ -6,9 +6,9 @@ ghost use Rattle.fraction_theory.specs.Fraction.{Fraction, ◌+ℚ◌, ◌*ℚ�
 ghost use Rattle.fraction_theory.specs.Order.{◌≤ℚ◌};
 ghost use Rattle.fraction_theory.specs.Signs.{abs_ℚ};
 ghost use Rattle.exact_fraction.specs.Floor.{IsFloor};
-ghost use Rattle.market_model.specs.declared.participants.Parts.{Parts};
 ghost use Rattle.market_model.specs.LimitRows.{Carried, flow_by, pickup_factor, IsCauseOf};
-ghost use Rattle.limit_screen.specs.Bounds.{AreWholeParts, IsModest, IsNear, IsNearFlow, IsUpTo, pickup_one};
+ghost use Rattle.market_model.specs.PickupTable.{pickup_one};
+ghost use Rattle.limit_screen.specs.Bounds.{AreWholeParts, IsModest, IsNear, IsNearFlow, IsUpTo};
 
 use crate::parts::WholeParts;
 use limit_rows::loss_of;
@@ -39,11 +39,16 @@ fn part_at(parts: &[Option<i64>], place: usize) -> Option<i64>
     *parts.get(place)?
 }
 
-/// The pickup factor of a line at an outage of a unit, in 10^-15, where there is one.
-fn pickup_at(parts: &WholeParts, line: usize, outage: usize) -> Option<i64>
-    ensures { (m : Parts) (c : Carried) → AreWholeParts m c parts.now → IfSome result (λ factor. pickup_factor m line outage ≡ over factor pickup_one) }
+/// The pickup factor of a line at an outage of a unit, in 10^-15, where 64 bits hold that.
+fn pickup_at(market: &Market, line: usize, outage: usize) -> Option<i64>
+    requires line { line < length market.now.lines }
+    requires outage { outage < length market.now.unit_outages }
+    ensures { IfSome result (λ factor. pickup_factor market.now line outage ≡ over factor pickup_one) }
 {
-    part_at(parts.pickups.get(outage)?, line)
+    match i64::try_from(market.pickup_factor(line, outage)) {
+        Ok(factor) => Some(factor),
+        Err(_) => None,
+    }
 }
 
 /// The product of a factor and a number, by the whole part of that.
@@ -101,7 +106,7 @@ pub(crate) fn near_flow(market: &Market, parts: Option<&WholeParts>, row: Row) -
         }
         Cause::UnitOutage(outage) => {
             let gone = part_at(&parts.carried, market.lines().len() + outage)?;
-            let factor = pickup_at(parts, row.line, outage)?;
+            let factor = pickup_at(market, row.line, outage)?;
             Some(near_flow_with(own, factor, gone, PICKUP_ONE))
         }
     }

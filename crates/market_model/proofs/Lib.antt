@@ -12,6 +12,7 @@ pub mod MarketSums
 pub mod MorePlaces
 pub mod OneSidedDuals
 pub mod Optimum
+pub mod PickupLemmas
 pub mod PlaceLists
 pub mod PlaceSums
 pub mod PlainMarkets

@@ -12,6 +12,7 @@ pub mod LostLines
 pub mod Market
 pub mod NamedSums
 pub mod Optimality
+pub mod PickupTable
 pub mod PutIn
 pub mod RightAnswers
 pub mod Reserves

@@ -2,6 +2,7 @@
 
 use crate::factor_table::{listed_factor, loss_table, table_of};
 use crate::outages::{lost_lines, outage_index, place_of_line};
+use crate::pickup_table::pickup_table;
 use crate::{Block, Bus, FactorPlaces, Line, Parts, Pickup, Reserve, Unit};
 use plain_list::{List, Memory};
 use std::alloc::Global;
@@ -19,6 +20,8 @@ pub struct Market {
     index: Vec<Option<usize>>,
     /// The loss factors for the lines that outages lose: a row of lines for each outage.
     loss: Vec<i64>,
+    /// The pickup factors, in 10^-15: a row of lines for each outage of a unit.
+    pickup_factors: Vec<i128>,
 }
 
 impl Model for Market {
@@ -27,22 +30,25 @@ impl Model for Market {
     ghost use Rattle.market_model.specs.Factors.{factor_in, IsTable};
     ghost use Rattle.market_model.specs.LostLines.{AreLostLines};
     ghost use Rattle.market_model.specs.Market.{IsMarket};
+    ghost use Rattle.market_model.specs.PickupTable.{IsPickupTable};
 
     ghost Value = { Parts };
 
     ghost view = { λ m. m.parts };
 
-    ghost invariant = { λ m. IsMarket m.parts × IsTable (length m.parts.lines) (length m.parts.buses) (factor_in m.parts.shift) m.shift.items × AreLostLines m.parts m.lost m.index.items m.loss.items };
+    ghost invariant = { λ m. IsMarket m.parts × IsTable (length m.parts.lines) (length m.parts.buses) (factor_in m.parts.shift) m.shift.items × AreLostLines m.parts m.lost m.index.items m.loss.items × IsPickupTable m.parts m.pickup_factors.items };
 }
 
 impl Market {
     ghost use Rattle.std.specs.Prelude.{◌≡◌, ◌<◌, pos, ◌≤ℤ◌, length, true, is_some};
+    ghost use Rattle.fraction_theory.specs.Fraction.{over};
     ghost use Rattle.market_data.specs.Participants.{IsDatum};
     ghost use Rattle.market_model.specs.Changes.{with_price, with_quantity, with_demand, with_limit, with_need};
     ghost use Rattle.market_model.specs.Dispatch.{unit_at, block_at, line_at};
     ghost use Rattle.market_model.specs.Factors.{factor_in};
-    ghost use Rattle.market_model.specs.LimitRows.{limit_of, lost_lines, place_of_line};
+    ghost use Rattle.market_model.specs.LimitRows.{limit_of, lost_lines, pickup_factor, place_of_line};
     ghost use Rattle.market_model.specs.Market.{IsMarket};
+    ghost use Rattle.market_model.specs.PickupTable.{pickup_one};
     ghost use Rattle.market_model.specs.Stairs.{stair_in, offered, room_of};
 
     /// The live buses, in the order in which they were given.
@@ -153,6 +159,15 @@ impl Market {
         }
     }
 
+    /// What a line takes on of the output of a unit that is lost, by the places of the line and of the outage, in 10^-15.
+    pub fn pickup_factor(&self, line: usize, outage: usize) -> i128
+        requires line { line < length self.now.lines }
+        requires outage { outage < length self.now.unit_outages }
+        ensures { pickup_factor self.now line outage ≡ over result pickup_one }
+    {
+        self.pickup_factors[outage * self.parts.lines.len() + line]
+    }
+
     /// Sets the price of a block, in 10^-6 per MWh.
     pub fn set_price(&mut self, block: usize, price: i64)
         requires block { block < length self.old.blocks }
@@ -242,11 +257,13 @@ pub fn assemble(alloc: Global, parts: Parts) -> Result<Market, Memory>
     let lost = lost_lines(alloc, &parts)?;
     let index = outage_index(alloc, lines, lost.slice())?;
     let loss = loss_table(alloc, parts.loss.slice(), lines, lost.slice(), &index)?;
+    let pickup_factors = pickup_table(alloc, &parts, &shift)?;
     Ok(Market {
         parts,
         shift,
         lost,
         index,
         loss,
+        pickup_factors,
     })
 }

@@ -10,6 +10,7 @@ pub mod laws;
 mod limits;
 mod outages;
 mod participants;
+mod pickup_table;
 mod putting;
 mod stops;
 

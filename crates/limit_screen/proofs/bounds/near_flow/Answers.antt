@@ -1,13 +1,14 @@
-use Rattle.std.proofs.Common.{rules, ◌≡◌, ◌∙◌, ◌+◌, ap, sym, subst, arith, length, refl, Some}
-use Rattle.std.specs.Prelude.{ℤ, ℕ, pos, List, Option}
+use Rattle.std.proofs.Common.{rules, ◌≡◌, ◌∙◌, ◌+◌, ap, sym, subst, length, refl}
+use Rattle.std.specs.Prelude.{ℤ, pos, List, Option}
 use Rattle.std.specs.List.{slice_get}
 use Rattle.exact_fraction.specs.Floor.{IsFloor}
-use Rattle.fraction_theory.specs.Fraction.{Fraction, over, whole, ◌+ℚ◌, ◌*ℚ◌}
+use Rattle.fraction_theory.specs.Fraction.{Fraction, over, ◌+ℚ◌, ◌*ℚ◌}
 use Rattle.market_data.specs.Scales.{factor_one}
 use Rattle.market_model.specs.declared.limits.Cause.{Cause}
 use Rattle.market_model.specs.LimitRows.{flow_by}
+use Rattle.market_model.specs.PickupTable.{pickup_one}
 use Rattle.limit_rows.proofs.FlowSteps.{base_flow, flow_after, flow_picked, no_share}
-use Rattle.limit_screen.specs.Bounds.{AreWholeParts, IsNearFlow, pickup_one}
+use Rattle.limit_screen.specs.Bounds.{AreWholeParts, IsNearFlow}
 use Rattle.limit_screen.proofs.Casts.{narrow, narrow_is}
 use Rattle.limit_screen.proofs.PartLemmas.{of_some}
 use Rattle.limit_screen.proofs.bounds.near_flow.Goals as goal
@@ -64,6 +65,6 @@ returns-in_ok-factor-in-UnitOutage-clause-near c = λ carried given.
     (ap (λ (xs : List (Option ℤ)). slice_get xs (length m.lines + k)) (sym c.deref-in-UnitOutage.ensures.value) ∙ ap (slice_get c.deref-in-UnitOutage.result.now) (sym behind) ∙ c.in_ok-gone-in-UnitOutage.ensures)) in
     subst (λ (x : Fraction). IsNearFlow x c.near_flow_with-in-UnitOutage.result)
     (ap (λ (z : ℤ). own +ℚ over z pickup_one *ℚ gone) factor
-    ∙ flow_picked m carried l k own (over h pickup_one) gone refl (sym (c.in_ok-factor-in-UnitOutage.ensures m carried parts)) refl (own +ℚ over h pickup_one *ℚ gone) refl
+    ∙ flow_picked m carried l k own (over h pickup_one) gone refl (sym c.in_ok-factor-in-UnitOutage.ensures) refl (own +ℚ over h pickup_one *ℚ gone) refl
     ∙ ap (λ (o : Cause). flow_by m carried (record { line = l; cause = o })) (sym c.in-UnitOutage.is))
     (c.near_flow_with-in-UnitOutage.ensures.near own gone floor floor')

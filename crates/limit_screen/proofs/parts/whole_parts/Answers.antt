@@ -7,5 +7,5 @@ pub returns : goal.returns
 returns g c =
     let value = g.N.Exact.value in
     let m = c.args.market.now in
-    parts_of m (map value c.carried_flows.result.now) (carried_at m (map value c.args.flows.now)) (record { carried = c.in_ok-floors.field-0; pickups = c.in_ok-all_pickup_factors.field-0 })
-    c.carried_flows.ensures.is c.in_ok-floors.ensures c.in_ok-all_pickup_factors.ensures
+    parts_of m (map value c.carried_flows.result.now) (carried_at m (map value c.args.flows.now)) (record { carried = c.in_ok-floors.field-0 })
+    c.carried_flows.ensures.is c.in_ok-floors.ensures

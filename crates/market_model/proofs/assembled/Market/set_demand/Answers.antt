@@ -7,6 +7,7 @@ use Rattle.market_model.specs.Factors.{factor_in, IsTable}
 use Rattle.market_model.specs.Market.{IsMarket}
 use Rattle.std.proofs.lemmas.List.{length-set}
 use Rattle.market_model.proofs.ChangeLemmas.{put_demand, kept_demand}
+use Rattle.market_model.proofs.PickupLemmas.{pickups_kept}
 use Rattle.market_model.proofs.assembled.Market.set_demand.Goals as goal
 
 changed : (c : goal.After-set) → (record c.self.inside.parts { buses = c.set.new.self }) ≡ with_demand c.self.inside.parts c.args.bus c.args.pd
@@ -24,6 +25,7 @@ invariant_of-self c =
           (subst (λ (m : Parts). c.args.bus < length m.buses) (sym c.self.view_is) c.requires.bus) c.requires.load),
       subst (λ (n : ℕ). IsTable (length c.self.inside.parts.lines) n (factor_in c.self.inside.parts.shift) c.self.inside.shift.items) long c.self.invariant.1,
       record { lines = c.self.invariant.2.lines; index = c.self.invariant.2.index; factors = c.self.invariant.2.factors },
+      pickups_kept c.self.inside.parts c.self.inside.pickup_factors.items c.self.invariant.3 c.set.new.self c.self.inside.parts.blocks c.self.inside.parts.lines c.self.inside.parts.reserve refl,
     )
 
 pub returns : goal.returns

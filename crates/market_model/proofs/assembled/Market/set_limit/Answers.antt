@@ -9,6 +9,7 @@ use Rattle.market_model.specs.Market.{IsMarket}
 use Rattle.std.proofs.lemmas.List.{length-set}
 use Rattle.market_model.proofs.ChangeLemmas.{put_limit, kept_limit}
 use Rattle.market_model.proofs.LostLemmas.{lost_kept}
+use Rattle.market_model.proofs.PickupLemmas.{pickups_kept}
 use Rattle.market_model.proofs.assembled.Market.set_limit.Goals as goal
 
 changed : (c : goal.After-set) → (record c.self.inside.parts { lines = c.set.new.self }) ≡ with_limit c.self.inside.parts c.args.line c.args.post c.args.mw
@@ -25,6 +26,7 @@ invariant_of-self c =
       subst (λ (n : ℕ). IsTable n (length c.self.inside.parts.buses) (factor_in c.self.inside.parts.shift) c.self.inside.shift.items) long c.self.invariant.1,
       subst (λ (m : Parts). AreLostLines m c.self.inside.lost c.self.inside.index.items c.self.inside.loss.items) (sym (changed c))
           (lost_kept c.self.inside.parts c.args.line c.args.post c.args.mw c.self.inside.lost c.self.inside.index.items c.self.inside.loss.items c.self.invariant.2),
+      pickups_kept c.self.inside.parts c.self.inside.pickup_factors.items c.self.invariant.3 c.self.inside.parts.buses c.self.inside.parts.blocks c.set.new.self c.self.inside.parts.reserve (sym long),
     )
 
 pub returns : goal.returns

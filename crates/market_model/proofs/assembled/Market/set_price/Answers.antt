@@ -5,6 +5,7 @@ use Rattle.market_model.specs.declared.participants.Parts.{Parts}
 use Rattle.market_model.specs.Changes.{with_price}
 use Rattle.market_model.specs.Market.{IsMarket}
 use Rattle.market_model.proofs.ChangeLemmas.{put_price, kept_price}
+use Rattle.market_model.proofs.PickupLemmas.{pickups_kept}
 use Rattle.market_model.proofs.assembled.Market.set_price.Goals as goal
 
 changed : (c : goal.After-set) → (record c.self.inside.parts { blocks = c.set.new.self }) ≡ with_price c.self.inside.parts c.args.block c.args.price
@@ -21,6 +22,7 @@ invariant_of-self c = (
       (subst (λ (m : Parts). c.args.block < length m.blocks) (sym c.self.view_is) c.requires.block) c.requires.price),
   c.self.invariant.1,
   record { lines = c.self.invariant.2.lines; index = c.self.invariant.2.index; factors = c.self.invariant.2.factors },
+  pickups_kept c.self.inside.parts c.self.inside.pickup_factors.items c.self.invariant.3 c.self.inside.parts.buses c.set.new.self c.self.inside.parts.lines c.self.inside.parts.reserve refl,
 )
 
 pub returns : goal.returns

@@ -8,6 +8,7 @@ use Rattle.market_model.specs.Dispatch.{block_at, unit_at}
 use Rattle.market_model.specs.Stairs.{stair_in, offered, room_of}
 use Rattle.market_model.specs.Market.{IsMarket}
 use Rattle.market_model.proofs.ChangeLemmas.{put_quantity, kept_quantity}
+use Rattle.market_model.proofs.PickupLemmas.{pickups_kept}
 use Rattle.market_model.proofs.assembled.Market.set_quantity.Goals as goal
 
 changed : (c : goal.After-set) → (record c.self.inside.parts { blocks = c.set.new.self }) ≡ with_quantity c.self.inside.parts c.args.block c.args.mw
@@ -25,6 +26,7 @@ invariant_of-self c = (
       (subst (λ (m : Parts). offered (stair_in (block_at m c.args.block).unit (block_at m c.args.block).side (with_quantity m c.args.block c.args.mw).blocks) ≤ℤ room_of (block_at m c.args.block).side (unit_at m (block_at m c.args.block).unit)) (sym c.self.view_is) c.requires.room)),
   c.self.invariant.1,
   record { lines = c.self.invariant.2.lines; index = c.self.invariant.2.index; factors = c.self.invariant.2.factors },
+  pickups_kept c.self.inside.parts c.self.inside.pickup_factors.items c.self.invariant.3 c.self.inside.parts.buses c.set.new.self c.self.inside.parts.lines c.self.inside.parts.reserve refl,
 )
 
 pub returns : goal.returns
