@@ -1,7 +1,8 @@
 //! The rows of a small market, worked by hand.
 
-ghost use Rattle.std.specs.Prelude.{◌≡◌, ◌∷◌, [], pos, negsuc, IfOk};
+ghost use Rattle.std.specs.Prelude.{◌≡◌, ◌∷◌, [], pos, negsuc, None, Some, IfOk};
 ghost use Rattle.market_model.specs.Lines.{hard_line};
+ghost use Rattle.market_model.specs.Market.{bare_parts};
 
 use crate::causes::{cause_at, cause_count, has_row};
 use crate::{coefficient, count, id, limit_at, name_at, position, row_named};
@@ -12,106 +13,112 @@ use std::alloc::Global;
 use std::cmp::Ordering;
 use std::test::Fail;
 
-fn bus(number: u32) -> Bus
-    ensures { result ≡ record { number = number; pd = pos 0; gs = pos 0 } }
-{
+const BUSES: [Bus; 3] = [
     Bus {
-        number,
+        number: 1,
         pd: 0,
         gs: 0,
-    }
-}
-
-fn line(row: u32, base: Option<i64>, post: Option<i64>) -> Line
-    ensures { result ≡ hard_line row base post (pos 0) }
-{
-    Line::hard(row, base, post, 0)
-}
-
-fn factor_for(line: usize, of: usize, value: i64) -> Factor
-    ensures { result ≡ record { line = line; of = of; value = value } }
-{
-    Factor { line, of, value }
-}
-
-fn three_buses(alloc: Global) -> Result<List<Bus>, Memory>
-    ensures { IfOk result (λ list. list ≡ record { number = 1; pd = pos 0; gs = pos 0 } ∷ record { number = 2; pd = pos 0; gs = pos 0 } ∷ record { number = 3; pd = pos 0; gs = pos 0 } ∷ []) }
-{
-    let mut list = List::new(alloc);
-    list.push(bus(1))?;
-    list.push(bus(2))?;
-    list.push(bus(3))?;
-    Ok(list)
-}
+    },
+    Bus {
+        number: 2,
+        pd: 0,
+        gs: 0,
+    },
+    Bus {
+        number: 3,
+        pd: 0,
+        gs: 0,
+    },
+];
 
 /// The shift factors of branches 1 and 2 of the triangle.
-fn shift_factors(alloc: Global) -> Result<List<Factor>, Memory>
-    ensures { IfOk result (λ list. list ≡ record { line = 0; of = 1; value = negsuc 499999999 } ∷ record { line = 0; of = 2; value = negsuc 249999999 } ∷ record { line = 1; of = 1; value = negsuc 499999999 } ∷ record { line = 1; of = 2; value = negsuc 749999999 } ∷ []) }
-{
-    let mut list = List::new(alloc);
-    list.push(factor_for(0, 1, -500_000_000))?;
-    list.push(factor_for(0, 2, -250_000_000))?;
-    list.push(factor_for(1, 1, -500_000_000))?;
-    list.push(factor_for(1, 2, -750_000_000))?;
-    Ok(list)
-}
+const SHIFT: [Factor; 4] = [
+    Factor {
+        line: 0,
+        of: 1,
+        value: -500_000_000,
+    },
+    Factor {
+        line: 0,
+        of: 2,
+        value: -250_000_000,
+    },
+    Factor {
+        line: 1,
+        of: 1,
+        value: -500_000_000,
+    },
+    Factor {
+        line: 1,
+        of: 2,
+        value: -750_000_000,
+    },
+];
 
 /// All of the flow of branch 1 goes over to branch 2.
-fn loss_factors(alloc: Global) -> Result<List<Factor>, Memory>
-    ensures { IfOk result (λ list. list ≡ record { line = 1; of = 0; value = pos 1000000000 } ∷ []) }
+const LOSS: [Factor; 1] = [Factor {
+    line: 1,
+    of: 0,
+    value: 1_000_000_000,
+}];
+
+/// A list of these.
+fn listed<T: Copy>(alloc: Global, items: &[T]) -> Result<List<T>, Memory>
+    ensures { IfOk result (λ list. list ≡ items.now) }
 {
     let mut list = List::new(alloc);
-    list.push(factor_for(1, 0, 1_000_000_000))?;
+    for item in items {
+        list.push(*item)?;
+    }
     Ok(list)
 }
 
-/// Three buses in a triangle. Branch 2 has a limit of 40 MW, and of 45 after the one outage, of branch 1.
-fn one_outage(alloc: Global) -> Result<Market, Memory> {
-    let mut lines = List::new(alloc);
-    lines.push(line(1, None, None))?;
-    lines.push(line(2, Some(40), Some(45)))?;
-    lines.push(line(3, None, None))?;
-    let mut outages = List::new(alloc);
-    outages.push(1)?;
-    let parts = Parts {
-        buses: three_buses(alloc)?,
-        units: List::new(alloc),
-        blocks: List::new(alloc),
-        lines,
-        outages,
-        shift: shift_factors(alloc)?,
-        loss: loss_factors(alloc)?,
-        unit_outages: List::new(alloc),
-        pickups: List::new(alloc),
-        places: FactorPlaces::Six,
-        reserve: Reserve::none(alloc),
-    };
-    assemble(alloc, parts)
+/// Branch 2 has a limit of 40 MW, and of 45 after outages; branch 3 this one after outages.
+fn lines(alloc: Global, third: Option<i64>) -> Result<List<Line>, Memory>
+    ensures { IfOk result (λ list. list ≡ hard_line 1 None None (pos 0) ∷ hard_line 2 (Some (pos 40)) (Some (pos 45)) (pos 0) ∷ hard_line 3 None third (pos 0) ∷ []) }
+{
+    let lines = [
+        Line::hard(1, None, None, 0),
+        Line::hard(2, Some(40), Some(45), 0),
+        Line::hard(3, None, third, 0),
+    ];
+    listed(alloc, &lines)
 }
 
-/// The same with the outages 3 and 1, and a limit of branch 3 after outages.
-fn two_outages(alloc: Global) -> Result<Market, Memory> {
-    let mut lines = List::new(alloc);
-    lines.push(line(1, None, None))?;
-    lines.push(line(2, Some(40), Some(45)))?;
-    lines.push(line(3, None, Some(45)))?;
-    let mut outages = List::new(alloc);
-    outages.push(3)?;
-    outages.push(1)?;
-    let parts = Parts {
-        buses: three_buses(alloc)?,
+/// Three buses in a triangle, with these branches and outages.
+fn triangle(alloc: Global, lines: List<Line>, outages: List<u32>) -> Result<Parts, Memory>
+    ensures { IfOk result (λ parts. parts ≡ record (bare_parts (record { number = 1; pd = pos 0; gs = pos 0 } ∷ record { number = 2; pd = pos 0; gs = pos 0 } ∷ record { number = 3; pd = pos 0; gs = pos 0 } ∷ []) [] []) { lines = lines; outages = outages; shift = record { line = 0; of = 1; value = negsuc 499999999 } ∷ record { line = 0; of = 2; value = negsuc 249999999 } ∷ record { line = 1; of = 1; value = negsuc 499999999 } ∷ record { line = 1; of = 2; value = negsuc 749999999 } ∷ []; loss = record { line = 1; of = 0; value = pos 1000000000 } ∷ [] }) }
+{
+    let buses = listed(alloc, &BUSES)?;
+    let shift = listed(alloc, &SHIFT)?;
+    let loss = listed(alloc, &LOSS)?;
+    Ok(Parts {
+        buses,
         units: List::new(alloc),
         blocks: List::new(alloc),
         lines,
         outages,
-        shift: shift_factors(alloc)?,
-        loss: loss_factors(alloc)?,
+        shift,
+        loss,
         unit_outages: List::new(alloc),
         pickups: List::new(alloc),
         places: FactorPlaces::Six,
         reserve: Reserve::none(alloc),
-    };
-    assemble(alloc, parts)
+    })
+}
+
+/// The triangle with one outage, of branch 1.
+fn one_outage(alloc: Global) -> Result<Market, Memory> {
+    let lines = lines(alloc, None)?;
+    let outages = listed(alloc, &[1])?;
+    assemble(alloc, triangle(alloc, lines, outages)?)
+}
+
+/// The triangle with the outages 3 and 1, and a limit of branch 3 after outages.
+fn two_outages(alloc: Global) -> Result<Market, Memory> {
+    let lines = lines(alloc, Some(45))?;
+    let outages = listed(alloc, &[3, 1])?;
+    assemble(alloc, triangle(alloc, lines, outages)?)
 }
 
 fn row(branch: u32, outage: u32) -> RowId {
@@ -170,14 +177,24 @@ fn rows_at(market: &Market, line: usize) -> usize {
     rows
 }
 
+/// Whether the row at a place has this name.
+fn is_row(market: &Market, place: usize, branch: u32, outage: u32) -> bool {
+    name_of(market, place) == Some(row(branch, outage))
+}
+
+/// Whether there are four rows, in the order of the outages.
+fn are_in_order(market: &Market) -> bool {
+    count(market) == 4
+        && is_row(market, 0, 2, 0)
+        && is_row(market, 1, 2, 3)
+        && is_row(market, 2, 2, 1)
+        && is_row(market, 3, 3, 1)
+}
+
 #[test]
 fn rows_in_the_order_of_outages(rt: HostRuntime) -> Result<(), Fail> {
     let market = two_outages(rt.alloc())?;
-    assert!(rt; count(&market) == 4);
-    assert!(rt; name_of(&market, 0) == Some(row(2, 0)));
-    assert!(rt; name_of(&market, 1) == Some(row(2, 3)));
-    assert!(rt; name_of(&market, 2) == Some(row(2, 1)));
-    assert!(rt; name_of(&market, 3) == Some(row(3, 1)));
+    assert!(rt; are_in_order(&market));
     assert!(rt; position(&market, row(3, 1)) == Some(3));
     assert!(rt; position(&market, row(3, 3)).is_none());
     assert!(rt; rows_at(&market, 1) == 3);
@@ -185,16 +202,21 @@ fn rows_in_the_order_of_outages(rt: HostRuntime) -> Result<(), Fail> {
     Ok(())
 }
 
+/// Whether the factors of branch 2 are those of its flow in the base, and after the outage its own and those of branch 1.
+fn are_factors(market: &Market) -> bool {
+    has_factor(market, row(2, 0), 2, -750_000_000)
+        && has_factor(market, row(2, 1), 0, 0)
+        && has_factor(market, row(2, 1), 1, -1_000_000_000)
+        && has_factor(market, row(2, 1), 2, -1_000_000_000)
+}
+
 #[test]
 fn rows_and_factors_after_one_outage(rt: HostRuntime) -> Result<(), Fail> {
     let market = one_outage(rt.alloc())?;
     assert!(rt; count(&market) == 2);
-    assert!(rt; name_of(&market, 0) == Some(row(2, 0)));
-    assert!(rt; name_of(&market, 1) == Some(row(2, 1)));
-    assert!(rt; has_factor(&market, row(2, 0), 2, -750_000_000));
-    assert!(rt; has_factor(&market, row(2, 1), 0, 0));
-    assert!(rt; has_factor(&market, row(2, 1), 1, -1_000_000_000));
-    assert!(rt; has_factor(&market, row(2, 1), 2, -1_000_000_000));
+    assert!(rt; is_row(&market, 0, 2, 0));
+    assert!(rt; is_row(&market, 1, 2, 1));
+    assert!(rt; are_factors(&market));
     assert!(rt; by_place(&market, row(2, 1)) == Some((row(2, 1), 45)));
     assert!(rt; by_place(&market, row(3, 1)).is_none());
     Ok(())

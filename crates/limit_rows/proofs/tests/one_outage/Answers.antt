@@ -1,12 +1,5 @@
-use Rattle.std.proofs.Common.{◌≡◌, [], ◌∷◌, None}
-use Rattle.limit_rows.proofs.TestMarkets.{lines, one_is_market}
+use Rattle.limit_rows.proofs.TestMarkets.{one_is_market}
 use Rattle.limit_rows.proofs.tests.one_outage.Goals as goal
 
 pub assemble-requires : goal.assemble-requires
-assemble-requires c =
-    let pushed : c.push-3.new.self ≡ lines None =
-    rw (c.in_ok-push-2.ensures, c.in_ok-push.ensures, c.new-lines.ensures, c.line.ensures, c.line-2.ensures, c.line-3.ensures) at c.in_ok-push-3.ensures in
-    let three : c.lines-3.inside.items.items ≡ lines None = cc (pushed, c.lines-3.view_is) in
-    let noted : c.push-4.new.self ≡ 1 ∷ [] = rw c.new-outages.ensures at c.in_ok-push-4.ensures in
-    let lost : c.outages.inside.items.items ≡ 1 ∷ [] = cc (noted, c.outages.view_is) in
-    rw (c.in_ok-three_buses.ensures, c.new.ensures, c.new-2.ensures, three, lost, c.in_ok-shift_factors.ensures, c.in_ok-loss_factors.ensures, c.new-3.ensures, c.new-4.ensures, c.none.ensures) one_is_market
+assemble-requires c = rw (c.in_ok-triangle.ensures, c.in_ok-lines.ensures, c.in_ok-outages.ensures) one_is_market
