@@ -1,5 +1,5 @@
 -- Tables that are made, one record more.
-use Rattle.std.proofs.Common.{◌≡◌, ℕ, ◌≤◌, ◌<◌, ◌+◌, ◌*◌, ◌^◌, ◌++◌, ◌∷◌, ◌∙◌, [], ℤ, pos, ◌*ℤ◌, List, length, get_or, map, take, arith, refl, sym, ap, ap₂, subst, Option, Some, None, false, true, All, w64}
+use Rattle.std.proofs.Common.{◌≡◌, ℕ, ◌≤◌, ◌<◌, ◌+◌, ◌*◌, ◌^◌, ◌++◌, ◌∷◌, ◌∙◌, [], ℤ, pos, ◌*ℤ◌, List, length, get_or, map, take, arith, refl, sym, ap, ap₂, subst, Option, Some, None, false, All, w64}
 use Rattle.std.specs.Prelude.{is_some, unsigned_abs}
 use Rattle.std.specs.Map.{lookup}
 use Rattle.std.proofs.lemmas.List.{get_or-map, get_or-take, length-map, length-take-le, map-append, take_more}
@@ -13,7 +13,7 @@ use Rattle.market_data.specs.Scales.{most_factor, place_step}
 use Rattle.market_data.specs.declared.scales.FactorPlaces.{FactorPlaces}
 use Rattle.market_data.specs.declared.scales.FactorPlaces.TheVariants.{Six, Nine}
 use Rattle.factor_tables.specs.declared.made.MadeFactor.{MadeFactor}
-use Rattle.factor_tables.specs.Factors.{Entry, Pair, has_pair, same_pair}
+use Rattle.factor_tables.specs.Factors.{Entry, has_pair, same_pair}
 use Rattle.factor_tables.specs.Made.{AreApart, AreInBounds, made_entry, made_pair}
 use Rattle.factor_tables.proofs.FactorLemmas.{one_pair}
 

@@ -1,7 +1,6 @@
 //! Tables of factors that are made of numbers, and not read.
 
-ghost use Rattle.std.specs.Prelude.{◌≡◌, ◌<◌, ◌≤◌, ◌*◌, ◌^◌, All, map, unsigned_abs, IfOk};
-ghost use Rattle.market_data.specs.Scales.{most_factor, place_step};
+ghost use Rattle.std.specs.Prelude.{◌≡◌, ◌≤◌, All, map, IfOk};
 ghost use Rattle.factor_tables.specs.Factors.{ArePairFactors, marked_row};
 ghost use Rattle.factor_tables.specs.Made.{AreApart, AreInBounds, made_entry, made_pair, made_table};
 
@@ -64,11 +63,7 @@ fn pairs_of(
 impl FactorTable<ByBus> {
     /// The shift table of these records, whose factors are in units of the last of so many places. The second column names buses. It
     /// has a mark for each row up to the greatest branch of a record.
-    pub fn of(
-        alloc: Global,
-        places: FactorPlaces,
-        records: &[MadeFactor],
-    ) -> Result<Shift, Memory>
+    pub fn of(alloc: Global, places: FactorPlaces, records: &[MadeFactor]) -> Result<Shift, Memory>
         requires once { AreApart records.now }
         requires sizes { AreInBounds places records.now }
         ensures { IfOk result (λ table. table ≡ made_table places records.now) }
@@ -85,11 +80,7 @@ impl FactorTable<ByBus> {
 impl FactorTable<ByOutage> {
     /// The outage table of these records, whose factors are in units of the last of so many places. The second column names outages by
     /// the rows of their branches. It has a mark for each row up to the greatest outage of a record.
-    pub fn of(
-        alloc: Global,
-        places: FactorPlaces,
-        records: &[MadeFactor],
-    ) -> Result<Loss, Memory>
+    pub fn of(alloc: Global, places: FactorPlaces, records: &[MadeFactor]) -> Result<Loss, Memory>
         requires once { AreApart records.now }
         requires sizes { AreInBounds places records.now }
         ensures { IfOk result (λ table. table ≡ made_table places records.now) }

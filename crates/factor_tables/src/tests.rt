@@ -1,4 +1,4 @@
-use crate::{Penalties, Penalty, TableFault, penalties, shift};
+use crate::{Loss, MadeFactor, Penalties, Penalty, Shift, TableFault, penalties, shift};
 use case_text::read_case;
 use market_data::FactorPlaces;
 use net_case::{Branches, Network, PostRating, network};
@@ -215,6 +215,71 @@ fn reads_factors_of_so_many_places(rt: HostRuntime) -> Result<(), Fail> {
         assert_eq!(rt; told_six.as_str(), *six, "{factor}, six");
         let told_nine = told(rt.alloc(), &network, *factor, FactorPlaces::Nine)?;
         assert_eq!(rt; told_nine.as_str(), *nine, "{factor}, nine");
+    }
+    Ok(())
+}
+
+/// Of these records a shift table has the branches 1 and 2, and an outage table has the outage of row 3.
+#[test]
+fn makes_a_shift_table(rt: HostRuntime) -> Result<(), Fail> {
+    for (places, first, second) in [
+        (FactorPlaces::Six, -250_000_000, 1_000),
+        (FactorPlaces::Nine, -250_000, 1),
+    ] {
+        let records = [
+            MadeFactor {
+                branch: 1,
+                of: 3,
+                units: -250_000,
+            },
+            MadeFactor {
+                branch: 2,
+                of: 3,
+                units: 1,
+            },
+        ];
+        let shift = Shift::of(rt.alloc(), places, &records)?;
+        assert_eq!(rt; shift.places(), places);
+        assert_eq!(rt;
+            [shift.factor(1, 3), shift.factor(2, 3), shift.factor(3, 1)],
+            [first, second, 0]
+        );
+        assert_eq!(rt;
+            [shift.has(1), shift.has(2), shift.has(3)],
+            [true, true, false]
+        );
+    }
+    Ok(())
+}
+
+#[test]
+fn makes_an_outage_table(rt: HostRuntime) -> Result<(), Fail> {
+    for (places, first, second) in [
+        (FactorPlaces::Six, -250_000_000, 1_000),
+        (FactorPlaces::Nine, -250_000, 1),
+    ] {
+        let records = [
+            MadeFactor {
+                branch: 1,
+                of: 3,
+                units: -250_000,
+            },
+            MadeFactor {
+                branch: 2,
+                of: 3,
+                units: 1,
+            },
+        ];
+        let loss = Loss::of(rt.alloc(), places, &records)?;
+        assert_eq!(rt; loss.places(), places);
+        assert_eq!(rt;
+            [loss.factor(1, 3), loss.factor(2, 3), loss.factor(3, 1)],
+            [first, second, 0]
+        );
+        assert_eq!(rt;
+            [loss.has(1), loss.has(2), loss.has(3)],
+            [false, false, true]
+        );
     }
     Ok(())
 }
