@@ -8,5 +8,5 @@ abbrev pub invariant-loop-record : goal.invariant-loop-record
 invariant-loop-record l = record {
   kept : ArePairFactors l.column l.pairs;
   rows : length l.pairs.marked.items ≡ l.rows + 1;
-  is : l.pairs.by_pair.entries ≡ map (made_entry l.places) (take l.record-index l.records);
+  is : l.pairs.by_pair.entries ≡ map (made_entry l.fn.places) (take l.record-index l.records);
 }
