@@ -27,7 +27,7 @@ use Rattle.dc_network.proofs.Potentials.{AllFall, Falls, angles_from_loops, loop
 use Rattle.dc_network.proofs.Reactances.{not_nil, reactance_above}
 use Rattle.dc_network.proofs.Ways.{loops_exist}
 
-sum_by-map : {X Y : Type 0} (f : Y → Fraction) (g : X → Y) (xs : List X) → sum_by f (map g xs) ≡ sum_by (λ x. f (g x)) xs
+pub sum_by-map : {X Y : Type 0} (f : Y → Fraction) (g : X → Y) (xs : List X) → sum_by f (map g xs) ≡ sum_by (λ x. f (g x)) xs
 sum_by-map f g [] = refl
 sum_by-map f g (x ∷ xs) = ap (λ t. f (g x) +ℚ t) (sum_by-map f g xs)
 

@@ -4,4 +4,5 @@ pub mod ExactFactors
 pub mod Partitions
 pub mod Potentials
 pub mod Reactances
+pub mod Roundings
 pub mod Ways

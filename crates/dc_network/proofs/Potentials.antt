@@ -103,7 +103,7 @@ module _ (drop : NetBranch → Fraction) where
       (ap (λ t. drop b +ℚ t) (sym (chain_falls angle tree falls back b.to b.from pass lead)) ∙ closed) refl
 
   -- and where it is the difference of the angles, they do
-  loop_closes : (angle : ℕ → Fraction) (tree : List NetBranch) → AllFall angle tree → (b : NetBranch) (back : List Step) → Pass tree back → Lead back b.to b.from
+  pub loop_closes : (angle : ℕ → Fraction) (tree : List NetBranch) → AllFall angle tree → (b : NetBranch) (back : List Step) → Pass tree back → Lead back b.to b.from
       → Falls angle b → around b back ≡ whole (pos 0)
   loop_closes angle tree falls b back pass lead here =
       ap₂ ◌+ℚ◌ here (chain_falls angle tree falls back b.to b.from pass lead)

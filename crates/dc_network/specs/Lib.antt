@@ -1,2 +1,3 @@
 pub mod DcNetworks
 pub mod Laws
+pub mod Rounding
