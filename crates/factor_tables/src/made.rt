@@ -64,11 +64,7 @@ fn pairs_of(
 impl FactorTable<ByBus> {
     /// The shift table of these records, whose factors are in units of the last of so many places. The second column names buses. It
     /// has a mark for each row up to the greatest branch of a record.
-    pub fn of(
-        alloc: Global,
-        places: FactorPlaces,
-        records: &[MadeFactor],
-    ) -> Result<Shift, Memory>
+    pub fn of(alloc: Global, places: FactorPlaces, records: &[MadeFactor]) -> Result<Shift, Memory>
         requires once { AreApart records.now }
         requires sizes { AreInBounds places records.now }
         ensures { IfOk result (λ table. table ≡ made_table places records.now) }
@@ -85,11 +81,7 @@ impl FactorTable<ByBus> {
 impl FactorTable<ByOutage> {
     /// The outage table of these records, whose factors are in units of the last of so many places. The second column names outages by
     /// the rows of their branches. It has a mark for each row up to the greatest outage of a record.
-    pub fn of(
-        alloc: Global,
-        places: FactorPlaces,
-        records: &[MadeFactor],
-    ) -> Result<Loss, Memory>
+    pub fn of(alloc: Global, places: FactorPlaces, records: &[MadeFactor]) -> Result<Loss, Memory>
         requires once { AreApart records.now }
         requires sizes { AreInBounds places records.now }
         ensures { IfOk result (λ table. table ≡ made_table places records.now) }

@@ -27,7 +27,7 @@ loop-record-preserved c =
     let bound = in-bounds c.args.places c.args.records.now i here c.requires.sizes lt at in
     let fresh : has_pair c.loop-record.pairs.by_pair.entries (made_pair here) ≡ false = rw c.loop-record.invariant.is (pair-fresh c.args.places c.args.records.now i here c.requires.once lt at) in
     let entries : c.add.new.self.by_pair.entries ≡ c.loop-record.pairs.by_pair.entries ++ made_entry c.args.places here ∷ [] =
-        c.in_ok-add.ensures.entries ∙ ap₂ (λ pair factor. c.loop-record.pairs.by_pair.entries ++ (pair, factor) ∷ []) c.made_pair-pair.ensures (entry-fits c.args.places here c.step.result bound c.step.ensures) in
+    c.in_ok-add.ensures.entries ∙ ap₂ (λ pair factor. c.loop-record.pairs.by_pair.entries ++ (pair, factor) ∷ []) c.made_pair-pair.ensures (entry-fits c.args.places here c.step.result bound c.step.ensures) in
     record {
       kept =
           factors-push c.args.column c.loop-record.pairs c.add.new.self (made_entry c.args.places here) c.marked_row.result c.loop-record.invariant.kept fresh row within (entry-size c.args.places here bound) entries
