@@ -12,7 +12,7 @@ use std::marker::{Model, PhantomData};
 
 /// What the second column of a table of factors names.
 #[derive(Clone, Copy, Debug, PartialEq, Eq)]
-pub(crate) enum Column {
+pub enum Column {
     Bus,
     Outage,
 }

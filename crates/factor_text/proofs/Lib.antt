@@ -1,0 +1,4 @@
+mod NumbersRead
+mod TextsDerived
+mod RecordsRead
+mod WritingLemmas

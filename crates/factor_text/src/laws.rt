@@ -1,0 +1,8 @@
+//! Laws of the definitions, each the contract of a function that does nothing.
+
+ghost use Rattle.factor_text.specs.Laws.{TablesAreReadBack};
+
+/// The text of a table that obeys the rules of a network is read over this network as the same table.
+pub fn tables_are_read_back()
+    ensures { TablesAreReadBack }
+{}
