@@ -1,6 +1,7 @@
 -- The records of a written table are read one after the other.
 use Rattle.std.proofs.Common.{◌≡◌, ◌≢◌, ℕ, zero, suc, ◌+◌, ◌*◌, ◌<◌, ◌≤◌, ◌^◌, ℤ, pos, negsuc, ◌*ℤ◌, Bool, true, false, ◌&&◌, not, List, [], ◌∷◌, ◌++◌, length, map, get_or, arith, refl, sym, ap, subst, ◌∙◌, Option, Some, None, Result, Ok, Err, append_assoc}
 use Rattle.std.specs.Prelude.{decimal, if◌then◌else◌, is_some, unsigned_abs}
+use Rattle.std.specs.Int.Signed.{le_z}
 use Rattle.std.specs.List.{AllByRecursion}
 use Rattle.std.specs.Map.{lookup}
 use Rattle.std.proofs.Math.Seq.{get_or-append_seam}
@@ -21,7 +22,6 @@ use Rattle.line_text.specs.Decimals.{decimal_text}
 use Rattle.net_case.specs.Networks.{IsNetwork, LiveNetwork, has_bus}
 use Rattle.factor_tables.specs.declared.by_pair.Column.{Column}
 use Rattle.factor_tables.specs.declared.by_pair.Column.TheVariants as column
-use Rattle.factor_tables.specs.declared.cells.FactorRecord.{FactorRecord}
 use Rattle.factor_tables.specs.declared.table_fault.TableFault.{TableFault}
 use Rattle.factor_tables.specs.declared.table_fault.TableFault.TheVariants as fault
 use Rattle.factor_tables.specs.Factors.{Entry, FactorRecords, HasNoPairTwice, Pair, has_pair, same_pair}
@@ -39,9 +39,6 @@ then-ok : {A B F : Type 0} (first : Result A F) (x : A) (next : A → Result B F
 then-ok first x next r e n = ap (λ s. and_then s next) e ∙ n
 
 -- ---- the numbers of a record
-abbrev numbers_of : Entry → FactorRecord
-numbers_of entry = record { branch = pos entry.0.0; of = pos entry.0.1; factor = entry.1 }
-
 factor-is : (places : FactorPlaces) (line : ℕ) (a b c : List ℕ) (units : ℤ) → units_of (place_count places) c ≡ Ok units → unsigned_abs units * place_step places ≤ most_factor
     → factor_cell places line (a ∷ b ∷ c ∷ []) ≡ Ok (units *ℤ pos (place_step places))
 unfolding factor_cell
@@ -52,7 +49,7 @@ record-is : (places : FactorPlaces) (line : ℕ) (a b c : List ℕ) (x y z : ℤ
 unfolding record_in
 record-is places line a b c x y z first second third = rw (first, second, third) refl
 
-numbers-read : (kind : Column) (network : LiveNetwork) (places : FactorPlaces) (line : ℕ) (entry : Entry) → ObeysRules kind network places entry → IsInRange entry → record_in places line (cells_of entry) ≡ Ok (numbers_of entry)
+numbers-read : (kind : Column) (network : LiveNetwork) (places : FactorPlaces) (line : ℕ) (entry : Entry) → ObeysRules kind network places entry → IsInRange entry → record_in places line (cells_of entry) ≡ Ok (record { branch = pos entry.0.0; of = pos entry.0.1; factor = entry.1 })
 numbers-read kind network places line entry rules range =
     let units : ℤ = rules.whole.0 in
     let size : unsigned_abs entry.1 ≡ unsigned_abs units * place_step places = ap unsigned_abs rules.whole.1 ∙ unsigned_abs-mul units (pos (place_step places)) in
@@ -75,11 +72,11 @@ not-idle : (z : ℤ) (is_live : Bool) → (z ≢ pos 0 → is_live ≡ true) →
 not-idle z true live = and-not-true (is_used z)
 not-idle z false live = unused z live
 
-all-pass : {F : Type 0} (a b c d : Bool) (w x y z : F) → a ≡ true → b ≡ true → c ≡ false → d ≡ false → checked ((not a, w) ∷ (not b, x) ∷ (c, y) ∷ (d, z) ∷ []) (fine {F}) ≡ fine {F}
+all-pass : {F : Type 0} (a b c d : Bool) (w x y z : F) → a ≡ true → b ≡ true → c ≡ false → d ≡ false → checked ((not a, w) ∷ (not b, x) ∷ (c, y) ∷ (d, z) ∷ []) (fine {F = F}) ≡ fine {F = F}
 all-pass a b c d w x y z p q r s = rw (p, q, r, s) refl
 
 checks-pass : (kind : Column) (network : LiveNetwork) (places : FactorPlaces) (line : ℕ) (entry : Entry) → ObeysRules kind network places entry
-    → checked (record_faults kind network line (numbers_of entry)) (fine {TableFault}) ≡ fine {TableFault}
+    → checked (record_faults kind network line (record { branch = pos entry.0.0; of = pos entry.0.1; factor = entry.1 })) (fine {F = TableFault}) ≡ fine {F = TableFault}
 unfolding shift_faults loss_faults
 checks-pass column.Bus network places line entry rules =
     all-pass (is_row network (pos entry.0.0)) (has_bus network (pos entry.0.1)) (is_used entry.1 && not (is_live_branch network (pos entry.0.0))) (is_used entry.1 && not (is_live_bus network (pos entry.0.1)))
@@ -113,8 +110,8 @@ entry-read : (kind : Column) (network : LiveNetwork) (places : FactorPlaces) (do
     → entry_in places network kind done line (cells_of entry) ≡ Ok entry
 unfolding entry_in
 entry-read kind network places done line entry rules range new =
-    then-ok (record_in places line (cells_of entry)) (numbers_of entry) _ (Ok entry) (numbers-read kind network places line entry rules range)
-    (then-ok (checked (record_faults kind network line (numbers_of entry)) fine) tt _ (Ok entry) (checks-pass kind network places line entry rules) (chosen (has_pair done entry.0) (fault.Twice line) entry new))
+    then-ok (record_in places line (cells_of entry)) (record { branch = pos entry.0.0; of = pos entry.0.1; factor = entry.1 }) _ (Ok entry) (numbers-read kind network places line entry rules range)
+    (then-ok (checked (record_faults kind network line (record { branch = pos entry.0.0; of = pos entry.0.1; factor = entry.1 })) fine) tt _ (Ok entry) (checks-pass kind network places line entry rules) (chosen (has_pair done entry.0) (fault.Twice line) entry new))
 
 all-read : (kind : Column) (network : LiveNetwork) (places : FactorPlaces) (rest done : List Entry) (line : ℕ) → AllByRecursion (ObeysRules kind network places) rest → AllByRecursion IsInRange rest → HasNoPairTwice (done ++ rest)
     → read_rows (entry_in places network kind) done line (map cells_of rest) ≡ Ok (done ++ rest)
@@ -129,7 +126,7 @@ all-read kind network places (entry ∷ rest) done line rules ranges once =
 -- ---- the numbers of records over a network are in range
 row-small : (network : LiveNetwork) (n : ℕ) → IsNetwork network → is_row network (pos n) ≡ true → n < 2 ^ 63
 row-small network n is row =
-    let most : n ≤ network.branch_rows = leb-true n network.branch_rows (and_parts _ _ row).1 in
+    let most : n ≤ network.branch_rows = leb-true n network.branch_rows (and_parts (le_z (pos 1) (pos n)) (le_z (pos n) (pos network.branch_rows)) row).1 in
     let few : network.branch_rows ≤ 2000 = is.branch_row_count in
     omega (arith, most, few)
 
