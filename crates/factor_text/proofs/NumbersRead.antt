@@ -81,16 +81,19 @@ denotes bytes sign mantissa whole part negative places n signs is text cross =
     let above : number * 10 ^ tens_above d ≡ number = omega arith in
     let under : tens_under d ≡ length part = omega arith in
     let scaled : n *ℤ pos (10 ^ tens_under d) ≡ with_sign negative (number * 10 ^ tens_above d) *ℤ pos (10 ^ places) =
-        ap (λ (k : ℕ). n *ℤ pos (10 ^ k)) under ∙ (cross ∙ (sym (signed_times negative number (10 ^ places)) ∙ ap (λ (k : ℕ). with_sign negative k *ℤ pos (10 ^ places)) (sym above))) in
-    (d, record {
-      sign = sign;
-      mantissa = mantissa;
-      tail = [];
-      text_is = text ∙ ap (λ t. sign ++ t) (sym (append-nil mantissa));
-      signs = signs;
-      mantissas = is;
-      exponents = inl (refl, refl, refl);
-    }, over_from_cross n (with_sign negative (number * 10 ^ tens_above d)) (10 ^ places) (10 ^ tens_under d) (ten_above places) (ten_above (tens_under d)) scaled)
+    ap (λ (k : ℕ). n *ℤ pos (10 ^ k)) under ∙ (cross ∙ (sym (signed_times negative number (10 ^ places)) ∙ ap (λ (k : ℕ). with_sign negative k *ℤ pos (10 ^ places)) (sym above))) in (
+      d,
+      record {
+        sign = sign;
+        mantissa = mantissa;
+        tail = [];
+        text_is = text ∙ ap (λ t. sign ++ t) (sym (append-nil mantissa));
+        signs = signs;
+        mantissas = is;
+        exponents = inl (refl, refl, refl);
+      },
+      over_from_cross n (with_sign negative (number * 10 ^ tens_above d)) (10 ^ places) (10 ^ tens_under d) (ten_above places) (ten_above (tens_under d)) scaled,
+    )
 
 -- a number of a cell is read back
 pub number-read : (n : ℕ) → n < 2 ^ 63 → units_of 0 (decimal n) ≡ Ok (pos n)
@@ -182,10 +185,10 @@ module _ (z : ℤ) (small : unsigned_abs z ≤ most_factor) where
   cross =
       let size : length part ≡ behind.count = length-last_digits behind.count behind.number in
       let value : digits_value 10 (number_text whole ++ part) ≡ whole * 10 ^ behind.count + behind.number =
-          value-behind (number_text whole) behind.count behind.number behind.below ∙ ap (λ (k : ℕ). k * 10 ^ behind.count + behind.number) numeral-whole.value in
+      value-behind (number_text whole) behind.count behind.number behind.below ∙ ap (λ (k : ℕ). k * 10 ^ behind.count + behind.number) numeral-whole.value in
       let split : whole * 10 ^ 9 + rest ≡ unsigned_abs z = div-add-mod' (unsigned_abs z) (10 ^ 9) in
       let same : unsigned_abs z * 10 ^ length part ≡ digits_value 10 (number_text whole ++ part) * 10 ^ 9 =
-          ap (λ (k : ℕ). unsigned_abs z * 10 ^ k) size ∙ (crossed whole rest behind.number (unsigned_abs z) (10 ^ behind.count) (10 ^ 9) split behind.value ∙ ap (λ (k : ℕ). k * 10 ^ 9) (sym value)) in
+      ap (λ (k : ℕ). unsigned_abs z * 10 ^ k) size ∙ (crossed whole rest behind.number (unsigned_abs z) (10 ^ behind.count) (10 ^ 9) split behind.value ∙ ap (λ (k : ℕ). k * 10 ^ 9) (sym value)) in
       ap (λ (y : ℤ). y *ℤ pos (10 ^ length part)) (sym (with-sign z)) ∙ (signed_times (below z) (unsigned_abs z) (10 ^ length part) ∙ ap (with_sign (below z)) same)
 
   decimal-denotes : Denotes (decimal_text 9 z) (over z (10 ^ 9))

@@ -11,7 +11,6 @@ use Rattle.std.proofs.lemmas.List.{append-nil, get_or_append_left, length-append
 use Rattle.std.proofs.lemmas.List.Elements.{recursion_from_All}
 use Rattle.std.proofs.lemmas.Map.Entries.{place_from_lookup}
 use Rattle.std.proofs.lemmas.Option.{get_or_from_slice_get, slice_get_within}
-use Rattle.record_reading.specs.Records.{Record}
 use Rattle.record_reading.specs.Rows.{gather, read_rows}
 use Rattle.record_reading.specs.Steps.{and_then, checked, fine, or_as, some_of}
 use Rattle.scaled_decimal.specs.Reading.{units_of}
@@ -24,7 +23,7 @@ use Rattle.factor_tables.specs.declared.by_pair.Column.{Column}
 use Rattle.factor_tables.specs.declared.by_pair.Column.TheVariants as column
 use Rattle.factor_tables.specs.declared.table_fault.TableFault.{TableFault}
 use Rattle.factor_tables.specs.declared.table_fault.TableFault.TheVariants as fault
-use Rattle.factor_tables.specs.Factors.{Entry, FactorRecords, HasNoPairTwice, Pair, has_pair, same_pair}
+use Rattle.factor_tables.specs.Factors.{Entry, FactorRecords, HasNoPairTwice, has_pair, same_pair}
 use Rattle.factor_tables.specs.Records.{factor_cell, record_in}
 use Rattle.factor_tables.specs.Rules.{is_live_branch, is_live_bus, is_row, is_used, loss_faults, record_faults, shift_faults}
 use Rattle.factor_tables.specs.Tables.{entry_in, factors_of, header_of, table_of}
@@ -55,7 +54,7 @@ numbers-read kind network places line entry rules range =
     let size : unsigned_abs entry.1 ≡ unsigned_abs units * place_step places = ap unsigned_abs rules.whole.1 ∙ unsigned_abs-mul units (pos (place_step places)) in
     let small : unsigned_abs units * place_step places ≤ most_factor = subst (λ (n : ℕ). n ≤ most_factor) size range.size in
     let factor : factor_cell places line (cells_of entry) ≡ Ok entry.1 =
-        factor-is places line (decimal entry.0.0) (decimal entry.0.1) (decimal_text 9 entry.1) units (factor-read places entry.1 units range.size rules.whole.1) small ∙ ap Ok (sym rules.whole.1) in
+    factor-is places line (decimal entry.0.0) (decimal entry.0.1) (decimal_text 9 entry.1) units (factor-read places entry.1 units range.size rules.whole.1) small ∙ ap Ok (sym rules.whole.1) in
     record-is places line (decimal entry.0.0) (decimal entry.0.1) (decimal_text 9 entry.1) (pos entry.0.0) (pos entry.0.1) entry.1 (number-read entry.0.0 range.first) (number-read entry.0.1 range.second) factor
 
 -- ---- they name what is there

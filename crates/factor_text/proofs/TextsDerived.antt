@@ -1,11 +1,11 @@
 -- The text of a table of factors is one by the grammar of tables, and its records have the cells of the table's.
-use Rattle.std.proofs.Common.{◌≡◌, ◌≢◌, ℕ, ◌<◌, ◌≤◌, ◌^◌, Bool, true, false, List, [], ◌∷◌, ◌++◌, length, map, get_or, arith, refl, sym, ap, ◌∙◌, None, Ok, append_assoc, codes}
+use Rattle.std.proofs.Common.{◌≡◌, ◌≢◌, ℕ, ◌<◌, ◌≤◌, ◌^◌, true, false, List, [], ◌∷◌, ◌++◌, length, map, get_or, arith, refl, sym, ap, ◌∙◌, None, Ok, append_assoc, codes}
 use Rattle.std.specs.Prelude.{decimal, unsigned_abs}
 use Rattle.std.specs.List.{AllByRecursion, flat_map, list_all}
 use Rattle.std.proofs.lemmas.Bool.{and_parts, ltb-true}
 use Rattle.record_reading.specs.Records.{Record}
 use Rattle.csv_table.specs.Table.{frame_of, header_line, table_of}
-use Rattle.table_grammar.specs.Cells.{Cell, Cells, IsPlain, IsPlainText, IsRecord, cells_text, comma, only, plain, record_of}
+use Rattle.table_grammar.specs.Cells.{Cells, IsPlain, IsPlainText, IsRecord, comma, only, plain}
 use Rattle.table_grammar.specs.TableTexts.{AreLines, IsTable, Lines, feed, line, lines_text, no_lines, records_of}
 use Rattle.table_grammar.proofs.Framed.{table-read}
 use Rattle.line_text.specs.Decimals.{decimal_text}

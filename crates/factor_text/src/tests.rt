@@ -3,27 +3,69 @@ use factor_tables::{Loss, MadeFactor, Shift};
 use market_data::FactorPlaces;
 use std::test::Fail;
 
-/// A record of a table of six places.
-const fn made(branch: u32, of: u32, units: i64) -> MadeFactor {
-    MadeFactor { branch, of, units }
-}
-
 /// Bus 1 is the reference. Branch 1 goes from bus 1 to bus 2, branch 2 from bus 1 to bus 3 and branch 3 from bus 2 to bus 3. The
-/// reactance of branch 1 is twice that of each other.
+/// reactance of branch 1 is twice that of each other. Factors are in 10^-6.
 const SHIFT: &[MadeFactor] = &[
-    made(1, 1, 0),
-    made(1, 2, -500_000),
-    made(1, 3, -250_000),
-    made(2, 1, 0),
-    made(2, 2, -500_000),
-    made(2, 3, -750_000),
-    made(3, 1, 0),
-    made(3, 2, 500_000),
-    made(3, 3, -250_000),
+    MadeFactor {
+        branch: 1,
+        of: 1,
+        units: 0,
+    },
+    MadeFactor {
+        branch: 1,
+        of: 2,
+        units: -500_000,
+    },
+    MadeFactor {
+        branch: 1,
+        of: 3,
+        units: -250_000,
+    },
+    MadeFactor {
+        branch: 2,
+        of: 1,
+        units: 0,
+    },
+    MadeFactor {
+        branch: 2,
+        of: 2,
+        units: -500_000,
+    },
+    MadeFactor {
+        branch: 2,
+        of: 3,
+        units: -750_000,
+    },
+    MadeFactor {
+        branch: 3,
+        of: 1,
+        units: 0,
+    },
+    MadeFactor {
+        branch: 3,
+        of: 2,
+        units: 500_000,
+    },
+    MadeFactor {
+        branch: 3,
+        of: 3,
+        units: -250_000,
+    },
 ];
 
 /// What branches 2 and 3 take up of branch 1.
-const LOSS: &[MadeFactor] = &[made(2, 1, 1_000_000), made(3, 1, -1_000_000)];
+const LOSS: &[MadeFactor] = &[
+    MadeFactor {
+        branch: 2,
+        of: 1,
+        units: 1_000_000,
+    },
+    MadeFactor {
+        branch: 3,
+        of: 1,
+        units: -1_000_000,
+    },
+];
 
 #[test]
 fn writes_a_shift_table(rt: HostRuntime) -> Result<(), Fail> {
@@ -48,7 +90,9 @@ fn writes_a_shift_table(rt: HostRuntime) -> Result<(), Fail> {
 fn writes_an_outage_table(rt: HostRuntime) -> Result<(), Fail> {
     let loss = Loss::of(rt.alloc(), FactorPlaces::Six, LOSS)?;
     let text = loss_text(rt.alloc(), &loss)?;
-    let want = "branch,outage,factor\n2,1,1\n3,1,-1\n";
-    assert_eq!(rt; text.as_slice(), want.as_bytes());
+    assert_eq!(rt;
+        text.as_slice(),
+        b"branch,outage,factor\n2,1,1\n3,1,-1\n".as_slice()
+    );
     Ok(())
 }
