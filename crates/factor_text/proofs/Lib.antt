@@ -1,4 +1,5 @@
 mod NumbersRead
 mod TextsDerived
-mod RecordsRead
+pub mod RecordsRead
+pub mod MadeTables
 mod WritingLemmas

@@ -1,11 +1,13 @@
 -- Which tables of factors obey the rules of a network, and that their texts are read back.
-use Rattle.std.specs.Prelude.{◌≡◌, ◌≢◌, ◌≤◌, ℤ, pos, ◌*ℤ◌, Bool, true, All, unsigned_abs, Ok}
+use Rattle.std.specs.Prelude.{◌≡◌, ◌≢◌, ◌≤◌, ℤ, pos, ◌*ℤ◌, Bool, true, List, All, unsigned_abs, Ok}
 use Rattle.market_data.specs.Scales.{most_factor, place_step}
 use Rattle.market_data.specs.declared.scales.FactorPlaces.{FactorPlaces}
 use Rattle.net_case.specs.Networks.{IsNetwork, LiveNetwork, has_bus}
 use Rattle.factor_tables.specs.declared.by_pair.Column.{Column}
 use Rattle.factor_tables.specs.declared.by_pair.Column.TheVariants as column
-use Rattle.factor_tables.specs.Factors.{Entry, FactorRecords, HasNoPairTwice}
+use Rattle.factor_tables.specs.declared.made.MadeFactor.{MadeFactor}
+use Rattle.factor_tables.specs.Factors.{Entry, FactorRecords, HasNoPairTwice, Pair}
+use Rattle.factor_tables.specs.Made.{AreApart, AreInBounds, made_pair, made_table}
 use Rattle.factor_tables.specs.Rules.{is_live_branch, is_live_bus, is_row}
 use Rattle.factor_tables.specs.Tables.{table_of}
 use Rattle.factor_text.specs.Texts.{table_text}
@@ -39,3 +41,18 @@ pub record IsTableOver (kind : Column) (network : LiveNetwork) (table : FactorRe
 -- what is written of such a table is read back as the table
 abbrev pub TablesAreReadBack : Type 0
 TablesAreReadBack = (kind : Column) (network : LiveNetwork) (table : FactorRecords) → IsNetwork network → IsTableOver kind network table → table_of kind network (table_text kind table.entries) table.places ≡ Ok table
+
+-- ---- tables that are made
+-- a pair names a branch row of the case and a bus or another branch row, both live
+pub record NamesWhatIsLive (kind : Column) (network : LiveNetwork) (pair : Pair) : Type 0 where
+  pub branch : is_row network (pos pair.0) ≡ true
+  pub of : is_second kind network (pos pair.1) ≡ true
+  pub live_branch : is_live_branch network (pos pair.0) ≡ true
+  pub live_of : is_live_second kind network (pos pair.1) ≡ true
+
+-- a table that is made of records whose pairs name what is live obeys the rules, so it is read back
+abbrev pub MadeTablesAreReadBack : Type 0
+MadeTablesAreReadBack =
+    (kind : Column) (network : LiveNetwork) (places : FactorPlaces) (records : List MadeFactor) → IsNetwork network → AreApart records → AreInBounds places records
+    → All (λ made. NamesWhatIsLive kind network (made_pair made)) records
+    → IsTableOver kind network (made_table places records) × (table_of kind network (table_text kind (made_table places records).entries) places ≡ Ok (made_table places records))
