@@ -1,5 +1,5 @@
 -- Tables that are made obey the rules, so they are read back.
-use Rattle.std.proofs.Common.{◌≡◌, ℕ, ◌*◌, ◌<◌, ◌≤◌, ◌∙◌, pos, List, length, get_or, map, arith, refl, sym, ap, Ok, All}
+use Rattle.std.proofs.Common.{◌≡◌, ◌*◌, ◌<◌, ◌≤◌, ◌∙◌, pos, List, length, get_or, map, arith, refl, sym, ap, Ok, All}
 use Rattle.std.specs.Prelude.{unsigned_abs}
 use Rattle.std.proofs.lemmas.List.{get_or-map, length-map}
 use Rattle.std.proofs.lemmas.List.Elements.{All-map}
