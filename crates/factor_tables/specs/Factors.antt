@@ -6,6 +6,7 @@ use Rattle.market_data.specs.Scales.{most_factor}
 use Rattle.market_data.specs.declared.scales.FactorPlaces.{FactorPlaces}
 use Rattle.factor_tables.specs.declared.by_pair.Column.{Column}
 use Rattle.factor_tables.specs.declared.by_pair.Column.TheVariants as column
+use Rattle.factor_tables.specs.declared.by_pair.ListedFactor.{ListedFactor}
 use Rattle.factor_tables.specs.declared.by_pair.Pairs.{Pairs}
 
 -- a branch's row, with the number of a bus or the row of an outage
@@ -15,6 +16,10 @@ Pair = ℕ × ℕ
 -- a record: its pair, and the factor
 abbrev pub Entry : Type 0
 Entry = Pair × ℤ
+
+-- a record as it is told
+abbrev pub listed_entry : ListedFactor → Entry
+listed_entry listed = ((listed.branch, listed.of), listed.factor)
 
 -- a table: how many places its factors may have, and its records with their factors in 10^-9
 pub record FactorRecords : Type 0 where

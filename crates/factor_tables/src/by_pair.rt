@@ -1,8 +1,8 @@
 //! Factors by pair.
 
-ghost use Rattle.std.specs.Prelude.{◌≡◌, ℕ, ◌≤◌, ◌<◌, ◌+◌, ◌^◌, ◌++◌, ◌∷◌, [], List, unsigned_abs, length, get_or, slice_set, IfOk, false, true};
+ghost use Rattle.std.specs.Prelude.{◌≡◌, ℕ, ◌≤◌, ◌<◌, ◌+◌, ◌^◌, ◌++◌, ◌∷◌, [], List, unsigned_abs, length, get_or, slice_get, slice_set, IfOk, IfSome, Some, is_some, nat_lt, false, true};
 ghost use Rattle.market_data.specs.Scales.{most_factor};
-ghost use Rattle.factor_tables.specs.Factors.{Entry, ArePairFactors, FactorRecords, IsFactorOfPair, factor_at, has_pair, has_row, marked_row};
+ghost use Rattle.factor_tables.specs.Factors.{Entry, ArePairFactors, FactorRecords, IsFactorOfPair, factor_at, has_pair, has_row, listed_entry, marked_row};
 
 use indexmap::IndexMap;
 use market_data::FactorPlaces;
@@ -12,7 +12,7 @@ use std::marker::{Model, PhantomData};
 
 /// What the second column of a table of factors names.
 #[derive(Clone, Copy, Debug, PartialEq, Eq)]
-pub(crate) enum Column {
+pub enum Column {
     Bus,
     Outage,
 }
@@ -25,6 +25,17 @@ pub(crate) fn marked_row(column: Column, pair: (u32, u32)) -> u32
         Column::Bus => pair.0,
         Column::Outage => pair.1,
     }
+}
+
+/// A record of a table of factors.
+#[derive(Clone, Copy, Debug, PartialEq, Eq)]
+pub struct ListedFactor {
+    /// The row of the branch.
+    pub branch: u32,
+    /// The number of a bus, or the row of an outage's branch.
+    pub of: u32,
+    /// In 10^-9.
+    pub factor: i64,
 }
 
 /// Factors by pair, and which rows have been marked.
@@ -83,6 +94,26 @@ impl Pairs {
                 None => (0, place),
             },
         }
+    }
+
+    // How many records there are.
+    pub(crate) fn len(&self) -> usize
+        ensures { result ≡ length self.now.by_pair.entries }
+    {
+        self.by_pair.len()
+    }
+
+    // The record at a place, in the order in which they were added.
+    pub(crate) fn record(&self, place: usize) -> Option<ListedFactor>
+        ensures there { is_some result ≡ nat_lt place (length self.now.by_pair.entries) }
+        ensures is { IfSome result (λ listed. slice_get self.now.by_pair.entries place ≡ Some (listed_entry listed)) }
+    {
+        let (pair, factor) = self.by_pair.get_index(place)?;
+        Some(ListedFactor {
+            branch: pair.0,
+            of: pair.1,
+            factor: *factor,
+        })
     }
 
     // Adds the factor of a pair that has none, and marks a row.
@@ -156,6 +187,21 @@ impl<K: TableKind> FactorTable<K> {
         ensures { result ≡ self.now.places }
     {
         self.places
+    }
+
+    /// How many records the table has.
+    pub fn len(&self) -> usize
+        ensures { result ≡ length self.now.entries }
+    {
+        self.pairs.len()
+    }
+
+    /// The record at a place, the first being 0; none beyond the last.
+    pub fn record(&self, place: usize) -> Option<ListedFactor>
+        ensures there { is_some result ≡ nat_lt place (length self.now.entries) }
+        ensures is { IfSome result (λ listed. slice_get self.now.entries place ≡ Some (listed_entry listed)) }
+    {
+        self.pairs.record(place)
     }
 
     /// The factor of a branch's row and a number of the second column, 0 where they have no record.

@@ -20,7 +20,7 @@ use std::alloc::Global;
 use std::marker::PhantomData;
 
 /// The header of the table of shift factors.
-const SHIFT_HEADER: &[&str] = &["branch", "bus", "factor"];
+pub const SHIFT_HEADER: &[&str] = &["branch", "bus", "factor"];
 
 /// The header of the table of outage factors.
 pub const LOSS_HEADER: &[&str] = &["branch", "outage", "factor"];

@@ -17,9 +17,9 @@ mod penalty_list;
 mod penalty_reading;
 mod table_fault;
 
-pub use by_pair::{ByBus, ByOutage, FactorTable, Loss, Shift, TableKind};
+pub use by_pair::{ByBus, ByOutage, Column, FactorTable, ListedFactor, Loss, Shift, TableKind};
 pub use covering::{Uncovered, cover};
-pub use factor_reading::{LOSS_HEADER, outage, shift};
+pub use factor_reading::{LOSS_HEADER, SHIFT_HEADER, outage, shift};
 pub use made::MadeFactor;
 pub use names::{is_live_branch, is_row};
 pub use offset_list::Offsets;

@@ -2,5 +2,5 @@ mod CellsRead
 mod LinesRead
 mod LinesDerived
 mod TextsDerived
-mod Framed
+pub mod Framed
 mod WorkedTexts

@@ -1,0 +1,5 @@
+mod NumbersRead
+mod TextsDerived
+pub mod RecordsRead
+pub mod MadeTables
+mod WritingLemmas
