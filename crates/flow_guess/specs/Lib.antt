@@ -1,0 +1,3 @@
+pub mod Guesses
+pub mod Links
+pub mod Rounding
