@@ -1,13 +1,13 @@
 -- What a guess and its errors say of each solution.
-use Rattle.std.specs.Prelude.{◌≡◌, ◌≢◌, ℕ, ◌<◌, ◌==◌, ℤ, pos, ◌+ℤ◌, ◌-ℤ◌, ◌<ℤ◌, List, [], ◌∷◌, All, filter, length, map, refl}
+use Rattle.std.specs.Prelude.{◌≡◌, ◌≢◌, ℕ, ◌<◌, ◌==◌, ℤ, pos, ◌*ℤ◌, ◌^◌, ◌<ℤ◌, List, [], ◌∷◌, All, filter, length, map, refl}
 use Rattle.std.specs.List.{Contains}
-use Rattle.std.proofs.Common.{arith, ap, sym, subst, ◌∙◌, inl, inr}
+use Rattle.std.proofs.Common.{arith, ap, sym, subst, subst₂, ◌∙◌, inl, inr}
 use mathlib.Core.Path.{ap₂}
 use Rattle.fraction_theory.specs.Fraction.{Fraction, whole, recip_ℚ, ◌+ℚ◌, ◌-ℚ◌, ◌*ℚ◌, neg_ℚ}
 use Rattle.fraction_theory.specs.Order.{◌≤ℚ◌, ◌<ℚ◌}
 use Rattle.fraction_theory.specs.Signs.{abs_ℚ}
 use Rattle.fraction_theory.specs.Sums.{sum_by}
-use Rattle.fraction_theory.proofs.FieldLaws.{ring_ℚ}
+use Rattle.fraction_theory.proofs.FieldLaws.{ring_ℚ, whole-*ℚ}
 use Rattle.fraction_theory.proofs.ListSums.{Contains-head, Contains-cons, Contains-cases}
 use Rattle.fraction_theory.proofs.OrderLaws.{NonNeg_from, by_le1, by_le2, NonNeg-one, NonNeg-recip, NonNeg_to, ≤ℚ-or-<ℚ, ≤ℚ_of_same, <ℚ-≤ℚ, <ℚ-not-≤ℚ}
 use Rattle.fraction_theory.proofs.Ring.{by_ring, at, pnil, pone, pneg, ◌⊕◌, ◌⊗◌}
@@ -17,11 +17,13 @@ use Rattle.network_theory.specs.Carrying.{IsCarried, put_through}
 use Rattle.network_theory.specs.Networks.{Branch, Network, IsBranchOf, IsNetwork, IsSolution, flow, leaving, entering, injection, net_outflow, others}
 use Rattle.network_theory.proofs.Guesses.{law_of_guessed_bounds}
 use Rattle.network_theory.proofs.Solutions.{one_above}
+use Rattle.exact_fraction.specs.Nearest.{in_units}
 use Rattle.flow_guess.specs.declared.bounds.Guess.{Guess}
 use Rattle.flow_guess.specs.declared.bounds.Transfer.{Transfer}
 use Rattle.flow_guess.specs.declared.links.Link.{Link}
 use Rattle.flow_guess.specs.Links.{IsLink, branch_of, network_of}
 use Rattle.flow_guess.specs.Guesses.{IsGuessOf, low_flow, high_flow, error_at, wanted_at}
+use Rattle.flow_guess.specs.Told.{IsWithin}
 use Rattle.flow_guess.proofs.Falls.{guessed, least_is_low, most_is_high, whole_above, recip_times}
 
 -- ---- members of what is made of a list
@@ -120,3 +122,17 @@ module _ (guess : Guess) (links : List Link) (all : All (IsGuessOf guess) links)
               (sym (injection_times p is.angle n i ∙ ap (λ t. p *ℚ t) (is.solution.injections i h d))) (between (wanted_at transfer i) (net_outflow n low high i) (net_outflow n high low i)) in
       let it = law_of_guessed_bounds n reference (λ j. p *ℚ is.angle j) (guessed guess) low high error network_is flow_is_between near b c in
       subst (λ f. ((low b -ℚ sum_by error (others n reference)) ≤ℚ f) × (f ≤ℚ (high b +ℚ sum_by error (others n reference)))) (flow_times p is.angle b ∙ ap (λ t. p *ℚ t) is.is) it
+
+  -- so far off is no branch by more than all errors in sum
+  pub within_errors : (reference : ℕ) (transfer : Transfer) (part : ℤ) (places : ℕ) (link : Link) (carried : Fraction) (e : ℤ) → Contains links link → transfer.parts ≡ part *ℤ pos (10 ^ places)
+      → IsCarried (network_of (length guess.angles.items) links) reference transfer.source transfer.sink (branch_of link) carried
+      → whole e ≡ sum_by (error_at (network_of (length guess.angles.items) links) guess transfer) (others (network_of (length guess.angles.items) links) reference)
+      → IsWithin guess (branch_of link) part places carried e
+  within_errors reference transfer part places link carried e c parts is sum =
+      let b = branch_of link in
+      let it = carried_between reference transfer b carried (to_map branch_of links link c) is in
+      let units : whole transfer.parts *ℚ carried ≡ whole part *ℚ in_units places carried = ap (λ z. whole z *ℚ carried) parts ∙ ap (λ t. t *ℚ carried) (whole-*ℚ part (pos (10 ^ places))) ∙ ring_ℚ.times_assoc (whole part) (whole (pos (10 ^ places))) carried in
+      record {
+        low = subst₂ (λ x y. (low_flow guess b -ℚ x) ≤ℚ y) (sym sum) units it.0;
+        high = subst₂ (λ x y. y ≤ℚ (high_flow guess b +ℚ x)) (sym sum) units it.1;
+      }

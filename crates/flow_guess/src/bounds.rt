@@ -57,7 +57,7 @@ fn angle_at(guess: &Guess, place: usize) -> i128
 }
 
 /// What a link carries at the angles, in parts.
-fn flow_at(guess: &Guess, link: &Link) -> Option<Range>
+pub(crate) fn flow_at(guess: &Guess, link: &Link) -> Option<Range>
     requires { IsGuessOf guess.now link.now }
     ensures { IfSome result (IsFlow guess.now (branch_of link.now)) }
 {
@@ -177,7 +177,7 @@ fn error(
 }
 
 /// How far off all buses but the reference can be in sum.
-fn all_errors(
+pub(crate) fn all_errors(
     links: &[Link],
     guess: &Guess,
     reference: usize,

@@ -7,5 +7,6 @@
 mod bounds;
 mod links;
 mod nearest;
+mod told;
 
 pub use links::Link;

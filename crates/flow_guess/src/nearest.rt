@@ -1,10 +1,10 @@
 //! One number of units for all that lies in a range.
 
-ghost use Rattle.std.specs.Prelude.{ℕ, pos, ◌<ℤ◌, IfSome};
+ghost use Rattle.std.specs.Prelude.{◌≡◌, ℕ, pos, true, ◌<ℤ◌, IfSome};
 ghost use Rattle.fraction_theory.specs.Fraction.{Fraction, whole, ◌*ℚ◌};
 ghost use Rattle.fraction_theory.specs.Order.{◌≤ℚ◌};
 ghost use Rattle.exact_fraction.specs.Nearest.{IsNearest, in_units};
-ghost use Rattle.flow_guess.specs.Rounding.{AllRoundTo};
+ghost use Rattle.flow_guess.specs.Rounding.{RoundsUpTo, RoundsDownTo};
 
 use crate::bounds::Range;
 
@@ -17,32 +17,42 @@ fn units_of(least: i128, part: i128) -> Option<i64>
     i64::try_from(units).ok()
 }
 
-/// Such a number where all that the range holds is nearest to it; what is as near to two goes to the one farther from 0.
-fn rounded(units: i64, range: Range, part: i128) -> Option<i64>
-    ensures { IfSome result (λ k. AllRoundTo k range part) }
+/// Whether a range that begins there is nowhere nearer to fewer units.
+fn is_low(units: i64, least: i128, part: i128) -> Option<bool>
+    ensures { IfSome result (λ is. is ≡ true → RoundsUpTo units least part) }
 {
-    let least = range.least.checked_mul(2)?;
-    let most = range.most.checked_mul(2)?;
-    let twice = i128::from(units) * 2;
-    let low = part.checked_mul(twice - 1)?;
-    let high = part.checked_mul(twice + 1)?;
-    if least < low || high < most {
-        return None;
+    let edge = part.checked_mul(i128::from(units) * 2 - 1)?;
+    let twice = least.checked_mul(2)?;
+    if units > 0 {
+        Some(edge <= twice)
+    } else {
+        Some(edge < twice)
     }
-    if least == low && units <= 0 {
-        return None;
+}
+
+/// Whether a range that ends there is nowhere nearer to more units.
+fn is_high(units: i64, most: i128, part: i128) -> Option<bool>
+    ensures { IfSome result (λ is. is ≡ true → RoundsDownTo units most part) }
+{
+    let edge = part.checked_mul(i128::from(units) * 2 + 1)?;
+    let twice = most.checked_mul(2)?;
+    if units < 0 {
+        Some(twice <= edge)
+    } else {
+        Some(twice < edge)
     }
-    if most == high && units >= 0 {
-        return None;
-    }
-    Some(units)
 }
 
 /// The nearest number of units of so many parts for all that the range holds, where it is one.
-pub(crate) fn nearest(range: Range, part: i128) -> Option<i64>
+pub(crate) fn nearest(range: &Range, part: i128) -> Option<i64>
     requires { pos 0 <ℤ part }
-    ensures { (places : ℕ) (q : Fraction) → whole range.least ≤ℚ (whole part *ℚ in_units places q) → (whole part *ℚ in_units places q) ≤ℚ whole range.most
+    ensures { (places : ℕ) (q : Fraction) → whole range.now.least ≤ℚ (whole part *ℚ in_units places q) → (whole part *ℚ in_units places q) ≤ℚ whole range.now.most
         → IfSome result (IsNearest places q) }
 {
-    rounded(units_of(range.least, part)?, range, part)
+    let units = units_of(range.least, part)?;
+    if is_low(units, range.least, part)? && is_high(units, range.most, part)? {
+        Some(units)
+    } else {
+        None
+    }
 }
