@@ -5,8 +5,12 @@
 #![tactic(auto)]
 
 mod bounds;
+mod elimination;
+mod floats;
 mod links;
 mod nearest;
+mod refining;
+mod scale;
 mod told;
 
 pub use links::Link;
