@@ -16,3 +16,12 @@ pub record IsLink (buses : ℕ) (link : Link) : Type 0 where
   pub from : link.from < buses
   pub to : link.to < buses
   pub reactance : pos 0 <ℤ link.reactance
+
+-- so many buses, of which one is the reference, and the links between them
+pub record Grid : Type 0 where
+  pub buses : ℕ
+  pub reference : ℕ
+  pub links : List Link
+
+abbrev pub grid_network : Grid → Network
+grid_network grid = network_of grid.buses grid.links

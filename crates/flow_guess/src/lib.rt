@@ -7,10 +7,15 @@
 mod bounds;
 mod elimination;
 mod floats;
+mod guesser;
 mod links;
 mod nearest;
 mod refining;
 mod scale;
 mod told;
 
-pub use links::Link;
+pub use guesser::Guesser;
+pub use links::{Link, are_links, is_link};
+
+#[cfg(test)]
+mod tests;

@@ -75,21 +75,23 @@ fn fits(units: i128, part: i128, reach: i128) -> bool {
 
 /// How many parts a unit has: as many as fit, and a multiple of small numbers, by which flows often divide.
 pub(crate) fn part_of(units: i128, reach: i128) -> i128
-    ensures { pos 0 <ℤ result }
+    ensures above { pos 0 <ℤ result }
+    ensures size { result <ℤ pos (2 ^ 64) }
 {
-    let mut part: i128 = 720_720_000_000_000;
+    let mut part: u64 = 720_720_000_000_000;
     for _ in 0..15 {
-        if !fits(units, part, reach) {
+        if !fits(units, i128::from(part), reach) {
             part /= 10;
         }
     }
-    if part > 0 { part } else { 1 }
+    i128::from(part.max(1))
 }
 
 /// 10 to a power.
 pub(crate) fn ten_to(places: u8) -> i128
     requires { places ≤ 9 }
-    ensures { result ≡ pos (10 ^ places) }
+    ensures is { result ≡ pos (10 ^ places) }
+    ensures size { result <ℤ pos (2 ^ 30) }
 {
     10i128.pow(u32::from(places))
 }
