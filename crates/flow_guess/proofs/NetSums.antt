@@ -1,11 +1,12 @@
 -- Sums over links and buses, taken one at a time.
-use Rattle.std.specs.Prelude.{◌≡◌, ◌≢◌, ℕ, ◌+◌, ◌<◌, ◌==◌, Bool, true, false, not, ℤ, pos, ◌+ℤ◌, ◌-ℤ◌, neg_ℤ, negsuc, unsigned_abs, List, [], ◌∷◌, ◌++◌, filter, length, map, take, get_or, if◌then◌else◌, Option, None, Some, IfSome, SomeIff, refl}
+use Rattle.std.specs.Prelude.{◌≡◌, ◌≢◌, ℕ, ◌+◌, ◌<◌, ◌==◌, Bool, true, false, not, ℤ, pos, ◌+ℤ◌, ◌-ℤ◌, neg_ℤ, negsuc, unsigned_abs, List, [], ◌∷◌, ◌++◌, filter, length, map, take, get_or, if◌then◌else◌, Option, None, Some, IfSome, SomeIff, Result, IfOk, refl}
 use Rattle.std.specs.List.{range_with_len}
 use Rattle.std.proofs.Common.{arith, zero, suc, ap, sym, ◌∙◌, subst, inl, inr}
 use Rattle.std.proofs.lemmas.Bool.Decides.{eqb_tells}
 use Rattle.std.proofs.lemmas.Int.{ints}
 use Rattle.std.proofs.lemmas.List.{take_more}
 use Rattle.std.proofs.lemmas.List.FromFn.{map-range_with_len_more}
+use Rattle.std.proofs.lemmas.Result.{IfOk-weaker}
 use mathlib.Core.Path.{ap₂}
 use Rattle.fraction_theory.specs.Fraction.{Fraction, whole, ◌+ℚ◌, ◌-ℚ◌, ◌*ℚ◌, neg_ℚ}
 use Rattle.fraction_theory.specs.Signs.{abs_ℚ}
@@ -85,3 +86,6 @@ sum_others n f reference =
     turned : (b : Bool) (x : Fraction) → (if b then whole (pos 0) else x) ≡ kept (not b) x
     turned true x = refl
     turned false x = refl
+
+pub of_ok : {X Y : Type 0} (r : Result X Y) {P Q : X → Type 0} → IfOk r P → ((x : X) → P x → Q x) → IfOk r Q
+of_ok r {P} {Q} h f = IfOk-weaker r P Q f h

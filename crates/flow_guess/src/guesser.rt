@@ -8,7 +8,7 @@ use crate::bounds::Transfer;
 use crate::elimination::{Elimination, eliminate};
 use crate::links::Link;
 use crate::refining::guess_of;
-use crate::scale::{part_of, reach_of_all, scale_of, ten_to};
+use crate::scale::{part_of, parts_of, reach_of_all, scale_of, ten_to};
 use crate::told::all_told;
 use plain_list::{List, Memory};
 use std::alloc::Global;
@@ -91,7 +91,7 @@ impl Guesser {
         let transfer = Transfer {
             source,
             sink,
-            parts: part * units,
+            parts: parts_of(part, units),
         };
         let links = self.links.slice();
         let guess = guess_of(

@@ -8,13 +8,13 @@ ghost use Rattle.flow_guess.specs.Rounding.{RoundsUpTo, RoundsDownTo};
 
 use crate::bounds::Range;
 
-/// The number of units that the lower end is nearest to.
+/// The number of units that the lower end is nearest to, of two that are as near the one farther from 0.
 fn units_of(least: i128, part: i128) -> Option<i64>
     requires { pos 0 <ℤ part }
 {
-    let halves = least.checked_mul(2)?.checked_add(part)?;
-    let units = halves.div_euclid(part.checked_mul(2)?);
-    i64::try_from(units).ok()
+    let halves = least.checked_abs()?.checked_mul(2)?.checked_add(part)?;
+    let units = i64::try_from(halves / part.checked_mul(2)?).ok()?;
+    if least < 0 { units.checked_neg() } else { Some(units) }
 }
 
 /// Whether a range that begins there is nowhere nearer to fewer units.

@@ -1,6 +1,6 @@
 //! A divisor of all reactances, and parts as small as fit.
 
-ghost use Rattle.std.specs.Prelude.{◌≡◌, ◌≤◌, ◌^◌, pos, ◌<ℤ◌, true, All, int_rem};
+ghost use Rattle.std.specs.Prelude.{◌≡◌, ◌≤◌, ◌^◌, pos, ◌*ℤ◌, ◌≤ℤ◌, ◌<ℤ◌, true, All, int_rem};
 
 use crate::links::Link;
 
@@ -91,7 +91,17 @@ pub(crate) fn part_of(units: i128, reach: i128) -> i128
 pub(crate) fn ten_to(places: u8) -> i128
     requires { places ≤ 9 }
     ensures is { result ≡ pos (10 ^ places) }
+    ensures above { pos 0 ≤ℤ result }
     ensures size { result <ℤ pos (2 ^ 30) }
 {
     10i128.pow(u32::from(places))
+}
+
+/// The parts of so many units.
+pub(crate) fn parts_of(part: i128, units: i128) -> i128
+    requires part { (pos 0 <ℤ part) × (part <ℤ pos (2 ^ 64)) }
+    requires units { (pos 0 ≤ℤ units) × (units <ℤ pos (2 ^ 30)) }
+    ensures { result ≡ part *ℤ units }
+{
+    part * units
 }
