@@ -1,17 +1,16 @@
 -- Whole numbers of parts below and above what a link carries at guessed angles.
-use Rattle.std.specs.Prelude.{◌≡◌, ℕ, ◌+◌, ◌*◌, ◌<◌, ℤ, pos, negsuc, ◌+ℤ◌, ◌-ℤ◌, ◌*ℤ◌, neg_ℤ, ◌≤ℤ◌, ◌<ℤ◌, unsigned_abs, int_div, int_rem, [], ◌∷◌, refl}
-use Rattle.std.specs.Int.{IsGcd, int_div_euclid}
+use Rattle.std.specs.Prelude.{◌≡◌, ℕ, ◌<◌, ℤ, pos, negsuc, ◌-ℤ◌, ◌*ℤ◌, ◌≤ℤ◌, ◌<ℤ◌, int_div, [], ◌∷◌, refl}
+use Rattle.std.specs.Int.{int_div_euclid}
 use Rattle.std.proofs.Common.{arith, zero, suc, ap, sym, subst, ◌∙◌}
 use Rattle.std.proofs.Math.Nat.{one-dvd, dvd_refl}
 use Rattle.std.proofs.lemmas.Int.{ints, quot-rem}
-use Rattle.fraction_theory.specs.Fraction.{Fraction, whole, over, recip_ℚ, ◌+ℚ◌, ◌-ℚ◌, ◌*ℚ◌, neg_ℚ}
+use Rattle.fraction_theory.specs.Fraction.{Fraction, whole, over, recip_ℚ, ◌-ℚ◌, ◌*ℚ◌}
 use Rattle.fraction_theory.specs.Order.{◌≤ℚ◌, ◌<ℚ◌}
 use Rattle.fraction_theory.proofs.FractionLaws.{lowest_den, over_is}
-use Rattle.fraction_theory.proofs.FieldLaws.{ring_ℚ, whole-*ℚ, whole-neg, whole-+ℚ, *ℚ-recip}
-use Rattle.fraction_theory.proofs.IntegerLaws.{ring_ℤ}
+use Rattle.fraction_theory.proofs.FieldLaws.{ring_ℚ, whole-*ℚ, whole-neg, *ℚ-recip}
 use Rattle.fraction_theory.proofs.OrderLaws.{whole-≤ℚ, by_le1, NonNeg-recip, <ℚ_irrefl, NonNeg_from, NonNeg-times, NonNeg-one}
-use Rattle.fraction_theory.proofs.Ring.{by_ring, by_ring1, at, pnil, pone, pneg, ◌⊕◌, ◌⊗◌}
-use Rattle.network_theory.specs.Networks.{Branch, flow}
+use Rattle.fraction_theory.proofs.Ring.{by_ring, at, pone, pneg, ◌⊕◌, ◌⊗◌}
+use Rattle.network_theory.specs.Networks.{flow}
 use Rattle.flow_guess.specs.declared.bounds.Guess.{Guess}
 use Rattle.flow_guess.specs.declared.links.Link.{Link}
 use Rattle.flow_guess.specs.Links.{branch_of}

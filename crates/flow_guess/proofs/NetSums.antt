@@ -1,22 +1,22 @@
 -- Sums over links and buses, taken one at a time.
-use Rattle.std.specs.Prelude.{◌≡◌, ◌≢◌, ℕ, ◌+◌, ◌<◌, ◌==◌, Bool, true, false, not, ℤ, pos, ◌+ℤ◌, ◌-ℤ◌, neg_ℤ, negsuc, unsigned_abs, List, [], ◌∷◌, ◌++◌, filter, length, map, take, get_or, if◌then◌else◌, Option, None, Some, IfSome, SomeIff, Result, IfOk, refl}
+use Rattle.std.specs.Prelude.{◌≡◌, ◌≢◌, ℕ, ◌+◌, ◌<◌, ◌==◌, Bool, true, false, not, ℤ, pos, ◌+ℤ◌, ◌-ℤ◌, neg_ℤ, negsuc, unsigned_abs, List, [], ◌∷◌, ◌++◌, length, map, take, get_or, if◌then◌else◌, Option, None, Some, IfSome, SomeIff, Result, IfOk, refl}
 use Rattle.std.specs.List.{range_with_len}
-use Rattle.std.proofs.Common.{arith, zero, suc, ap, sym, ◌∙◌, subst, inl, inr}
+use Rattle.std.proofs.Common.{arith, ap, sym, ◌∙◌, subst, inl, inr}
 use Rattle.std.proofs.lemmas.Bool.Decides.{eqb_tells}
 use Rattle.std.proofs.lemmas.Int.{ints}
 use Rattle.std.proofs.lemmas.List.{take_more}
 use Rattle.std.proofs.lemmas.List.FromFn.{map-range_with_len_more}
 use Rattle.std.proofs.lemmas.Result.{IfOk-weaker}
 use mathlib.Core.Path.{ap₂}
-use Rattle.fraction_theory.specs.Fraction.{Fraction, whole, ◌+ℚ◌, ◌-ℚ◌, ◌*ℚ◌, neg_ℚ}
+use Rattle.fraction_theory.specs.Fraction.{Fraction, whole, ◌+ℚ◌, ◌-ℚ◌}
 use Rattle.fraction_theory.specs.Signs.{abs_ℚ}
 use Rattle.fraction_theory.specs.Sums.{sum_by}
-use Rattle.fraction_theory.proofs.Ring.{by_ring, at, pnil, pone, pneg, ◌⊕◌, ◌⊗◌}
+use Rattle.fraction_theory.proofs.Ring.{by_ring, at, pnil, pneg, ◌⊕◌}
 use Rattle.fraction_theory.proofs.FieldLaws.{ring_ℚ, whole-neg, whole-+ℚ}
 use Rattle.fraction_theory.proofs.OrderLaws.{whole-≤ℚ}
 use Rattle.fraction_theory.proofs.SignLaws.{abs_above, abs_below}
 use Rattle.fraction_theory.proofs.SumLaws.{sum_by-append, sum_by-same}
-use Rattle.fraction_theory.proofs.ListSums.{kept, sum_by-filter, sum_by-members}
+use Rattle.fraction_theory.proofs.ListSums.{kept, sum_by-filter}
 use Rattle.network_theory.specs.Networks.{Branch, Network, net_outflow, places, others}
 use Rattle.network_theory.proofs.SignedSums.{sum_by-minus}
 use Rattle.flow_guess.specs.Guesses.{link_out}
@@ -38,6 +38,13 @@ where_same w a x y e = elim (eqb_tells w a) [ inl t ↦ ap (λ (b : Bool). if b 
 
 pub where_other : {T : Type 0} (w a : ℕ) (x y : T) → w ≢ a → (if w == a then x else y) ≡ y
 where_other w a x y n = elim (eqb_tells w a) [ inl t ↦ absurd (n t.1) | inr t ↦ ap (λ (b : Bool). if b then x else y) t.0 ]
+
+-- a branch that neither begins nor ends at the bus
+pub no_out : (bus : ℕ) (leaves enters : Branch → Fraction) (b : Branch) (x : Fraction) → b.from ≢ bus → b.to ≢ bus → x ≡ x +ℚ link_out bus leaves enters b
+no_out bus leaves enters b x d e =
+    let zero = whole (pos 0) in
+    by_ring ring_ℚ (x ∷ []) (at 0) (at 0 ⊕ (pnil ⊕ pneg pnil)) refl
+    ∙ ap₂ (λ s t. x +ℚ (s -ℚ t)) (sym (where_other b.from bus (leaves b) zero d)) (sym (where_other b.to bus (enters b) zero e))
 
 sum_by-map : {S T : Type 0} (f : T → Fraction) (g : S → T) (xs : List S) → sum_by f (map g xs) ≡ sum_by (λ x. f (g x)) xs
 sum_by-map f g [] = refl

@@ -9,7 +9,7 @@ use Rattle.fraction_theory.specs.Order.{◌≤ℚ◌, ◌<ℚ◌}
 use Rattle.fraction_theory.specs.Signs.{abs_ℚ}
 use Rattle.fraction_theory.proofs.FieldLaws.{ring_ℚ, whole-*ℚ, whole-+ℚ, whole-neg}
 use Rattle.fraction_theory.proofs.FractionLaws.{same_value, plus_is, over_is, Is}
-use Rattle.fraction_theory.proofs.OrderLaws.{by_le1, by_le2, NonNeg-one, NonNeg_from, whole-≤ℚ, *ℚ-≤ℚ, *ℚ-≤ℚ_cancel, ≤ℚ-or-<ℚ, ≤ℚ_of_same, ≤ℚ_refl, ≤ℚ_trans, <ℚ-≤ℚ, <ℚ-not-≤ℚ, +ℚ-<ℚ}
+use Rattle.fraction_theory.proofs.OrderLaws.{by_le1, by_le2, NonNeg-one, NonNeg_from, whole-≤ℚ, *ℚ-≤ℚ, *ℚ-≤ℚ_cancel, ≤ℚ-or-<ℚ, ≤ℚ_of_same, ≤ℚ_trans, <ℚ-≤ℚ, <ℚ-not-≤ℚ, +ℚ-<ℚ}
 use Rattle.fraction_theory.proofs.Ring.{by_ring, by_ring1, at, pnil, pone, pneg, ◌⊕◌, ◌⊗◌}
 use Rattle.fraction_theory.proofs.SignLaws.{abs_above, abs_below, abs_within}
 use Rattle.exact_fraction.specs.Nearest.{IsNearest, in_units, half}

@@ -1,27 +1,27 @@
 -- What a guess and its errors say of each solution.
-use Rattle.std.specs.Prelude.{◌≡◌, ◌≢◌, ℕ, ◌<◌, ◌==◌, ℤ, pos, ◌*ℤ◌, ◌^◌, ◌<ℤ◌, List, [], ◌∷◌, All, filter, length, map, refl}
+use Rattle.std.specs.Prelude.{◌≡◌, ℕ, ◌<◌, ◌==◌, ℤ, pos, ◌*ℤ◌, ◌^◌, ◌<ℤ◌, List, [], ◌∷◌, All, filter, length, map, refl}
 use Rattle.std.specs.List.{Contains}
 use Rattle.std.proofs.Common.{arith, ap, sym, subst, subst₂, ◌∙◌, inl, inr}
 use mathlib.Core.Path.{ap₂}
-use Rattle.fraction_theory.specs.Fraction.{Fraction, whole, recip_ℚ, ◌+ℚ◌, ◌-ℚ◌, ◌*ℚ◌, neg_ℚ}
+use Rattle.fraction_theory.specs.Fraction.{Fraction, whole, recip_ℚ, ◌+ℚ◌, ◌-ℚ◌, ◌*ℚ◌}
 use Rattle.fraction_theory.specs.Order.{◌≤ℚ◌, ◌<ℚ◌}
 use Rattle.fraction_theory.specs.Signs.{abs_ℚ}
 use Rattle.fraction_theory.specs.Sums.{sum_by}
 use Rattle.fraction_theory.proofs.FieldLaws.{ring_ℚ, whole-*ℚ}
 use Rattle.fraction_theory.proofs.ListSums.{Contains-head, Contains-cons, Contains-cases}
-use Rattle.fraction_theory.proofs.OrderLaws.{NonNeg_from, by_le1, by_le2, NonNeg-one, NonNeg-recip, NonNeg_to, ≤ℚ-or-<ℚ, ≤ℚ_of_same, <ℚ-≤ℚ, <ℚ-not-≤ℚ}
+use Rattle.fraction_theory.proofs.OrderLaws.{NonNeg_from, by_le1, by_le2, NonNeg-one, ≤ℚ-or-<ℚ, ≤ℚ_of_same, <ℚ-≤ℚ, <ℚ-not-≤ℚ}
 use Rattle.fraction_theory.proofs.Ring.{by_ring, at, pnil, pone, pneg, ◌⊕◌, ◌⊗◌}
-use Rattle.fraction_theory.proofs.SignLaws.{abs_above, abs_below, abs_opposite}
+use Rattle.fraction_theory.proofs.SignLaws.{abs_above, abs_below}
 use Rattle.fraction_theory.proofs.SumLaws.{sum_by-same, sum_by-times}
-use Rattle.network_theory.specs.Carrying.{IsCarried, put_through}
-use Rattle.network_theory.specs.Networks.{Branch, Network, IsBranchOf, IsNetwork, IsSolution, flow, leaving, entering, injection, net_outflow, others}
+use Rattle.network_theory.specs.Carrying.{IsCarried}
+use Rattle.network_theory.specs.Networks.{Branch, Network, IsBranchOf, IsNetwork, flow, leaving, entering, injection, net_outflow, others}
 use Rattle.network_theory.proofs.Guesses.{law_of_guessed_bounds}
 use Rattle.network_theory.proofs.Solutions.{one_above}
 use Rattle.exact_fraction.specs.Nearest.{in_units}
 use Rattle.flow_guess.specs.declared.bounds.Guess.{Guess}
 use Rattle.flow_guess.specs.declared.bounds.Transfer.{Transfer}
 use Rattle.flow_guess.specs.declared.links.Link.{Link}
-use Rattle.flow_guess.specs.Links.{IsLink, branch_of, network_of}
+use Rattle.flow_guess.specs.Links.{branch_of, network_of}
 use Rattle.flow_guess.specs.Guesses.{IsGuessOf, low_flow, high_flow, error_at, wanted_at}
 use Rattle.flow_guess.specs.Told.{IsWithin}
 use Rattle.flow_guess.proofs.Falls.{guessed, least_is_low, most_is_high, whole_above, recip_times}
@@ -117,9 +117,9 @@ module _ (guess : Guess) (links : List Link) (all : All (IsGuessOf guess) links)
       let high = high_flow guess in
       let error = error_at n guess transfer in
       let near : (i : ℕ) → i < n.buses → ¬ (i ≡ reference)
-              → ((injection n (λ j. p *ℚ is.angle j) i -ℚ error i) ≤ℚ net_outflow n low high i) × (net_outflow n high low i ≤ℚ (injection n (λ j. p *ℚ is.angle j) i +ℚ error i))
-              = λ i h d. subst (λ w. ((w -ℚ error i) ≤ℚ net_outflow n low high i) × (net_outflow n high low i ≤ℚ (w +ℚ error i)))
-              (sym (injection_times p is.angle n i ∙ ap (λ t. p *ℚ t) (is.solution.injections i h d))) (between (wanted_at transfer i) (net_outflow n low high i) (net_outflow n high low i)) in
+      → ((injection n (λ j. p *ℚ is.angle j) i -ℚ error i) ≤ℚ net_outflow n low high i) × (net_outflow n high low i ≤ℚ (injection n (λ j. p *ℚ is.angle j) i +ℚ error i))
+      = λ i h d. subst (λ w. ((w -ℚ error i) ≤ℚ net_outflow n low high i) × (net_outflow n high low i ≤ℚ (w +ℚ error i)))
+      (sym (injection_times p is.angle n i ∙ ap (λ t. p *ℚ t) (is.solution.injections i h d))) (between (wanted_at transfer i) (net_outflow n low high i) (net_outflow n high low i)) in
       let it = law_of_guessed_bounds n reference (λ j. p *ℚ is.angle j) (guessed guess) low high error network_is flow_is_between near b c in
       subst (λ f. ((low b -ℚ sum_by error (others n reference)) ≤ℚ f) × (f ≤ℚ (high b +ℚ sum_by error (others n reference)))) (flow_times p is.angle b ∙ ap (λ t. p *ℚ t) is.is) it
 

@@ -22,7 +22,6 @@ pub(crate) struct Range {
     pub most: i128,
 }
 
-
 /// Angles by the places of the buses.
 #[derive(Drop, Debug)]
 pub(crate) struct Guess {
@@ -108,6 +107,9 @@ fn with_link(range: Range, guess: &Guess, link: &Link, bus: usize) -> Option<Ran
     ensures least { IfSome result (λ out. whole out.least ≡ whole range.least +ℚ link_out bus (low_flow guess.now) (high_flow guess.now) (branch_of link.now)) }
     ensures most { IfSome result (λ out. whole out.most ≡ whole range.most +ℚ link_out bus (high_flow guess.now) (low_flow guess.now) (branch_of link.now)) }
 {
+    if link.from != bus && link.to != bus {
+        return Some(range);
+    }
     let leaves = flow_by(guess, link, link.from, bus)?;
     let enters = flow_by(guess, link, link.to, bus)?;
     plus(range, leaves, enters)

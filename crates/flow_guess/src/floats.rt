@@ -31,9 +31,7 @@ pub(crate) fn to_whole(x: f64) -> i128 {
     let low = rest - nearest_i64_to_f64(middle) * STEP;
     let half = if low < 0.0 { -0.5 } else { 0.5 };
     let high = i128::from(high).wrapping_mul(LOW + 1);
-    let middle = high
-        .wrapping_add(i128::from(middle))
-        .wrapping_mul(LOW + 1);
+    let middle = high.wrapping_add(i128::from(middle)).wrapping_mul(LOW + 1);
     middle.wrapping_add(i128::from(saturating_f64_to_i64(low + half)))
 }
 

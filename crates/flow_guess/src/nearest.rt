@@ -14,7 +14,11 @@ fn units_of(least: i128, part: i128) -> Option<i64>
 {
     let halves = least.checked_abs()?.checked_mul(2)?.checked_add(part)?;
     let units = i64::try_from(halves / part.checked_mul(2)?).ok()?;
-    if least < 0 { units.checked_neg() } else { Some(units) }
+    if least < 0 {
+        units.checked_neg()
+    } else {
+        Some(units)
+    }
 }
 
 /// Whether a range that begins there is nowhere nearer to fewer units.

@@ -1,4 +1,4 @@
-use Rattle.std.proofs.Common.{rules, ◌∙◌, ap, sym, length, to_z, of_z}
+use Rattle.std.proofs.Common.{rules, ◌∙◌, sym, length, to_z, of_z}
 use Rattle.std.specs.Int.{w128}
 use mathlib.Core.Path.{ap₂}
 use Rattle.std.specs.Prelude.{◌≡◌, ℤ, pos, ◌+ℤ◌, ◌==◌, if◌then◌else◌}

@@ -1,7 +1,7 @@
-use Rattle.std.proofs.Common.{ap, sym, ◌∙◌, length, take, get_or, pos}
+use Rattle.std.proofs.Common.{ap, sym, ◌∙◌, length, get_or, pos}
 use Rattle.std.specs.Prelude.{map}
 use Rattle.std.proofs.lemmas.List.{take_all}
-use Rattle.fraction_theory.specs.Fraction.{whole, ◌+ℚ◌}
+use Rattle.fraction_theory.specs.Fraction.{◌+ℚ◌}
 use Rattle.fraction_theory.specs.Sums.{sum_by}
 use Rattle.flow_guess.specs.declared.links.Link.{Link}
 use Rattle.flow_guess.specs.Links.{branch_of, network_of}

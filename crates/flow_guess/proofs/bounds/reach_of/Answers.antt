@@ -1,5 +1,5 @@
-use Rattle.std.proofs.Common.{rules, arith, ap, sym, ◌∙◌, FitsSigned}
-use Rattle.std.proofs.lemmas.Int.{ints, quot_is, quot_fits}
+use Rattle.std.proofs.Common.{rules, sym, ◌∙◌, FitsSigned}
+use Rattle.std.proofs.lemmas.Int.{quot_is, quot_fits}
 use Rattle.std.specs.Int.{w128}
 use Rattle.flow_guess.proofs.Falls.{reach_is}
 use Rattle.flow_guess.proofs.bounds.reach_of.Goals as goal

@@ -1,9 +1,9 @@
 use Rattle.std.proofs.Common.{rules, arith, ◌≡◌, ◌∙◌, ℕ, ◌<◌, ◌+◌, ap, sym, subst, pos, length, get_or, inl, inr, to_z, of_z, [], ◌∷◌, ◌++◌, length-append}
 use Rattle.std.specs.Int.{w128}
-use Rattle.std.specs.Prelude.{ℤ, ◌*ℤ◌, ◌^◌, List, Option, None, Some, IfSome}
+use Rattle.std.specs.Prelude.{ℤ, ◌*ℤ◌, ◌^◌, List, Option, None, IfSome}
 use Rattle.std.proofs.lemmas.List.{get_or_append_left, get_or_default}
 use Rattle.std.proofs.Math.Seq.{get_or-append_seam}
-use Rattle.fraction_theory.specs.Fraction.{Fraction, whole}
+use Rattle.fraction_theory.specs.Fraction.{whole}
 use Rattle.fraction_theory.specs.Sums.{sum_by}
 use Rattle.fraction_theory.proofs.ListSums.{same_or_not}
 use Rattle.network_theory.specs.Carrying.{IsCarried}
@@ -33,10 +33,10 @@ loop-link-preserved c =
     let pushed : c.push.new.self ≡ all ++ told ∷ [] = c.in_ok-push.ensures in
     let last : (places : ℕ) → transfer.parts ≡ part *ℤ pos (10 ^ places) → IsToldOf n c.args.reference transfer.source transfer.sink places link told =
     λ places parts k carried is_k is.
-        subst (λ (o : Option ℤ). IfSome o (IsNearest places carried)) is_k
-        (c.told.ensures places carried
-        (λ e is_e. within_errors guess links c.requires.guess c.args.reference transfer part places link carried e (at, within, get_or_default links at link nothing within) parts is
-            (subst (λ (o : Option ℤ). IfSome o (λ z. whole z ≡ sum_by (error_at n guess transfer) (others n c.args.reference))) is_e c.all_errors-error.ensures))) in (
+    subst (λ (o : Option ℤ). IfSome o (IsNearest places carried)) is_k
+    (c.told.ensures places carried
+    (λ e is_e. within_errors guess links c.requires.guess c.args.reference transfer part places link carried e (at, within, get_or_default links at link nothing within) parts is
+    (subst (λ (o : Option ℤ). IfSome o (λ z. whole z ≡ sum_by (error_at n guess transfer) (others n c.args.reference))) is_e c.all_errors-error.ensures))) in (
       ap length pushed ∙ length-append all (told ∷ []) ∙ ap (λ k. k + 1) count,
       λ places parts i below d. elim (same_or_not i at) [
         | inl e ↦

@@ -1,4 +1,4 @@
-use Rattle.std.proofs.Common.{rules, arith, ◌≡◌, ◌∙◌, ℕ, ap, sym, subst, subst₂, pos, length, to_z, of_z}
+use Rattle.std.proofs.Common.{rules, arith, ◌≡◌, ◌∙◌, ℕ, ap, subst, subst₂, pos, to_z, of_z}
 use Rattle.std.specs.Int.{w128}
 use Rattle.std.specs.Prelude.{ℤ, ◌*ℤ◌, ◌^◌, List}
 use Rattle.std.proofs.lemmas.Int.{ints}
