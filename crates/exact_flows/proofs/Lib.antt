@@ -1,0 +1,5 @@
+pub mod Exchanges
+pub mod Losses
+pub mod Meanings
+pub mod Places
+pub mod PutIn
