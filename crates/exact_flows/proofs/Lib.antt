@@ -3,3 +3,5 @@ pub mod Losses
 pub mod Meanings
 pub mod Places
 pub mod PutIn
+pub mod Reading
+pub mod Terms

@@ -4,7 +4,7 @@ use Rattle.std.specs.List.{AllPairs, Contains}
 use Rattle.std.proofs.Common.{arith, ap, ap₂, sym, ◌∙◌, subst, get_or, inl, inr}
 use Rattle.std.proofs.lemmas.List.{length-append, get_or_append_left, get_or-append-add}
 use Rattle.std.proofs.lemmas.Grind.{get_or_default_zero}
-use Rattle.exact_flows.specs.Building.{AreAngles, IsBuilt, IsExchanged, bus_of, column_place, row_at}
+use Rattle.exact_flows.specs.Building.{AreAngles, IsBuilt, IsExchanged, IsSmall, bus_of, column_place, row_at}
 use Rattle.exact_flows.specs.FlowSystems.{IsFlowSystem, IsRowOf, IsFlowPassed, coefficient, name, of_system}
 use Rattle.exact_flows.specs.declared.rows.Row.{Row}
 use Rattle.exact_flows.specs.declared.rows.Row.TheVariants.{Flow, Injection}
@@ -94,6 +94,11 @@ module _ (n : Network) (reference : ℕ) (r : reference < n.buses) where
     | inl l ↦ subst (IsRowOf n reference) (sym (row_before (length n.branches) reference k l)) l
     | inr l ↦ subst (IsRowOf n reference) (sym (row_after (length n.branches) reference k l)) (bus_is n.buses reference (k - length n.branches) (Prim.omega (arith, h, l)))
   ]
+
+  -- small enough for a name
+  pub small_row : (row : Row) → IsRowOf n reference row → n.buses ≤ 1000 → length n.branches ≤ 2000 → IsSmall row
+  small_row (Flow l) h p q = Prim.omega (arith, h, q)
+  small_row (Injection i) h p q = Prim.omega (arith, h.0, p)
 
   names_apart : (k p : ℕ) → k < p → p + 1 < length n.branches + n.buses → name n.buses (at_place k) ≢ name n.buses (at_place p)
   names_apart k p h q e = elim (lt_or_le p (length n.branches)) [

@@ -24,6 +24,11 @@ abbrev pub IsSmall : Row → Type 0
 IsSmall (Flow l) = l ≤ 2000
 IsSmall (Injection i) = i ≤ 1000
 
+-- where it is a branch's, that is one of so many
+abbrev pub IsAmongBranches : ℕ → Row → Type 0
+IsAmongBranches count (Flow l) = l < count
+IsAmongBranches count (Injection i) = Unit {0}
+
 -- the names of all columns
 pub record AreAngles (buses reference : ℕ) (names : List ℕ) : Type 0 where
   pub count : length names + 1 ≡ buses

@@ -1,8 +1,8 @@
 //! The coefficients of the rows: what a branch carries, and what is put in at a bus, for each unit of an angle.
-ghost use Rattle.std.specs.Prelude.{◌≡◌, ◌+◌, ◌<◌, ◌≤◌, ℕ, IfErr, IfOk, IsTrue, map, pos};
+ghost use Rattle.std.specs.Prelude.{◌≡◌, ◌+◌, ◌<◌, ◌≤◌, ℕ, IfErr, IfOk, IsTrue, length, map, pos};
 ghost use Rattle.exact_fraction.specs.Passes.{IsTooLargeAt};
 ghost use Rattle.exact_fraction.specs.declared.Op.TheVariants as Op;
-ghost use Rattle.exact_flows.specs.Building.{bus_of};
+ghost use Rattle.exact_flows.specs.Building.{IsAmongBranches, bus_of};
 ghost use Rattle.exact_flows.specs.FlowSystems.{IsFlowStop, IsRowOf, IsSumPair, bus_term, coefficient};
 ghost use Rattle.exact_flows.specs.Links.{branch_of, network_of};
 ghost use Rattle.exact_flows.specs.declared.rows.Row.TheVariants as kind;
@@ -21,14 +21,14 @@ use std::alloc::Global;
 fn at_end<N: Exact>(from: usize, to: usize, bus: usize, amount: N) -> N
     ensures { N.value result ≡ put_through from to bus *ℚ N.value amount }
 {
-    let starts = from == bus;
-    let ends = to == bus;
-    if starts == ends {
+    if from == to {
         N::of_parts(0, 1)
-    } else if starts {
+    } else if from == bus {
         amount
-    } else {
+    } else if to == bus {
         amount.neg()
+    } else {
+        N::of_parts(0, 1)
     }
 }
 
@@ -80,7 +80,7 @@ fn row_coefficient<N: Exact>(
     row: Row,
     other: usize,
 ) -> Result<N, Passed<N>>
-    requires { (n : ℕ) × (reference : ℕ) × IsRowOf (network_of N.value n links.now) reference row }
+    requires { IsAmongBranches (length links.now) row }
     ensures number { IfOk result (λ number. N.value number ≡ coefficient (map (branch_of N.value) links.now) row other) }
     ensures cause { IfErr result (λ e. (bus : ℕ) × (row ≡ kind.Injection bus) × IsSumPair (map (branch_of N.value) links.now) N.bound bus other e.op (N.value e.left) (N.value e.right)) }
 {
