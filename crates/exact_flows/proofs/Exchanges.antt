@@ -167,9 +167,9 @@ module _ (n : Network) (reference : ℕ) (is : IsNetwork n) (connected : IsConne
         flow = λ l q. get_or-set_other d.basics k l b 0 (λ t. Prim.omega (arith, t, q)) ∙ e.flow l q;
         exchanged = λ c q l. elim (same_or_not c done) [
           | inl s ↦ (
-              ap (slice_index (slice_set d.others done a)) s ∙ get_or-set_same d.others done a 0 h ∙ now.1 ∙ ap (λ (t : ℕ). n.buses + bus_of reference t) (sym s),
-              ap (λ (t : ℕ). slice_index (slice_set d.basics k b) (length n.branches + t)) s ∙ get_or-set_same d.basics k b 0 inside ∙ now.0 ∙ ap (bus_of reference) (sym s),
-            )
+            ap (slice_index (slice_set d.others done a)) s ∙ get_or-set_same d.others done a 0 h ∙ now.1 ∙ ap (λ (t : ℕ). n.buses + bus_of reference t) (sym s),
+            ap (λ (t : ℕ). slice_index (slice_set d.basics k b) (length n.branches + t)) s ∙ get_or-set_same d.basics k b 0 inside ∙ now.0 ∙ ap (bus_of reference) (sym s),
+          )
           | inr s ↦
               let was = e.exchanged c (Prim.omega (arith, q, wide)) (below c done l s) in (
                 get_or-set_other d.others done c a 0 s ∙ was.0,

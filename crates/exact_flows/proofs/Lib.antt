@@ -5,3 +5,4 @@ pub mod Places
 pub mod PutIn
 pub mod Reading
 pub mod Terms
+pub mod Worked

@@ -40,12 +40,7 @@ fn is_away(from: usize, to: usize, bus: usize) -> bool
 }
 
 /// A sum with what a branch takes out of a bus for each unit of another angle. A branch that is not at both leaves it as it is.
-fn add_branch<N: Exact>(
-    sum: N,
-    link: Link<N>,
-    bus: usize,
-    other: usize,
-) -> Result<N, Passed<N>>
+fn add_branch<N: Exact>(sum: N, link: Link<N>, bus: usize, other: usize) -> Result<N, Passed<N>>
     ensures sum { IfOk result (λ more. N.value more ≡ N.value sum +ℚ bus_term bus other (branch_of N.value link)) }
     ensures cause { IfErr result (λ e. (left : N) × (right : N) × (N.value left ≡ N.value sum) × (N.value right ≡ bus_term bus other (branch_of N.value link))
         × IsTooLargeAt N.value N.bound Op.Plus left right e) }
@@ -59,11 +54,7 @@ fn add_branch<N: Exact>(
 }
 
 /// What is put in at a bus for each unit of an angle: the sum over the branches of what they take out of the bus.
-fn bus_coefficient<N: Exact>(
-    links: &[Link<N>],
-    bus: usize,
-    other: usize,
-) -> Result<N, Passed<N>>
+fn bus_coefficient<N: Exact>(links: &[Link<N>], bus: usize, other: usize) -> Result<N, Passed<N>>
     ensures sum { IfOk result (λ sum. N.value sum ≡ coefficient (map (branch_of N.value) links.now) (kind.Injection bus) other) }
     ensures cause { IfErr result (λ e. IsSumPair (map (branch_of N.value) links.now) N.bound bus other e.op (N.value e.left) (N.value e.right)) }
 {
@@ -75,11 +66,7 @@ fn bus_coefficient<N: Exact>(
 }
 
 /// What a row gives for each unit of an angle.
-fn row_coefficient<N: Exact>(
-    links: &[Link<N>],
-    row: Row,
-    other: usize,
-) -> Result<N, Passed<N>>
+fn row_coefficient<N: Exact>(links: &[Link<N>], row: Row, other: usize) -> Result<N, Passed<N>>
     requires { IsAmongBranches (length links.now) row }
     ensures number { IfOk result (λ number. N.value number ≡ coefficient (map (branch_of N.value) links.now) row other) }
     ensures cause { IfErr result (λ e. (bus : ℕ) × (row ≡ kind.Injection bus) × IsSumPair (map (branch_of N.value) links.now) N.bound bus other e.op (N.value e.left) (N.value e.right)) }

@@ -30,11 +30,7 @@ pub(crate) fn column_of(reference: usize, bus: usize) -> usize
     requires { bus ≢ reference }
     ensures { result ≡ column_place reference bus }
 {
-    if bus < reference {
-        bus
-    } else {
-        bus - 1
-    }
+    if bus < reference { bus } else { bus - 1 }
 }
 
 /// The row at a place: first the branches, and then the buses other than the reference.

@@ -1,4 +1,4 @@
-use Rattle.std.proofs.Common.{◌≡◌, ◌∙◌, ◌+◌, ◌<◌, ℕ, List, arith, ap, length, subst, sym}
+use Rattle.std.proofs.Common.{◌∙◌, ℕ, List, arith, ap, length, subst, sym}
 use Rattle.std.proofs.lemmas.List.{length-map}
 use Rattle.linear_dict.specs.Adding.{AreSums}
 use Rattle.network_theory.specs.Networks.{Network}

@@ -1,8 +1,7 @@
-use Rattle.std.proofs.Common.{◌≡◌, ◌∙◌, ap, inl, inr, refl}
+use Rattle.std.proofs.Common.{◌∙◌, ap, inl, inr, refl}
 use Rattle.std.proofs.lemmas.Result.{MatchResult-weaker}
 use Rattle.fraction_theory.specs.Fraction.{◌+ℚ◌}
 use Rattle.network_theory.specs.Networks.{Branch}
-use Rattle.exact_flows.specs.FlowSystems.{bus_term}
 use Rattle.exact_flows.specs.Links.{branch_of}
 use Rattle.exact_flows.proofs.Terms.{nothing_taken, term_taken}
 use Rattle.exact_flows.proofs.coefficients.add_branch.Goals as goal

@@ -1,10 +1,9 @@
-use Rattle.std.proofs.Common.{◌≡◌, ◌<◌, ◌+◌, ◌∙◌, ◌-◌, ℕ, arith, ap, sym, subst, length, pos}
+use Rattle.std.proofs.Common.{◌≡◌, ◌<◌, ◌+◌, ◌∙◌, ◌-◌, ℕ, arith, ap, length, pos}
 use Rattle.std.specs.Prelude.{slice_index}
 use Rattle.std.proofs.lemmas.List.{length-map}
 use Rattle.fraction_theory.proofs.FieldLaws.{over-one}
 use Rattle.linear_dict.specs.Dictionaries.{choice_of}
 use Rattle.network_theory.specs.Networks.{Network}
-use Rattle.exact_flows.specs.Building.{IsExchanged, column_place}
 use Rattle.exact_flows.specs.Links.{branch_of, network_of}
 use Rattle.exact_flows.proofs.Exchanges.{entry_carried}
 use Rattle.exact_flows.proofs.Places.{place_is}

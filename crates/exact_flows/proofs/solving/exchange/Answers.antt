@@ -1,8 +1,8 @@
-use Rattle.std.proofs.Common.{◌≡◌, ◌≢◌, ◌+◌, ℕ, arith, ap, sym, subst, pos, length}
+use Rattle.std.proofs.Common.{◌≡◌, ◌≢◌, ◌+◌, ℕ, arith, sym, subst, pos, length}
 use Rattle.std.proofs.lemmas.List.{length-map}
 use Rattle.std.proofs.lemmas.Result.{MatchResult-weaker, IfErr-weaker}
 use Rattle.fraction_theory.specs.Fraction.{whole}
-use Rattle.linear_dict.specs.Dictionaries.{Dictionary, IsDictionary, pivoted, system_in}
+use Rattle.linear_dict.specs.Dictionaries.{IsDictionary, pivoted, system_in}
 use Rattle.linear_dict.specs.Tables.{cell}
 use Rattle.network_theory.specs.Networks.{Network}
 use Rattle.exact_flows.proofs.Exchanges.{next_entry, exchanged_more}
