@@ -1,26 +1,25 @@
 -- The entry of an angle and of what is put in at its bus is never 0 while the angle waits; after the exchange the next angle waits.
-use Rattle.std.specs.Prelude.{◌≡◌, ◌≢◌, ◌⊎◌, ℕ, ◌+◌, ◌*◌, ◌-◌, ◌<◌, ◌≤◌, pos, List, [], length, slice_index, slice_set, false, refl}
+use Rattle.std.specs.Prelude.{◌≡◌, ◌≢◌, ◌⊎◌, ℕ, ◌+◌, ◌<◌, pos, [], length, slice_index, slice_set, false, refl}
 use Rattle.std.specs.List.{Contains}
 use Rattle.std.proofs.Common.{arith, ap, ap₂, sym, ◌∙◌, subst, inl, inr}
 use Rattle.std.proofs.lemmas.List.{length-set, get_or-set_same, get_or-set_other}
 use Rattle.exact_flows.specs.Building.{IsExchanged, bus_of, column_place}
-use Rattle.exact_flows.specs.FlowSystems.{IsFlowSystem, IsRowOf, name}
-use Rattle.exact_flows.specs.declared.rows.Row.{Row}
+use Rattle.exact_flows.specs.FlowSystems.{name}
 use Rattle.exact_flows.specs.declared.rows.Row.TheVariants.{Flow, Injection}
 use Rattle.fraction_theory.specs.Fraction.{Fraction, whole, ◌-ℚ◌}
-use Rattle.fraction_theory.proofs.Ring.{by_ring, at, pnil, pone, pneg, ◌⊕◌}
+use Rattle.fraction_theory.proofs.Ring.{by_ring, pnil, pone, pneg, ◌⊕◌}
 use Rattle.fraction_theory.proofs.FieldLaws.{ring_ℚ}
 use Rattle.fraction_theory.proofs.ListSums.{Contains-filter, Distinct-increasing, same_or_not}
-use Rattle.linear_system.specs.Choices.{Choice, IsChoice, others, column_entry}
-use Rattle.linear_system.specs.Systems.{System, MeetsRows}
+use Rattle.linear_system.specs.Choices.{column_entry}
+use Rattle.linear_system.specs.Systems.{MeetsRows}
 use Rattle.linear_system.proofs.ChoiceLaws.{unit_point, unit_meets, column_entry-basic, column_entry-itself, column_entry-other, basics_are, others_are}
 use Rattle.linear_dict.specs.Dictionaries.{Dictionary, IsDictionary, choice_of, entry_of, note_of, pivoted, system_in}
 use Rattle.linear_dict.specs.Places.{is_among}
 use Rattle.linear_dict.specs.Tables.{cell}
 use Rattle.linear_dict.proofs.NameLemmas.{among-tells, entry_at, lt_or_le}
 use Rattle.linear_dict.proofs.SplitLemmas.{Contains-at, basic_in, other_in}
-use Rattle.network_theory.specs.Carrying.{IsCarried, one_at, put_through}
-use Rattle.network_theory.specs.Networks.{Branch, Network, IsConnected, IsNetwork, IsSolution, StandsAt, flow, injection}
+use Rattle.network_theory.specs.Carrying.{IsCarried}
+use Rattle.network_theory.specs.Networks.{Branch, Network, IsConnected, IsNetwork, StandsAt, injection}
 use Rattle.network_theory.proofs.Solutions.{apart}
 use Rattle.exact_flows.proofs.Losses.{at_rest}
 use Rattle.exact_flows.proofs.Meanings.{angle, angle_reference, angle_other, bus_row, flow_row, one_here, one_else}

@@ -3,11 +3,11 @@ use Rattle.std.specs.Prelude.{◌≡◌, ◌⊎◌, ℕ, ◌<◌, pos, [], ◌�
 use Rattle.std.specs.List.{Contains}
 use Rattle.std.proofs.Common.{ap, sym, ◌∙◌, subst, inl, inr}
 use Rattle.fraction_theory.specs.Fraction.{Fraction, whole, ◌-ℚ◌, ◌*ℚ◌}
-use Rattle.fraction_theory.specs.Order.{◌≤ℚ◌, ◌<ℚ◌}
+use Rattle.fraction_theory.specs.Order.{◌≤ℚ◌}
 use Rattle.fraction_theory.specs.Sums.{sum_by}
 use Rattle.fraction_theory.proofs.Ring.{by_ring, at, pnil, ◌⊗◌, times_nil}
 use Rattle.fraction_theory.proofs.FieldLaws.{ring_ℚ}
-use Rattle.fraction_theory.proofs.OrderLaws.{≤ℚ_antisym, <ℚ_irrefl, *ℚ-nil}
+use Rattle.fraction_theory.proofs.OrderLaws.{≤ℚ_antisym, *ℚ-nil}
 use Rattle.fraction_theory.proofs.SumLaws.{sum_by-nil}
 use Rattle.fraction_theory.proofs.ListSums.{sum_by-members}
 use Rattle.network_theory.specs.Networks.{Branch, Network, places, IsNetwork, IsConnected, flow, injection}

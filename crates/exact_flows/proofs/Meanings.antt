@@ -1,14 +1,14 @@
 -- What the rows of a network's system say of a point that meets them: its angles have these flows and injections.
-use Rattle.std.specs.Prelude.{◌≡◌, ◌≢◌, ◌⊎◌, ℕ, ◌+◌, ◌*◌, ◌<◌, ◌==◌, pos, Bool, if◌then◌else◌, List, [], ◌∷◌, length, slice_index_or, refl}
+use Rattle.std.specs.Prelude.{◌≡◌, ◌≢◌, ℕ, ◌<◌, pos, Bool, if◌then◌else◌, List, [], ◌∷◌, length, slice_index_or, refl}
 use Rattle.std.specs.List.{Contains}
-use Rattle.std.proofs.Common.{zero, suc, arith, ap, ap₂, sym, ◌∙◌, subst, inl, inr}
+use Rattle.std.proofs.Common.{zero, suc, arith, ap, ap₂, sym, ◌∙◌, inl, inr}
 use Rattle.std.proofs.lemmas.Bool.Decides.{eqb_tells}
 use Rattle.exact_flows.specs.FlowSystems.{IsFlowSystem, IsRowOf, IsSystemRow, bus_term, coefficient, flow_coefficient, name, no_branch}
 use Rattle.exact_flows.specs.declared.rows.Row.{Row}
 use Rattle.exact_flows.specs.declared.rows.Row.TheVariants.{Flow, Injection}
 use Rattle.fraction_theory.specs.Fraction.{Fraction, whole, ◌-ℚ◌, ◌*ℚ◌}
 use Rattle.fraction_theory.specs.Sums.{sum_by}
-use Rattle.fraction_theory.proofs.Ring.{by_ring, at, pnil, pone, pneg, ◌⊕◌, ◌⊗◌}
+use Rattle.fraction_theory.proofs.Ring.{by_ring, at, pone, pneg, ◌⊕◌, ◌⊗◌}
 use Rattle.fraction_theory.proofs.FieldLaws.{ring_ℚ}
 use Rattle.fraction_theory.proofs.SumLaws.{sum_by-same, sum_by-nil, sum_by-times, sum_by-exchange}
 use Rattle.fraction_theory.proofs.ListSums.{Distinct-increasing, except, put_at-here, put_at-elsewhere, same_or_not, sum_by-members, sum_by-one}

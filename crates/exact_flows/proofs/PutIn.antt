@@ -14,9 +14,9 @@ use Rattle.fraction_theory.proofs.ListSums.{Contains-filter, Contains-from_filte
 use Rattle.linear_dict.specs.Adding.{AreSums}
 use Rattle.linear_dict.specs.Causes.{IsPairWith}
 use Rattle.linear_dict.specs.Dictionaries.{Dictionary, IsDictionary, IsStart, AddsRow, system_in}
-use Rattle.linear_dict.specs.Places.{place_in, is_among}
+use Rattle.linear_dict.specs.Places.{is_among}
 use Rattle.linear_dict.specs.Tables.{cell}
-use Rattle.linear_dict.proofs.NameLemmas.{among-tells, among-from, lt_or_le, place_in-at, place_in-within}
+use Rattle.linear_dict.proofs.NameLemmas.{among-tells, among-from, lt_or_le, place_in-at}
 use Rattle.linear_dict.proofs.SplitLemmas.{Contains-at, system_is}
 use Rattle.linear_dict.proofs.TableLemmas.{within}
 use Rattle.network_theory.specs.Networks.{Network}

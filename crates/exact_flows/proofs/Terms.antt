@@ -1,5 +1,5 @@
 -- What a branch has at a bus, and the sums of what branches take out of one.
-use Rattle.std.specs.Prelude.{◌≡◌, ◌≢◌, ◌⊎◌, ℕ, ◌+◌, ◌<◌, ◌≤◌, ◌==◌, pos, Bool, true, false, not, if◌then◌else◌, List, [], ◌∷◌, length, map, slice_index_or, take, refl}
+use Rattle.std.specs.Prelude.{◌≡◌, ◌≢◌, ◌⊎◌, ℕ, ◌+◌, ◌<◌, ◌≤◌, ◌==◌, pos, true, false, not, List, [], ◌∷◌, length, map, take, refl}
 use Rattle.std.proofs.Common.{arith, ap, ap₂, sym, ◌∙◌, subst, get_or, inl, inr}
 use Rattle.std.proofs.lemmas.Bool.Decides.{eqb_tells}
 use Rattle.std.proofs.lemmas.List.{get_or-map, length-map, take_all, take_more}
@@ -20,7 +20,7 @@ use Rattle.fraction_theory.proofs.SumLaws.{sum_by-append}
 use Rattle.network_theory.specs.Carrying.{one_at, put_through}
 use Rattle.network_theory.specs.Networks.{Branch}
 use Rattle.exact_flows.proofs.Losses.{nil_times}
-use Rattle.exact_flows.proofs.Meanings.{one_here, one_else, read_any}
+use Rattle.exact_flows.proofs.Meanings.{one_here, one_else}
 
 -- ---- at a bus
 pub both_ends : (from to bus : ℕ) (x : Fraction) → from ≡ to → whole (pos 0) ≡ put_through from to bus *ℚ x

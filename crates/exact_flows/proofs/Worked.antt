@@ -1,5 +1,5 @@
 -- A network of three buses in a triangle, one side of which is double: it is one, and connected.
-use Rattle.std.specs.Prelude.{◌≡◌, ℕ, ◌<◌, pos, List, [], ◌∷◌, map, refl}
+use Rattle.std.specs.Prelude.{ℕ, ◌<◌, pos, List, [], ◌∷◌, refl}
 use Rattle.std.specs.List.{Contains}
 use Rattle.std.proofs.Common.{zero, suc, arith, subst, inl, inr}
 use Rattle.exact_flows.specs.Links.{branch_of, network_of}
