@@ -1,0 +1,8 @@
+pub mod Exchanges
+pub mod Losses
+pub mod Meanings
+pub mod Places
+pub mod PutIn
+pub mod Reading
+pub mod Terms
+pub mod Worked

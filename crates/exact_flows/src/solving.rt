@@ -1,0 +1,56 @@
+//! The angles are exchanged for what is put in at their buses, one after the other.
+ghost use Rattle.std.specs.Prelude.{◌≡◌, ◌+◌, ◌<◌, ◌≤◌, ℕ, IfErr, IfOk, length};
+ghost use Rattle.exact_flows.specs.Building.{IsExchanged};
+ghost use Rattle.exact_flows.specs.FlowSystems.{IsFlowPassed, IsFlowStop};
+ghost use Rattle.exact_flows.specs.Links.{network_of};
+ghost use Rattle.network_theory.specs.Networks.{IsConnected, IsNetwork};
+
+use crate::building::built;
+use crate::link::Link;
+use crate::stop::FlowStop;
+use exact_fraction::{Exact, Passed};
+use linear_dict::Dict;
+use std::alloc::Global;
+
+/// Exchanges the angle at a column place for what is put in at its bus. Its entry there is never 0: else angles that are not all equal would
+/// lose nothing on any branch. After an error the dictionary is of no use.
+fn exchange<N: Exact>(
+    buses: usize,
+    reference: usize,
+    links: &[Link<N>],
+    dict: &mut Dict<N>,
+    column: usize,
+) -> Result<(), Passed<N>>
+    requires reference { reference < buses }
+    requires few { (buses ≤ 1000) × (length links.now ≤ 2000) }
+    requires network { IsNetwork (network_of N.value buses links.now) }
+    requires connected { IsConnected (network_of N.value buses links.now) reference }
+    requires column { column + 1 < buses }
+    requires exchanged { IsExchanged (network_of N.value buses links.now) reference column dict.old }
+    ensures exchanged { IfOk result (λ _. IsExchanged (network_of N.value buses links.now) reference (column + 1) dict.new) }
+    ensures pair { IfErr result (IsFlowPassed N.value N.bound (network_of N.value buses links.now) reference) }
+{
+    dict.pivot(links.len() + column, column)
+}
+
+/// The dictionary whose columns are what is put in at the buses other than the reference.
+pub(crate) fn solved<N: Exact>(
+    alloc: Global,
+    buses: usize,
+    reference: usize,
+    links: &[Link<N>],
+) -> Result<Dict<N>, FlowStop<N>>
+    requires reference { reference < buses }
+    requires few { (buses ≤ 1000) × (length links.now ≤ 2000) }
+    requires some { 0 < length links.now }
+    requires network { IsNetwork (network_of N.value buses links.now) }
+    requires connected { IsConnected (network_of N.value buses links.now) reference }
+    ensures solved { IfOk result (λ dict. (count : ℕ) → count + 1 ≡ buses → IsExchanged (network_of N.value buses links.now) reference count dict) }
+    ensures pair { IfErr result (IsFlowStop N.value N.bound (network_of N.value buses links.now) reference) }
+{
+    let mut dict = built(alloc, buses, reference, links)?;
+    for column in 0..buses - 1 {
+        exchange(buses, reference, links, &mut dict, column)?;
+    }
+    Ok(dict)
+}

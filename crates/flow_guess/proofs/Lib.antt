@@ -1,0 +1,4 @@
+pub mod Falls
+pub mod NetSums
+pub mod Rounds
+pub mod Solutions

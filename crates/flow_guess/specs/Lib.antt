@@ -1,0 +1,4 @@
+pub mod Guesses
+pub mod Links
+pub mod Rounding
+pub mod Told
