@@ -1,4 +1,5 @@
 -- The network that branches in code stand for, and the flows that are told of it.
+-- Source: the DC power flow and its generation shift factors (Wood and Wollenberg); the order of the flows is own.
 use Rattle.std.specs.Prelude.{◌≡◌, ℕ, ◌*◌, ◌+◌, ◌<◌, List, length, map, slice_get, Some}
 use Rattle.exact_flows.specs.declared.link.Link.{Link}
 use Rattle.fraction_theory.specs.Fraction.{Fraction}

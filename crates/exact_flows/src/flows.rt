@@ -40,8 +40,9 @@ fn carried<N: Exact>(
 }
 
 /// By branch and by bus, branch by branch: what a branch carries of 1 that is put in at the bus and taken out at the reference, exact.
-/// Where a number on the way passes the bound of its type, the two numbers are told of which it is made: of a sum of susceptances, or of a
-/// system of the rows of the network that are put in so far.
+/// Where a number on the way passes the bound of its type, the two numbers are told of which it is made. They are the network's own, and no
+/// price or bound comes in: the first terms of a sum of susceptances that makes a coefficient and its next term, or two numbers that an
+/// exchange of two variables in a system of the rows of the network, of some or of all, may have to add or to multiply.
 pub fn exact_flows<N: Exact>(
     alloc: Global,
     buses: usize,
