@@ -3,6 +3,7 @@ use Rattle.std.specs.Prelude.{◌≡◌, ◌≢◌, ℕ, ◌+◌, ◌*◌, ◌-�
 use Rattle.std.specs.List.{AllPairs, Contains}
 use Rattle.std.proofs.Common.{arith, ap, ap₂, sym, ◌∙◌, subst, get_or, inl, inr}
 use Rattle.std.proofs.lemmas.List.{length-append, get_or_append_left, get_or-append-add}
+use Rattle.std.proofs.lemmas.List.Elements.{Contains-append_cases}
 use Rattle.std.proofs.lemmas.Grind.{get_or_default_zero}
 use Rattle.exact_flows.specs.Building.{AreAngles, IsBuilt, IsExchanged, IsSmall, bus_of, column_place, row_at}
 use Rattle.exact_flows.specs.FlowSystems.{IsFlowSystem, IsRowOf, IsFlowPassed, coefficient, name, of_system}
@@ -10,10 +11,11 @@ use Rattle.exact_flows.specs.declared.rows.Row.{Row}
 use Rattle.exact_flows.specs.declared.rows.Row.TheVariants.{Flow, Injection}
 use Rattle.exact_fraction.specs.declared.Passed.{Passed}
 use Rattle.fraction_theory.specs.Fraction.{Fraction, whole}
-use Rattle.fraction_theory.proofs.ListSums.{Contains-filter, Contains-from_filter}
+use Rattle.fraction_theory.proofs.ListSums.{Contains-cases, Contains-filter, Contains-from_filter}
 use Rattle.linear_dict.specs.Adding.{AreSums}
 use Rattle.linear_dict.specs.Causes.{IsPairWith}
-use Rattle.linear_dict.specs.Dictionaries.{Dictionary, IsDictionary, IsStart, AddsRow, system_in}
+use Rattle.linear_dict.specs.Dictionaries.{Dictionary, IsDictionary, IsStart, AddsRow, note_of, system_in}
+use Rattle.linear_dict.specs.Notes.{Noted, blank}
 use Rattle.linear_dict.specs.Places.{is_among}
 use Rattle.linear_dict.specs.Tables.{cell}
 use Rattle.linear_dict.proofs.NameLemmas.{among-tells, among-from, lt_or_le, place_in-at}
@@ -77,6 +79,18 @@ module _ {N : Type 0} (value : N → Fraction) (old new : Dictionary) (row : ℕ
       ∙ ap₂ (λ (k : ℕ) (xs : List Fraction). get_or xs (length old.rows * k + l) nil) wide adds.coefficients
       ∙ ap (λ (i : ℕ). get_or (old.coefficients ++ map value entries) i nil) place
       ∙ get_or-append-add old.coefficients (map value entries) l nil
+
+  -- nothing is noted of the variables before it, nor of this one
+  notes_blank : ((w : ℕ) → Contains old.names w → note_of old w ≡ blank) → (w : ℕ) → Contains new.names w → note_of new w ≡ blank
+  notes_blank were w c = elim (adds.sound.put_in.either w c) [
+    | inl k ↦ elim (Contains-append_cases old.rows (row ∷ []) w (subst (λ (rs : List ℕ). Contains rs w) adds.rows k)) [
+      | inl m ↦ let there : Contains old.names w = sound.put_in.first_named w m in adds.notes w there ∙ were w there
+      | inr m ↦ elim (Contains-cases row [] w m) [ inl e ↦ ap (note_of new) (sym e) ∙ adds.blank_note | inr none ↦ absurd (Prim.omega (arith, none.1)) ]
+    ]
+    | inr k ↦
+        let there : Contains old.names w = sound.put_in.second_named w (subst (λ (cs : List ℕ). Contains cs w) adds.columns k) in
+        adds.notes w there ∙ were w there
+  ]
 
 module _ (n : Network) (reference : ℕ) (r : reference < n.buses) where
   abbrev pub at_place : ℕ → Row
@@ -164,6 +178,7 @@ module _ (n : Network) (reference : ℕ) (r : reference < n.buses) where
         ∙ start_coefficient value names row entries d start c short
         ∙ sums.at c short
         ∙ ap₂ (λ (i j : ℕ). coefficient n.branches (at_place i) j) (sym first) (sym (ap (λ (cs : List ℕ). slice_index cs c) start.columns ∙ are.at c short));
+    blank_notes = start.blank_notes;
   }
 
   module _ (place : ℕ) (d : Dictionary) (b : IsBuilt n reference place d) where
@@ -207,6 +222,7 @@ module _ (n : Network) (reference : ℕ) (r : reference < n.buses) where
                     ∙ sums.at c short
                     ∙ ap₂ (λ (i j : ℕ). coefficient n.branches (at_place i) j) here (sym (bus ∙ b.columns.at c short))
               ];
+          blank_notes = notes_blank value d new row entries b.sound adds b.blank_notes;
         }
 
     -- ---- the system so far
@@ -234,6 +250,9 @@ module _ (n : Network) (reference : ℕ) (r : reference < n.buses) where
                 subst (λ (x : ℕ). (system_in d).coefficient x j ≡ coefficient n.branches (at_place k.0) j) is
                 (subst (λ (y : ℕ). (system_in d).coefficient (slice_index d.rows k.0) y ≡ coefficient n.branches (at_place k.0) y) bus (b.coefficients k.0 l.0 inside l.1));
           };
+      blank = λ w c.
+          let noted : note_of d w ≡ blank = b.blank_notes w c in
+          (ap (λ (t : Noted). t.price) noted, ap (λ (t : Noted). t.low) noted, ap (λ (t : Noted). t.high) noted);
     }
 
     -- ---- all rows

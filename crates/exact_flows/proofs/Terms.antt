@@ -4,8 +4,8 @@ use Rattle.std.proofs.Common.{arith, ap, ap₂, sym, ◌∙◌, subst, get_or, i
 use Rattle.std.proofs.lemmas.Bool.Decides.{eqb_tells}
 use Rattle.std.proofs.lemmas.List.{get_or-map, length-map, take_all, take_more}
 use Rattle.exact_flows.specs.FlowSystems.{IsSumPair, bus_term, coefficient, flow_coefficient, no_branch}
-use Rattle.exact_flows.specs.Links.{branch_of}
-use Rattle.exact_flows.specs.declared.link.Link.{Link}
+use Rattle.exact_flows.specs.Lines.{branch_of}
+use Rattle.exact_flows.specs.declared.line.Line.{Line}
 use Rattle.exact_flows.specs.declared.rows.Row.{Row}
 use Rattle.exact_flows.specs.declared.rows.Row.TheVariants.{Flow}
 use Rattle.exact_fraction.specs.declared.Op.{Op}
@@ -60,49 +60,49 @@ unfolding bus_term flow_coefficient
 term_taken i j b through term e f = f ∙ ap (λ t. put_through b.from b.to i *ℚ t) e
 
 -- what a row of a branch gives
-pub flow_number : {N : Type 0} (value : N → Fraction) (links : List (Link N)) (row : Row) (l j : ℕ) (link : Link N) (x : Fraction) → row ≡ Flow l → l < length links → link ≡ get_or links l link
-    → x ≡ put_through link.from link.to j *ℚ value link.susceptance → x ≡ coefficient (map (branch_of value) links) row j
+pub flow_number : {N : Type 0} (value : N → Fraction) (lines : List (Line N)) (row : Row) (l j : ℕ) (line : Line N) (x : Fraction) → row ≡ Flow l → l < length lines → line ≡ get_or lines l line
+    → x ≡ put_through line.from line.to j *ℚ value line.susceptance → x ≡ coefficient (map (branch_of value) lines) row j
 unfolding flow_coefficient
-flow_number value links row l j link x e h is f =
+flow_number value lines row l j line x e h is f =
     f
-    ∙ ap (λ (b : Branch). put_through b.from b.to j *ℚ b.susceptance) (sym (get_or-map (branch_of value) links l link no_branch h ∙ ap (branch_of value) (sym is)))
-    ∙ ap (λ (r : Row). coefficient (map (branch_of value) links) r j) (sym e)
+    ∙ ap (λ (b : Branch). put_through b.from b.to j *ℚ b.susceptance) (sym (get_or-map (branch_of value) lines l line no_branch h ∙ ap (branch_of value) (sym is)))
+    ∙ ap (λ (r : Row). coefficient (map (branch_of value) lines) r j) (sym e)
 
 -- ---- sums
-module _ {N : Type 0} (value : N → Fraction) (links : List (Link N)) (i j : ℕ) where
+module _ {N : Type 0} (value : N → Fraction) (lines : List (Line N)) (i j : ℕ) where
   abbrev pub branches : List Branch
-  branches = map (branch_of value) links
+  branches = map (branch_of value) lines
 
-  pub sum_none : sum_by (bus_term i j) (take 0 (map (branch_of value) links)) ≡ whole (pos 0)
+  pub sum_none : sum_by (bus_term i j) (take 0 (map (branch_of value) lines)) ≡ whole (pos 0)
   sum_none = refl
 
-  branch_at_place : (k : ℕ) (link : Link N) (b : Branch) → k < length links → link ≡ get_or links k link → get_or (map (branch_of value) links) k b ≡ branch_of value link
-  branch_at_place k link b h is = get_or-map (branch_of value) links k link b h ∙ ap (branch_of value) (sym is)
+  branch_at_place : (k : ℕ) (line : Line N) (b : Branch) → k < length lines → line ≡ get_or lines k line → get_or (map (branch_of value) lines) k b ≡ branch_of value line
+  branch_at_place k line b h is = get_or-map (branch_of value) lines k line b h ∙ ap (branch_of value) (sym is)
 
-  pub sum_more : (k : ℕ) (link : Link N) → k < length links → link ≡ get_or links k link
-      → sum_by (bus_term i j) (take (k + 1) (map (branch_of value) links)) ≡ sum_by (bus_term i j) (take k (map (branch_of value) links)) +ℚ bus_term i j (branch_of value link)
-  sum_more k link h is =
-      let b : Branch = branch_of value link in
-      let short : k < length (map (branch_of value) links) = Prim.omega (arith, h, length-map links (branch_of value)) in
-      ap (sum_by (bus_term i j)) (take_more (map (branch_of value) links) k b short)
-      ∙ sum_by-append (bus_term i j) (take k (map (branch_of value) links)) (get_or (map (branch_of value) links) k b ∷ [])
-      ∙ ap (λ t. sum_by (bus_term i j) (take k (map (branch_of value) links)) +ℚ t)
-      (ring_ℚ.plus_nil (bus_term i j (get_or (map (branch_of value) links) k b)) ∙ ap (bus_term i j) (branch_at_place k link b h is))
+  pub sum_more : (k : ℕ) (line : Line N) → k < length lines → line ≡ get_or lines k line
+      → sum_by (bus_term i j) (take (k + 1) (map (branch_of value) lines)) ≡ sum_by (bus_term i j) (take k (map (branch_of value) lines)) +ℚ bus_term i j (branch_of value line)
+  sum_more k line h is =
+      let b : Branch = branch_of value line in
+      let short : k < length (map (branch_of value) lines) = Prim.omega (arith, h, length-map lines (branch_of value)) in
+      ap (sum_by (bus_term i j)) (take_more (map (branch_of value) lines) k b short)
+      ∙ sum_by-append (bus_term i j) (take k (map (branch_of value) lines)) (get_or (map (branch_of value) lines) k b ∷ [])
+      ∙ ap (λ t. sum_by (bus_term i j) (take k (map (branch_of value) lines)) +ℚ t)
+      (ring_ℚ.plus_nil (bus_term i j (get_or (map (branch_of value) lines) k b)) ∙ ap (bus_term i j) (branch_at_place k line b h is))
 
-  pub sum_all : (k : ℕ) → length links ≤ k → sum_by (bus_term i j) (take k (map (branch_of value) links)) ≡ sum_by (bus_term i j) (map (branch_of value) links)
-  sum_all k h = ap (sum_by (bus_term i j)) (take_all k (map (branch_of value) links) (Prim.omega (arith, h, length-map links (branch_of value))))
+  pub sum_all : (k : ℕ) → length lines ≤ k → sum_by (bus_term i j) (take k (map (branch_of value) lines)) ≡ sum_by (bus_term i j) (map (branch_of value) lines)
+  sum_all k h = ap (sum_by (bus_term i j)) (take_all k (map (branch_of value) lines) (Prim.omega (arith, h, length-map lines (branch_of value))))
 
   -- the two sides of the sum that is refused
-  pub sum_pair : (bound k : ℕ) (sum : N) (link : Link N) (e : Passed N) → k < length links → link ≡ get_or links k link → value sum ≡ sum_by (bus_term i j) (take k (map (branch_of value) links))
-      → (left : N) × (right : N) × (value left ≡ value sum) × (value right ≡ bus_term i j (branch_of value link)) × IsTooLargeAt value bound Plus left right e
-      → IsSumPair (map (branch_of value) links) bound i j e.op (value e.left) (value e.right)
-  sum_pair bound k sum link e h is first (left, right, l, r, large) =
+  pub sum_pair : (bound k : ℕ) (sum : N) (line : Line N) (e : Passed N) → k < length lines → line ≡ get_or lines k line → value sum ≡ sum_by (bus_term i j) (take k (map (branch_of value) lines))
+      → (left : N) × (right : N) × (value left ≡ value sum) × (value right ≡ bus_term i j (branch_of value line)) × IsTooLargeAt value bound Plus left right e
+      → IsSumPair (map (branch_of value) lines) bound i j e.op (value e.left) (value e.right)
+  sum_pair bound k sum line e h is first (left, right, l, r, large) =
       let p = large.passed in record {
         k = k;
-        within = Prim.omega (arith, h, length-map links (branch_of value));
+        within = Prim.omega (arith, h, length-map lines (branch_of value));
         adds = p.same_op;
         first = ap value p.same_left ∙ l ∙ first;
-        next = ap value p.same_right ∙ r ∙ ap (bus_term i j) (sym (branch_at_place k link no_branch h is));
+        next = ap value p.same_right ∙ r ∙ ap (bus_term i j) (sym (branch_at_place k line no_branch h is));
         too_large = subst (λ (x : N). IsTooLarge bound (value x +ℚ value e.right)) (sym p.same_left) (subst (λ (y : N). IsTooLarge bound (value left +ℚ value y)) (sym p.same_right) large.too_large);
         passes = subst (λ (o : Op). Passes bound o (value e.left) (value e.right)) (sym p.same_op)
             (subst (λ (x : N). Passes bound Plus (value x) (value e.right)) (sym p.same_left) (subst (λ (y : N). Passes bound Plus (value left) (value y)) (sym p.same_right) p.passes));

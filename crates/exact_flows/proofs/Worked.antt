@@ -2,19 +2,19 @@
 use Rattle.std.specs.Prelude.{ℕ, ◌<◌, pos, List, [], ◌∷◌, refl}
 use Rattle.std.specs.List.{Contains}
 use Rattle.std.proofs.Common.{zero, suc, arith, subst, inl, inr}
-use Rattle.exact_flows.specs.Links.{branch_of, network_of}
-use Rattle.exact_flows.specs.declared.link.Link.{Link}
+use Rattle.exact_flows.specs.Lines.{branch_of, network_of}
+use Rattle.exact_flows.specs.declared.line.Line.{Line}
 use Rattle.fraction_theory.specs.Fraction.{Fraction, whole}
 use Rattle.fraction_theory.specs.Order.{◌<ℚ◌}
 use Rattle.fraction_theory.proofs.ListSums.{Contains-cases}
 use Rattle.network_theory.specs.Networks.{Branch, Network, IsBranchOf, IsNetwork, IsConnected, AreJoined}
 
 module _ {N : Type 0} (value : N → Fraction) (a b c d : N) where
-  abbrev link : ℕ → ℕ → N → Link N
-  link from to x = record { from = from; to = to; susceptance = x }
+  abbrev line : ℕ → ℕ → N → Line N
+  line from to x = record { from = from; to = to; susceptance = x }
 
-  abbrev pub links : List (Link N)
-  links =
+  abbrev pub lines : List (Line N)
+  lines =
       record { from = 0; to = 1; susceptance = a }
       ∷ record { from = 0; to = 2; susceptance = b }
       ∷ record { from = 1; to = 2; susceptance = c }
@@ -22,27 +22,27 @@ module _ {N : Type 0} (value : N → Fraction) (a b c d : N) where
       ∷ []
 
   abbrev net : Network
-  net = network_of value 3 links
+  net = network_of value 3 lines
 
-  pub triangle_joined : IsConnected (network_of value 3 links) 0
+  pub triangle_joined : IsConnected (network_of value 3 lines) 0
   triangle_joined = record { joined = each }
     where
       each : (i : ℕ) → i < 3 → AreJoined net i 0
       each zero h = record { chain = []; lead = refl }
       each (suc zero) h = record {
         chain = 0 ∷ [];
-        lead = (record { branch = branch_of value (link 0 1 a); there = (0, Prim.omega arith, refl); ends = inr (refl, refl) }, refl);
+        lead = (record { branch = branch_of value (line 0 1 a); there = (0, Prim.omega arith, refl); ends = inr (refl, refl) }, refl);
       }
       each (suc (suc zero)) h = record {
         chain = 0 ∷ [];
-        lead = (record { branch = branch_of value (link 0 2 b); there = (1, Prim.omega arith, refl); ends = inr (refl, refl) }, refl);
+        lead = (record { branch = branch_of value (line 0 2 b); there = (1, Prim.omega arith, refl); ends = inr (refl, refl) }, refl);
       }
       each (suc (suc (suc i))) h = absurd (Prim.omega (arith, h))
 
   module _ (ha : whole (pos 0) <ℚ value a) (hb : whole (pos 0) <ℚ value b) (hc : whole (pos 0) <ℚ value c) (hd : whole (pos 0) <ℚ value d) where
-    pub triangle_is : IsNetwork (network_of value 3 links)
+    pub triangle_is : IsNetwork (network_of value 3 lines)
     triangle_is = record {
-      branches = λ x k. one (branch_of value (link 0 1 a)) (branch_of value (link 0 2 b)) (branch_of value (link 1 2 c)) (branch_of value (link 2 1 d)) x k
+      branches = λ x k. one (branch_of value (line 0 1 a)) (branch_of value (line 0 2 b)) (branch_of value (line 1 2 c)) (branch_of value (line 2 1 d)) x k
           (record { from = Prim.omega arith; to = Prim.omega arith; susceptance = ha })
           (record { from = Prim.omega arith; to = Prim.omega arith; susceptance = hb })
           (record { from = Prim.omega arith; to = Prim.omega arith; susceptance = hc })

@@ -1,10 +1,13 @@
 -- The dictionary of a network while its rows are put in, and while angles are exchanged for injections.
+-- Source: dictionaries (Chvátal, Linear Programming), of the nodal susceptance matrix of the DC power flow (Wood and Wollenberg); the order of
+-- columns and rows is own.
 use Rattle.std.specs.Prelude.{◌≡◌, ℕ, ◌+◌, ◌-◌, ◌<◌, ◌≤◌, false, if◌then◌else◌, List, length, nat_lt, slice_index}
 use Rattle.std.specs.List.{Contains}
 use Rattle.exact_flows.specs.FlowSystems.{IsFlowSystem, IsRowOf, coefficient, name}
 use Rattle.exact_flows.specs.declared.rows.Row.{Row}
 use Rattle.exact_flows.specs.declared.rows.Row.TheVariants.{Flow, Injection}
-use Rattle.linear_dict.specs.Dictionaries.{Dictionary, IsDictionary, system_in}
+use Rattle.linear_dict.specs.Dictionaries.{Dictionary, IsDictionary, note_of, system_in}
+use Rattle.linear_dict.specs.Notes.{blank}
 use Rattle.network_theory.specs.Networks.{Network}
 
 -- the bus whose angle is the column at a place
@@ -34,7 +37,7 @@ pub record AreAngles (buses reference : ℕ) (names : List ℕ) : Type 0 where
   pub count : length names + 1 ≡ buses
   pub at : (c : ℕ) → c < length names → slice_index names c ≡ bus_of reference c
 
--- So many of the network's rows are put in and basic, and the angles are the others.
+-- So many of the network's rows are put in and basic, and the angles are the others. Nothing is noted of any.
 pub record IsBuilt (n : Network) (reference count : ℕ) (d : Dictionary) : Type 0 where
   pub live : d.spent ≡ false
   pub sound : IsDictionary d
@@ -45,6 +48,7 @@ pub record IsBuilt (n : Network) (reference count : ℕ) (d : Dictionary) : Type
   pub named : (k : ℕ) → k < count → slice_index d.rows k ≡ name n.buses (row_at (length n.branches) reference k)
   pub coefficients : (k c : ℕ) → k < count → c < length d.columns
       → (system_in d).coefficient (slice_index d.rows k) (slice_index d.columns c) ≡ coefficient n.branches (row_at (length n.branches) reference k) (slice_index d.columns c)
+  pub blank_notes : (w : ℕ) → Contains d.names w → note_of d w ≡ blank
 
 -- All rows are put in, and the first angles, so many, are exchanged for the injections of their buses.
 pub record IsExchanged (n : Network) (reference done : ℕ) (d : Dictionary) : Type 0 where

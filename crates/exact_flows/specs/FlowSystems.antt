@@ -51,11 +51,13 @@ pub record IsSystemRow (n : Network) (reference : ℕ) (s : System) (r : ℕ) : 
   pub named : r ≡ name n.buses row
   pub coefficients : (j : ℕ) → Contains s.columns j → s.coefficient r j ≡ coefficient n.branches row j
 
--- A system of some of the network's rows, or of all. Its prices and bounds are any.
+-- A system of some of the network's rows, or of all. Nothing is optimized: no variable has a price, and none may be other than 0. So each of
+-- its numbers is 0 or 1, a coefficient, an entry of a dictionary of these rows, or the first terms of the sum that is such an entry.
 pub record IsFlowSystem (n : Network) (reference : ℕ) (s : System) : Type 0 where
   pub is_system : IsSystem s
   pub column : (j : ℕ) → Contains s.columns j ↔ ((j < n.buses) × (j ≢ reference))
   pub row : (r : ℕ) → Contains s.rows r → IsSystemRow n reference s r
+  pub blank : (w : ℕ) → Contains s.variables w → (s.price w ≡ whole (pos 0)) × (s.low w ≡ whole (pos 0)) × (s.high w ≡ whole (pos 0))
 
 -- The first terms of what is put in at bus i for each unit of the angle at j, and the next term: their sum is too large.
 pub record IsSumPair (branches : List Branch) (bound i j : ℕ) (op : Op) (left right : Fraction) : Type 0 where
@@ -68,7 +70,7 @@ pub record IsSumPair (branches : List Branch) (bound i j : ℕ) (op : Op) (left 
   pub passes : Passes bound op left right
 
 -- Two numbers that making the flows of a network may have to add or to multiply, whose outcome passes the bound: of a sum that makes a
--- coefficient, or a working pair of a system of some of the network's rows.
+-- coefficient, or a working pair of a system of some of the network's rows, in which nothing has a price or a bound other than 0.
 pub data IsFlowPair (n : Network) (reference bound : ℕ) (op : Op) (left right : Fraction) : Type 0 where
   of_sum : (i j : ℕ) → IsRowOf n reference (Injection i) → IsRowOf n reference (Injection j) → IsSumPair n.branches bound i j op left right → IsFlowPair n reference bound op left right
   of_system : (s : System) → IsFlowSystem n reference s → IsSystemPair s bound op left right → IsFlowPair n reference bound op left right

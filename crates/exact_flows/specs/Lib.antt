@@ -1,3 +1,3 @@
 pub mod Building
 pub mod FlowSystems
-pub mod Links
+pub mod Lines

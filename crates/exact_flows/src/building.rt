@@ -2,10 +2,10 @@
 ghost use Rattle.std.specs.Prelude.{◌≡◌, ◌+◌, ◌<◌, ◌≤◌, IfErr, IfOk, length};
 ghost use Rattle.exact_flows.specs.Building.{IsBuilt, IsExchanged};
 ghost use Rattle.exact_flows.specs.FlowSystems.{IsFlowStop};
-ghost use Rattle.exact_flows.specs.Links.{network_of};
+ghost use Rattle.exact_flows.specs.Lines.{network_of};
 
 use crate::coefficients::coefficients;
-use crate::link::Link;
+use crate::line::Line;
 use crate::rows::{Row, angle_names, row_at_place, row_name};
 use crate::stop::FlowStop;
 use exact_fraction::Exact;
@@ -17,17 +17,17 @@ fn started<N: Exact>(
     alloc: Global,
     buses: usize,
     reference: usize,
-    links: &[Link<N>],
+    lines: &[Line<N>],
 ) -> Result<Dict<N>, FlowStop<N>>
     requires reference { reference < buses }
     requires few { buses ≤ 1000 }
-    requires some { 0 < length links.now }
-    ensures built { IfOk result (IsBuilt (network_of N.value buses links.now) reference 1) }
-    ensures pair { IfErr result (IsFlowStop N.value N.bound (network_of N.value buses links.now) reference) }
+    requires some { 0 < length lines.now }
+    ensures built { IfOk result (IsBuilt (network_of N.value buses lines.now) reference 1) }
+    ensures pair { IfErr result (IsFlowStop N.value N.bound (network_of N.value buses lines.now) reference) }
 {
     let angles = angle_names(alloc, buses, reference)?;
     let row = Row::Flow(0);
-    let numbers = coefficients(alloc, links, buses, reference, row)?;
+    let numbers = coefficients(alloc, lines, buses, reference, row)?;
     let name = row_name(buses, row);
     Ok(Dict::start(alloc, angles.slice(), name, numbers.slice())?)
 }
@@ -37,19 +37,19 @@ fn put_row<N: Exact>(
     alloc: Global,
     buses: usize,
     reference: usize,
-    links: &[Link<N>],
+    lines: &[Line<N>],
     dict: &mut Dict<N>,
     place: usize,
 ) -> Result<(), FlowStop<N>>
     requires reference { reference < buses }
-    requires few { (buses ≤ 1000) × (length links.now ≤ 2000) }
-    requires place { place + 1 < length links.now + buses }
-    requires built { IsBuilt (network_of N.value buses links.now) reference place dict.old }
-    ensures built { IfOk result (λ _. IsBuilt (network_of N.value buses links.now) reference (place + 1) dict.new) }
-    ensures pair { IfErr result (IsFlowStop N.value N.bound (network_of N.value buses links.now) reference) }
+    requires few { (buses ≤ 1000) × (length lines.now ≤ 2000) }
+    requires place { place + 1 < length lines.now + buses }
+    requires built { IsBuilt (network_of N.value buses lines.now) reference place dict.old }
+    ensures built { IfOk result (λ _. IsBuilt (network_of N.value buses lines.now) reference (place + 1) dict.new) }
+    ensures pair { IfErr result (IsFlowStop N.value N.bound (network_of N.value buses lines.now) reference) }
 {
-    let row = row_at_place(links.len(), reference, place);
-    let numbers = coefficients(alloc, links, buses, reference, row)?;
+    let row = row_at_place(lines.len(), reference, place);
+    let numbers = coefficients(alloc, lines, buses, reference, row)?;
     let name = row_name(buses, row);
     match dict.add_row(name, numbers.slice()) {
         Ok(()) => Ok(()),
@@ -63,17 +63,17 @@ pub(crate) fn built<N: Exact>(
     alloc: Global,
     buses: usize,
     reference: usize,
-    links: &[Link<N>],
+    lines: &[Line<N>],
 ) -> Result<Dict<N>, FlowStop<N>>
     requires reference { reference < buses }
-    requires few { (buses ≤ 1000) × (length links.now ≤ 2000) }
-    requires some { 0 < length links.now }
-    ensures built { IfOk result (IsExchanged (network_of N.value buses links.now) reference 0) }
-    ensures pair { IfErr result (IsFlowStop N.value N.bound (network_of N.value buses links.now) reference) }
+    requires few { (buses ≤ 1000) × (length lines.now ≤ 2000) }
+    requires some { 0 < length lines.now }
+    ensures built { IfOk result (IsExchanged (network_of N.value buses lines.now) reference 0) }
+    ensures pair { IfErr result (IsFlowStop N.value N.bound (network_of N.value buses lines.now) reference) }
 {
-    let mut dict = started(alloc, buses, reference, links)?;
-    for place in 1..links.len() + buses - 1 {
-        put_row(alloc, buses, reference, links, &mut dict, place)?;
+    let mut dict = started(alloc, buses, reference, lines)?;
+    for place in 1..lines.len() + buses - 1 {
+        put_row(alloc, buses, reference, lines, &mut dict, place)?;
     }
     Ok(dict)
 }

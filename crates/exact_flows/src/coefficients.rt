@@ -4,13 +4,13 @@ ghost use Rattle.exact_fraction.specs.Passes.{IsTooLargeAt};
 ghost use Rattle.exact_fraction.specs.declared.Op.TheVariants as Op;
 ghost use Rattle.exact_flows.specs.Building.{IsAmongBranches, bus_of};
 ghost use Rattle.exact_flows.specs.FlowSystems.{IsFlowStop, IsRowOf, IsSumPair, bus_term, coefficient};
-ghost use Rattle.exact_flows.specs.Links.{branch_of, network_of};
+ghost use Rattle.exact_flows.specs.Lines.{branch_of, network_of};
 ghost use Rattle.exact_flows.specs.declared.rows.Row.TheVariants as kind;
 ghost use Rattle.fraction_theory.specs.Fraction.{whole, ◌*ℚ◌, ◌+ℚ◌};
 ghost use Rattle.linear_dict.specs.Adding.{AreSums};
 ghost use Rattle.network_theory.specs.Carrying.{put_through};
 
-use crate::link::Link;
+use crate::line::Line;
 use crate::rows::{Row, bus_at};
 use crate::stop::FlowStop;
 use exact_fraction::{Exact, Passed, exact_sum};
@@ -40,64 +40,64 @@ fn is_away(from: usize, to: usize, bus: usize) -> bool
 }
 
 /// A sum with what a branch takes out of a bus for each unit of another angle. A branch that is not at both leaves it as it is.
-fn add_branch<N: Exact>(sum: N, link: Link<N>, bus: usize, other: usize) -> Result<N, Passed<N>>
-    ensures sum { IfOk result (λ more. N.value more ≡ N.value sum +ℚ bus_term bus other (branch_of N.value link)) }
-    ensures cause { IfErr result (λ e. (left : N) × (right : N) × (N.value left ≡ N.value sum) × (N.value right ≡ bus_term bus other (branch_of N.value link))
+fn add_branch<N: Exact>(sum: N, line: Line<N>, bus: usize, other: usize) -> Result<N, Passed<N>>
+    ensures sum { IfOk result (λ more. N.value more ≡ N.value sum +ℚ bus_term bus other (branch_of N.value line)) }
+    ensures cause { IfErr result (λ e. (left : N) × (right : N) × (N.value left ≡ N.value sum) × (N.value right ≡ bus_term bus other (branch_of N.value line))
         × IsTooLargeAt N.value N.bound Op.Plus left right e) }
 {
-    if is_away(link.from, link.to, bus) || is_away(link.from, link.to, other) {
+    if is_away(line.from, line.to, bus) || is_away(line.from, line.to, other) {
         return Ok(sum);
     }
-    let through = at_end(link.from, link.to, other, link.susceptance);
-    let term = at_end(link.from, link.to, bus, through);
+    let through = at_end(line.from, line.to, other, line.susceptance);
+    let term = at_end(line.from, line.to, bus, through);
     exact_sum(sum, term)
 }
 
 /// What is put in at a bus for each unit of an angle: the sum over the branches of what they take out of the bus.
-fn bus_coefficient<N: Exact>(links: &[Link<N>], bus: usize, other: usize) -> Result<N, Passed<N>>
-    ensures sum { IfOk result (λ sum. N.value sum ≡ coefficient (map (branch_of N.value) links.now) (kind.Injection bus) other) }
-    ensures cause { IfErr result (λ e. IsSumPair (map (branch_of N.value) links.now) N.bound bus other e.op (N.value e.left) (N.value e.right)) }
+fn bus_coefficient<N: Exact>(lines: &[Line<N>], bus: usize, other: usize) -> Result<N, Passed<N>>
+    ensures sum { IfOk result (λ sum. N.value sum ≡ coefficient (map (branch_of N.value) lines.now) (kind.Injection bus) other) }
+    ensures cause { IfErr result (λ e. IsSumPair (map (branch_of N.value) lines.now) N.bound bus other e.op (N.value e.left) (N.value e.right)) }
 {
     let mut sum = N::of_parts(0, 1);
-    for k in 0..links.len() {
-        sum = add_branch(sum, links[k], bus, other)?;
+    for k in 0..lines.len() {
+        sum = add_branch(sum, lines[k], bus, other)?;
     }
     Ok(sum)
 }
 
 /// What a row gives for each unit of an angle.
-fn row_coefficient<N: Exact>(links: &[Link<N>], row: Row, other: usize) -> Result<N, Passed<N>>
-    requires { IsAmongBranches (length links.now) row }
-    ensures number { IfOk result (λ number. N.value number ≡ coefficient (map (branch_of N.value) links.now) row other) }
-    ensures cause { IfErr result (λ e. (bus : ℕ) × (row ≡ kind.Injection bus) × IsSumPair (map (branch_of N.value) links.now) N.bound bus other e.op (N.value e.left) (N.value e.right)) }
+fn row_coefficient<N: Exact>(lines: &[Line<N>], row: Row, other: usize) -> Result<N, Passed<N>>
+    requires { IsAmongBranches (length lines.now) row }
+    ensures number { IfOk result (λ number. N.value number ≡ coefficient (map (branch_of N.value) lines.now) row other) }
+    ensures cause { IfErr result (λ e. (bus : ℕ) × (row ≡ kind.Injection bus) × IsSumPair (map (branch_of N.value) lines.now) N.bound bus other e.op (N.value e.left) (N.value e.right)) }
 {
     match row {
         Row::Flow(branch) => {
-            let link = links[branch];
-            Ok(at_end(link.from, link.to, other, link.susceptance))
+            let line = lines[branch];
+            Ok(at_end(line.from, line.to, other, line.susceptance))
         }
-        Row::Injection(bus) => bus_coefficient(links, bus, other),
+        Row::Injection(bus) => bus_coefficient(lines, bus, other),
     }
 }
 
 /// What a row gives for each unit of the angles of the columns in turn.
 pub(crate) fn coefficients<N: Exact>(
     alloc: Global,
-    links: &[Link<N>],
+    lines: &[Line<N>],
     buses: usize,
     reference: usize,
     row: Row,
 ) -> Result<List<N>, FlowStop<N>>
     requires reference { reference < buses }
     requires few { buses ≤ 1000 }
-    requires row { IsRowOf (network_of N.value buses links.now) reference row }
+    requires row { IsRowOf (network_of N.value buses lines.now) reference row }
     ensures numbers { IfOk result (λ numbers. (count : ℕ) → count + 1 ≡ buses
-        → AreSums N.value numbers count (λ c. coefficient (map (branch_of N.value) links.now) row (bus_of reference c))) }
-    ensures pair { IfErr result (IsFlowStop N.value N.bound (network_of N.value buses links.now) reference) }
+        → AreSums N.value numbers count (λ c. coefficient (map (branch_of N.value) lines.now) row (bus_of reference c))) }
+    ensures pair { IfErr result (IsFlowStop N.value N.bound (network_of N.value buses lines.now) reference) }
 {
     let mut numbers = List::new(alloc);
     for column in 0..buses - 1 {
-        numbers.push(row_coefficient(links, row, bus_at(reference, column))?)?;
+        numbers.push(row_coefficient(lines, row, bus_at(reference, column))?)?;
     }
     Ok(numbers)
 }

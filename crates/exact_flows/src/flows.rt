@@ -2,11 +2,11 @@
 ghost use Rattle.std.specs.Prelude.{◌≡◌, ◌+◌, ◌<◌, ◌≤◌, ℕ, IfErr, IfOk, length};
 ghost use Rattle.exact_flows.specs.Building.{IsExchanged};
 ghost use Rattle.exact_flows.specs.FlowSystems.{IsFlowStop};
-ghost use Rattle.exact_flows.specs.Links.{AreFlows, network_of};
+ghost use Rattle.exact_flows.specs.Lines.{AreFlows, network_of};
 ghost use Rattle.network_theory.specs.Carrying.{IsCarried};
 ghost use Rattle.network_theory.specs.Networks.{Branch, IsConnected, IsNetwork, StandsAt};
 
-use crate::link::Link;
+use crate::line::Line;
 use crate::rows::column_of;
 use crate::solving::solved;
 use crate::stop::FlowStop;
@@ -19,18 +19,18 @@ use std::alloc::Global;
 fn carried<N: Exact>(
     buses: usize,
     reference: usize,
-    links: &[Link<N>],
+    lines: &[Line<N>],
     dict: &Dict<N>,
     branch: usize,
     bus: usize,
 ) -> N
-    requires network { IsNetwork (network_of N.value buses links.now) }
-    requires connected { IsConnected (network_of N.value buses links.now) reference }
+    requires network { IsNetwork (network_of N.value buses lines.now) }
+    requires connected { IsConnected (network_of N.value buses lines.now) reference }
     requires reference { reference < buses }
-    requires branch { branch < length links.now }
+    requires branch { branch < length lines.now }
     requires bus { bus < buses }
-    requires solved { (count : ℕ) → count + 1 ≡ buses → IsExchanged (network_of N.value buses links.now) reference count dict.now }
-    ensures { let n = network_of N.value buses links.now in (b : Branch) → StandsAt n branch b → IsCarried n reference bus reference b (N.value result) }
+    requires solved { (count : ℕ) → count + 1 ≡ buses → IsExchanged (network_of N.value buses lines.now) reference count dict.now }
+    ensures { let n = network_of N.value buses lines.now in (b : Branch) → StandsAt n branch b → IsCarried n reference bus reference b (N.value result) }
 {
     if bus == reference {
         N::of_parts(0, 1)
@@ -40,28 +40,29 @@ fn carried<N: Exact>(
 }
 
 /// By branch and by bus, branch by branch: what a branch carries of 1 that is put in at the bus and taken out at the reference, exact.
-/// Where a number on the way passes the bound of its type, the two numbers are told of which it is made: of a sum of susceptances, or of a
-/// system of the rows of the network that are put in so far.
+/// Where a number on the way passes the bound of its type, the two numbers are told of which it is made. They are the network's own, and no
+/// price or bound comes in: the first terms of a sum of susceptances that makes a coefficient and its next term, or two numbers that an
+/// exchange of two variables in a system of the rows of the network, of some or of all, may have to add or to multiply.
 pub fn exact_flows<N: Exact>(
     alloc: Global,
     buses: usize,
     reference: usize,
-    links: &[Link<N>],
+    lines: &[Line<N>],
 ) -> Result<List<N>, FlowStop<N>>
     requires reference { reference < buses }
-    requires few { (buses ≤ 1000) × (length links.now ≤ 2000) }
-    requires network { IsNetwork (network_of N.value buses links.now) }
-    requires connected { IsConnected (network_of N.value buses links.now) reference }
-    ensures flows { IfOk result (AreFlows N.value (network_of N.value buses links.now) reference) }
-    ensures pair { IfErr result (IsFlowStop N.value N.bound (network_of N.value buses links.now) reference) }
+    requires few { (buses ≤ 1000) × (length lines.now ≤ 2000) }
+    requires network { IsNetwork (network_of N.value buses lines.now) }
+    requires connected { IsConnected (network_of N.value buses lines.now) reference }
+    ensures flows { IfOk result (AreFlows N.value (network_of N.value buses lines.now) reference) }
+    ensures pair { IfErr result (IsFlowStop N.value N.bound (network_of N.value buses lines.now) reference) }
 {
     let mut flows = List::new(alloc);
-    if links.is_empty() {
+    if lines.is_empty() {
         return Ok(flows);
     }
-    let dict = solved(alloc, buses, reference, links)?;
-    for place in 0..links.len() * buses {
-        let flow = carried(buses, reference, links, &dict, place / buses, place % buses);
+    let dict = solved(alloc, buses, reference, lines)?;
+    for place in 0..lines.len() * buses {
+        let flow = carried(buses, reference, lines, &dict, place / buses, place % buses);
         flows.push(flow)?;
     }
     Ok(flows)

@@ -6,13 +6,13 @@
 mod building;
 mod coefficients;
 mod flows;
-mod link;
+mod line;
 mod rows;
 mod solving;
 mod stop;
 
 pub use flows::exact_flows;
-pub use link::Link;
+pub use line::Line;
 pub use stop::FlowStop;
 
 #[cfg(test)]

@@ -2,11 +2,11 @@
 ghost use Rattle.std.specs.Prelude.{◌≡◌, ◌+◌, ◌<◌, ◌≤◌, ℕ, IfErr, IfOk, length};
 ghost use Rattle.exact_flows.specs.Building.{IsExchanged};
 ghost use Rattle.exact_flows.specs.FlowSystems.{IsFlowPassed, IsFlowStop};
-ghost use Rattle.exact_flows.specs.Links.{network_of};
+ghost use Rattle.exact_flows.specs.Lines.{network_of};
 ghost use Rattle.network_theory.specs.Networks.{IsConnected, IsNetwork};
 
 use crate::building::built;
-use crate::link::Link;
+use crate::line::Line;
 use crate::stop::FlowStop;
 use exact_fraction::{Exact, Passed};
 use linear_dict::Dict;
@@ -17,20 +17,20 @@ use std::alloc::Global;
 fn exchange<N: Exact>(
     buses: usize,
     reference: usize,
-    links: &[Link<N>],
+    lines: &[Line<N>],
     dict: &mut Dict<N>,
     column: usize,
 ) -> Result<(), Passed<N>>
     requires reference { reference < buses }
-    requires few { (buses ≤ 1000) × (length links.now ≤ 2000) }
-    requires network { IsNetwork (network_of N.value buses links.now) }
-    requires connected { IsConnected (network_of N.value buses links.now) reference }
+    requires few { (buses ≤ 1000) × (length lines.now ≤ 2000) }
+    requires network { IsNetwork (network_of N.value buses lines.now) }
+    requires connected { IsConnected (network_of N.value buses lines.now) reference }
     requires column { column + 1 < buses }
-    requires exchanged { IsExchanged (network_of N.value buses links.now) reference column dict.old }
-    ensures exchanged { IfOk result (λ _. IsExchanged (network_of N.value buses links.now) reference (column + 1) dict.new) }
-    ensures pair { IfErr result (IsFlowPassed N.value N.bound (network_of N.value buses links.now) reference) }
+    requires exchanged { IsExchanged (network_of N.value buses lines.now) reference column dict.old }
+    ensures exchanged { IfOk result (λ _. IsExchanged (network_of N.value buses lines.now) reference (column + 1) dict.new) }
+    ensures pair { IfErr result (IsFlowPassed N.value N.bound (network_of N.value buses lines.now) reference) }
 {
-    dict.pivot(links.len() + column, column)
+    dict.pivot(lines.len() + column, column)
 }
 
 /// The dictionary whose columns are what is put in at the buses other than the reference.
@@ -38,19 +38,19 @@ pub(crate) fn solved<N: Exact>(
     alloc: Global,
     buses: usize,
     reference: usize,
-    links: &[Link<N>],
+    lines: &[Line<N>],
 ) -> Result<Dict<N>, FlowStop<N>>
     requires reference { reference < buses }
-    requires few { (buses ≤ 1000) × (length links.now ≤ 2000) }
-    requires some { 0 < length links.now }
-    requires network { IsNetwork (network_of N.value buses links.now) }
-    requires connected { IsConnected (network_of N.value buses links.now) reference }
-    ensures solved { IfOk result (λ dict. (count : ℕ) → count + 1 ≡ buses → IsExchanged (network_of N.value buses links.now) reference count dict) }
-    ensures pair { IfErr result (IsFlowStop N.value N.bound (network_of N.value buses links.now) reference) }
+    requires few { (buses ≤ 1000) × (length lines.now ≤ 2000) }
+    requires some { 0 < length lines.now }
+    requires network { IsNetwork (network_of N.value buses lines.now) }
+    requires connected { IsConnected (network_of N.value buses lines.now) reference }
+    ensures solved { IfOk result (λ dict. (count : ℕ) → count + 1 ≡ buses → IsExchanged (network_of N.value buses lines.now) reference count dict) }
+    ensures pair { IfErr result (IsFlowStop N.value N.bound (network_of N.value buses lines.now) reference) }
 {
-    let mut dict = built(alloc, buses, reference, links)?;
+    let mut dict = built(alloc, buses, reference, lines)?;
     for column in 0..buses - 1 {
-        exchange(buses, reference, links, &mut dict, column)?;
+        exchange(buses, reference, lines, &mut dict, column)?;
     }
     Ok(dict)
 }

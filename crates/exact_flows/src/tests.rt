@@ -4,7 +4,7 @@ ghost use Rattle.std.specs.Prelude.{IfSome, pos};
 ghost use Rattle.fraction_theory.specs.Fraction.{whole};
 ghost use Rattle.fraction_theory.specs.Order.{◌<ℚ◌};
 
-use crate::{Link, exact_flows};
+use crate::{Line, exact_flows};
 use exact_fraction::{Exact, Frac};
 use plain_list::List;
 use std::alloc::Global;
@@ -28,29 +28,29 @@ fn triangle(alloc: Global) -> Option<List<Frac>> {
     let side = thirds(10)?;
     let first = thirds(2)?;
     let second = thirds(3)?;
-    let links = [
-        Link {
+    let lines = [
+        Line {
             from: 0,
             to: 1,
             susceptance: side,
         },
-        Link {
+        Line {
             from: 0,
             to: 2,
             susceptance: side,
         },
-        Link {
+        Line {
             from: 1,
             to: 2,
             susceptance: first,
         },
-        Link {
+        Line {
             from: 2,
             to: 1,
             susceptance: second,
         },
     ];
-    exact_flows(alloc, 3, 0, &links).ok()
+    exact_flows(alloc, 3, 0, &lines).ok()
 }
 
 /// Whether the flows of the triangle are so many twentieths.

@@ -1,16 +1,17 @@
 -- The network that branches in code stand for, and the flows that are told of it.
+-- Source: the DC power flow and its generation shift factors (Wood and Wollenberg); the order of the flows is own.
 use Rattle.std.specs.Prelude.{◌≡◌, ℕ, ◌*◌, ◌+◌, ◌<◌, List, length, map, slice_get, Some}
-use Rattle.exact_flows.specs.declared.link.Link.{Link}
+use Rattle.exact_flows.specs.declared.line.Line.{Line}
 use Rattle.fraction_theory.specs.Fraction.{Fraction}
 use Rattle.network_theory.specs.Carrying.{IsCarried}
 use Rattle.network_theory.specs.Networks.{Branch, Network, StandsAt}
 
-abbrev pub branch_of : {N : Type 0} → (N → Fraction) → Link N → Branch
-branch_of value link = record { from = link.from; to = link.to; susceptance = value link.susceptance }
+abbrev pub branch_of : {N : Type 0} → (N → Fraction) → Line N → Branch
+branch_of value line = record { from = line.from; to = line.to; susceptance = value line.susceptance }
 
 -- so many buses with these branches between them
-abbrev pub network_of : {N : Type 0} → (N → Fraction) → ℕ → List (Link N) → Network
-network_of value buses links = record { buses = buses; branches = map (branch_of value) links }
+abbrev pub network_of : {N : Type 0} → (N → Fraction) → ℕ → List (Line N) → Network
+network_of value buses lines = record { buses = buses; branches = map (branch_of value) lines }
 
 -- By branch and by bus, branch by branch: what the branch carries of 1 that is put in at the bus and taken out at the reference.
 pub record AreFlows {N : Type 0} (value : N → Fraction) (n : Network) (reference : ℕ) (flows : List N) : Type 0 where
