@@ -51,7 +51,7 @@ factor_at-fits entries pair sizes =
     to_z-of_z w64 _ (datum_fits _ datum)
 
 -- equal pairs are the same
-one_pair : (p q : Pair) → same_pair p q ≡ true → p ≡ q
+pub one_pair : (p q : Pair) → same_pair p q ≡ true → p ≡ q
 one_pair (a, b) (c, d) same =
     let (first, second) = both (a == c) (b == d) same in
     let left : a ≡ c = eqb-true a c first in

@@ -1,4 +1,5 @@
 pub mod Factors
+pub mod Made
 pub mod Records
 pub mod Rules
 pub mod Tables

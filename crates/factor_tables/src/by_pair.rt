@@ -1,7 +1,7 @@
 //! Factors by pair.
 
-ghost use Rattle.std.specs.Prelude.{◌≡◌, ℕ, ◌≤◌, ◌<◌, ◌+◌, ◌++◌, ◌∷◌, [], List, unsigned_abs, length, get_or, slice_set, IfOk, false, true};
-ghost use Rattle.market_data.specs.Scales.{most_factor, most_lines};
+ghost use Rattle.std.specs.Prelude.{◌≡◌, ℕ, ◌≤◌, ◌<◌, ◌+◌, ◌^◌, ◌++◌, ◌∷◌, [], List, unsigned_abs, length, get_or, slice_set, IfOk, false, true};
+ghost use Rattle.market_data.specs.Scales.{most_factor};
 ghost use Rattle.factor_tables.specs.Factors.{Entry, ArePairFactors, FactorRecords, IsFactorOfPair, factor_at, has_pair, has_row, marked_row};
 
 use indexmap::IndexMap;
@@ -37,7 +37,7 @@ pub(crate) struct Pairs {
 impl Pairs {
     // No factors, with room for so many, and no row of so many marked.
     pub(crate) fn new(alloc: Global, rows: usize, room: usize) -> Result<Pairs, Memory>
-        requires { rows ≤ most_lines }
+        requires { rows + 1 < 2 ^ 64 }
         ensures none { IfOk result (λ pairs. pairs.by_pair.entries ≡ []) }
         ensures unmarked { IfOk result (λ pairs. (row : ℕ) → get_or pairs.marked.items row false ≡ false) }
         ensures rows { IfOk result (λ pairs. length pairs.marked.items ≡ rows + 1) }
