@@ -1,5 +1,5 @@
 -- The live branches of a sound network are a network that is connected, with an outage too.
-use Rattle.std.specs.Prelude.{◌≡◌, ◌≢◌, ℕ, ◌<◌, ◌==◌, ℤ, pos, Bool, true, false, not, List, [], ◌∷◌, ◌⊎◌, length, map, All, Contains, Option, Some, None, if◌then◌else◌, refl}
+use Rattle.std.specs.Prelude.{◌≡◌, ℕ, ◌==◌, ℤ, Bool, true, false, not, List, [], ◌∷◌, ◌⊎◌, length, map, Contains, Option, Some, None, if◌then◌else◌, refl}
 use Rattle.std.proofs.Common.{arith, ap, sym, ◌∙◌, subst, inl, inr}
 use Rattle.std.proofs.lemmas.Bool.Decides.{eqb_tells}
 use Rattle.std.proofs.lemmas.List.{get_or-map, length-map}
@@ -14,7 +14,7 @@ use Rattle.net_paths.specs.Detours.{others}
 use Rattle.net_paths.specs.Loops.{kept}
 use Rattle.net_paths.proofs.ChainLemmas.{joined_itself, joined_sym, joined_trans, joined_step, kept_along}
 use Rattle.outage_list.specs.Listing.{IsOutage}
-use Rattle.network_theory.specs.Networks.{Branch, Network, IsBranchOf, IsNetwork as IsTheoryNetwork, IsConnected, AreNeighbours, AreJoined as AreLinked}
+use Rattle.network_theory.specs.Networks.{Branch, IsBranchOf, IsNetwork as IsTheoryNetwork, IsConnected, AreNeighbours, AreJoined as AreLinked}
 use Rattle.dc_network.specs.DcNetworks.{dc_branch, dc_network}
 use Rattle.dc_network.specs.Laws.{IsSound, LeavesJoined, LawOfTheNetwork}
 use Rattle.dc_network.proofs.Reactances.{same_row, susceptance_above}

@@ -1,11 +1,11 @@
 -- The places that branches join fall into parts, so that of any two it can be told whether they are joined.
-use Rattle.std.specs.Prelude.{◌≡◌, ◌≢◌, ℕ, List, [], ◌∷◌, ◌++◌, ◌⊎◌, All, Contains, Bool, true, false, if◌then◌else◌, refl}
+use Rattle.std.specs.Prelude.{◌≡◌, ℕ, List, [], ◌∷◌, ◌⊎◌, Contains, Bool, true, false, if◌then◌else◌, refl}
 use Rattle.std.proofs.Common.{arith, ap, sym, ◌∙◌, subst, inl, inr}
 use Rattle.std.proofs.lemmas.List.Elements.{All-weaker}
 use Rattle.fraction_theory.proofs.ListSums.{Contains-head, Contains-cons, Contains-cases, put_at, put_at-here, put_at-elsewhere, same_or_not}
 use Rattle.net_case.specs.declared.live_parts.NetBranch.{NetBranch}
 use Rattle.net_paths.specs.declared.steps.Step.{Step}
-use Rattle.net_paths.specs.Chains.{start_of, end_of, Pass, AreJoined}
+use Rattle.net_paths.specs.Chains.{start_of, end_of, AreJoined}
 use Rattle.net_paths.proofs.ChainLemmas.{joined_itself, joined_sym, joined_trans, joined_step, kept_along}
 
 -- branches within these are chains within those

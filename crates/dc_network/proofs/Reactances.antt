@@ -1,11 +1,11 @@
 -- Live branches by their rows: no two of one row, and each with a reactance above 0.
-use Rattle.std.specs.Prelude.{◌≡◌, ◌≢◌, ℕ, ◌<◌, ◌^◌, ℤ, pos, ◌<ℤ◌, ◌≤ℤ◌, List, [], ◌∷◌, ◌⊎◌, length, map, All, Contains, Option, Some, slice_get, slice_index_or, refl}
+use Rattle.std.specs.Prelude.{◌≡◌, ◌≢◌, ℕ, ◌<◌, ◌^◌, ℤ, pos, ◌<ℤ◌, ◌≤ℤ◌, List, length, map, Contains, Option, Some}
 use Rattle.std.proofs.Common.{arith, ap, sym, ◌∙◌, subst, inl, inr, get_or}
 use Rattle.std.proofs.lemmas.Bool.{cases_lt}
 use Rattle.std.proofs.lemmas.Int.{ints}
 use Rattle.std.proofs.lemmas.List.{get_or-map, length-map, get_or_default}
 use Rattle.std.proofs.lemmas.Option.{slice_get-get_or}
-use Rattle.fraction_theory.specs.Fraction.{Fraction, whole, over, ◌-ℚ◌, ◌*ℚ◌, recip_ℚ}
+use Rattle.fraction_theory.specs.Fraction.{Fraction, whole, over, ◌*ℚ◌, recip_ℚ}
 use Rattle.fraction_theory.specs.Order.{◌<ℚ◌, NonNeg}
 use Rattle.fraction_theory.proofs.FieldLaws.{ring_ℚ, *ℚ-recip}
 use Rattle.fraction_theory.proofs.FractionLaws.{Is, over_is}

@@ -1,8 +1,8 @@
 -- Each list of branches has a tree, and each branch of the rest a way back through it from no place twice: it has loops.
-use Rattle.std.specs.Prelude.{◌≡◌, ◌≢◌, ⊤, ℕ, List, [], ◌∷◌, ◌++◌, ◌⊎◌, map, All, AllPairs, Contains, true, refl}
+use Rattle.std.specs.Prelude.{◌≢◌, ⊤, ℕ, List, [], ◌∷◌, ◌++◌, ◌⊎◌, map, All, AllPairs, Contains, true, refl}
 use Rattle.std.specs.List.{AllZip}
-use Rattle.std.proofs.Common.{arith, ap, sym, ◌∙◌, subst, inl, inr, append_assoc, append-nil}
-use Rattle.std.proofs.lemmas.List.Elements.{All-nil, All-cons, All-head, All-tail, All-map, All-weaker, All-push, Contains-append_left, Contains-append_right, Contains-push, Contains-push_cases}
+use Rattle.std.proofs.Common.{arith, sym, ◌∙◌, subst, inl, inr, append_assoc, append-nil}
+use Rattle.std.proofs.lemmas.List.Elements.{All-nil, All-cons, All-head, All-tail, All-map, All-weaker, All-push, Contains-append_left, Contains-push, Contains-push_cases}
 use Rattle.std.proofs.lemmas.List.Kept.{AllPairs-cons}
 use Rattle.fraction_theory.proofs.ListSums.{same_or_not}
 use Rattle.net_case.specs.declared.live_parts.NetBranch.{NetBranch}
@@ -48,13 +48,13 @@ module _ (tree : List NetBranch) where
         | inr n ↦ elim (cut rest.0 a b (end_of s) rest.1) [
           | inl way ↦ way
           | inr off ↦ (
-              s ∷ rest.0,
-              record {
-                pass = All-cons (λ (t : Step). Contains tree t.branch) s rest.0 (All-head (λ (t : Step). Contains tree t.branch) s steps pass) rest.1.pass;
-                lead = (lead.0, rest.1.lead);
-                straight = (All-weaker (λ (t : Step). a ≢ start_of t) (λ (t : Step). start_of s ≢ start_of t) (λ t m e. m (sym lead.0 ∙ e)) rest.0 off, λ e. n (sym lead.0 ∙ e), rest.1.straight);
-              },
-            )
+            s ∷ rest.0,
+            record {
+              pass = All-cons (λ (t : Step). Contains tree t.branch) s rest.0 (All-head (λ (t : Step). Contains tree t.branch) s steps pass) rest.1.pass;
+              lead = (lead.0, rest.1.lead);
+              straight = (All-weaker (λ (t : Step). a ≢ start_of t) (λ (t : Step). start_of s ≢ start_of t) (λ t m e. m (sym lead.0 ∙ e)) rest.0 off, λ e. n (sym lead.0 ∙ e), rest.1.straight);
+            },
+          )
         ]
       ]
 

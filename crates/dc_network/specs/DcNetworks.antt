@@ -1,7 +1,7 @@
 -- The live network of a case by the DC model, and its exact factors.
 -- Source: the DC power flow, where a transformer's ratio multiplies its reactance (MATPOWER User's Manual); generation shift factors and line
 -- outage distribution factors (Wood and Wollenberg).
-use Rattle.std.specs.Prelude.{◌≡◌, ℕ, ◌<◌, ◌^◌, ℤ, pos, ◌<ℤ◌, List, length, map, All, Option, Some, None}
+use Rattle.std.specs.Prelude.{ℕ, ◌^◌, ℤ, pos, ◌<ℤ◌, List, length, map, All, Option, Some, None}
 use Rattle.fraction_theory.specs.Fraction.{Fraction, over, recip_ℚ}
 use Rattle.net_case.specs.Networks.{LiveNetwork}
 use Rattle.net_case.specs.declared.live_parts.NetBranch.{NetBranch}

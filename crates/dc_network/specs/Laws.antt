@@ -1,6 +1,6 @@
 -- What exact factors are: flows that meet Kirchhoff's laws, whose residuals are all 0.
 -- Source: Kirchhoff's laws; Wood and Wollenberg, on generation shift factors and line outage distribution factors.
-use Rattle.std.specs.Prelude.{◌≡◌, ℕ, ◌<◌, ◌^◌, Bool, ℤ, pos, List, length, All, Contains, Option, Some, None, if◌then◌else◌}
+use Rattle.std.specs.Prelude.{◌≡◌, ℕ, ◌<◌, ◌^◌, ◌↔◌, Bool, ℤ, pos, List, length, All, Contains, Option, Some, None, if◌then◌else◌}
 use Rattle.fraction_theory.specs.Fraction.{Fraction, whole, over, ◌*ℚ◌, neg_ℚ}
 use Rattle.fraction_theory.specs.Order.{◌≤ℚ◌}
 use Rattle.fraction_theory.specs.Signs.{abs_ℚ}
@@ -48,14 +48,16 @@ abbrev pub LawOfTheNetwork : Type 0
 LawOfTheNetwork = (network : LiveNetwork) (xs : List ℤ) (lost : Option ℕ) → IsSound network xs lost
     → IsTheoryNetwork (dc_network network xs lost) × IsConnected (dc_network network xs lost) network.reference
 
+-- exact factors, by the rows of branches: what each live branch that is kept carries of 1 from bus to bus
+abbrev pub AreExact : LiveNetwork → List ℤ → Option ℕ → ℕ → ℕ → (ℕ → Fraction) → Type 0
+AreExact network xs lost source sink flow = (l : NetBranch) → Contains (kept lost network.branches) l
+    → IsCarried (dc_network network xs lost) network.reference source sink (dc_branch network xs l) (flow l.row)
+
 -- The flows that meet Kirchhoff's laws are what branches carry by angles, and no others: exact factors are those whose residuals are all 0.
 abbrev pub LawOfExactFactors : Type 0
 LawOfExactFactors = (network : LiveNetwork) (xs : List ℤ) (lost : Option ℕ) (source sink : ℕ) (flow : ℕ → Fraction) → IsSound network xs lost
     → source < length network.buses → sink < length network.buses
-    → (MeetsKirchhoff network xs lost source sink flow
-        → (l : NetBranch) → Contains (kept lost network.branches) l → IsCarried (dc_network network xs lost) network.reference source sink (dc_branch network xs l) (flow l.row))
-    × (((l : NetBranch) → Contains (kept lost network.branches) l → IsCarried (dc_network network xs lost) network.reference source sink (dc_branch network xs l) (flow l.row))
-        → MeetsKirchhoff network xs lost source sink flow)
+    → MeetsKirchhoff network xs lost source sink flow ↔ AreExact network xs lost source sink flow
 
 -- there are exact factors, for each branch one, of a size of at most 1
 abbrev pub LawOfOneFactor : Type 0
