@@ -83,7 +83,7 @@ module _ (network : LiveNetwork) (is : IsNetwork network) where
       (slice_get-get_or (rows network.branches) c.0 0 (row_within network.branches l c) ∙ ap Some (row_at network.branches l c))
 
   module _ (xs : List ℤ) (are : AreReactances network xs) (positive : ArePositive xs) where
-    reactance_positive : (l : NetBranch) → Contains network.branches l → pos 0 <ℤ reactance_at network xs l.row
+    pub reactance_positive : (l : NetBranch) → Contains network.branches l → pos 0 <ℤ reactance_at network xs l.row
     reactance_positive l c = subst (λ (o : Option ℕ). pos 0 <ℤ value_at xs o) (sym (place_is l c)) (positive c.0 (pos 0) (Prim.omega (arith, c.1, are.count)))
 
     pub reactance_above : (l : NetBranch) → Contains network.branches l → whole (pos 0) <ℚ over (reactance_at network xs l.row) (10 ^ 18)

@@ -1,2 +1,4 @@
-pub mod Laws
+pub mod Columns
+pub mod ExactLists
 pub mod Made
+pub mod Stops

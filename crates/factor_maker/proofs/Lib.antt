@@ -1,0 +1,8 @@
+mod ListSteps
+mod Lists
+mod Made
+mod Networks
+mod Recips
+mod Records
+mod Scaling
+mod Sizes
