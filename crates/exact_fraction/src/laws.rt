@@ -1,5 +1,6 @@
 //! Laws of the texts and the bounds, each the contract of a function that does nothing.
 ghost use Rattle.std.specs.Prelude.{◌≡◌, ◌-◌, ◌^◌};
+ghost use Rattle.exact_fraction.specs.Nearest.{NearestKeepsOrder, OneNearest};
 ghost use Rattle.exact_fraction.specs.TextLaws.{WrittenApart, PartsApart};
 
 use crate::{Exact, Frac, Frac63};
@@ -12,6 +13,16 @@ pub fn written_apart()
 /// Fractions that are written alike as `num/den` are equal.
 pub fn parts_apart()
     ensures { PartsApart }
+{}
+
+/// A number that is not less has no lesser nearest number of units.
+pub fn nearest_keeps_order()
+    ensures { NearestKeepsOrder }
+{}
+
+/// A number has one nearest number of units.
+pub fn one_nearest()
+    ensures { OneNearest }
 {}
 
 /// The bounds of the two types.

@@ -1,7 +1,7 @@
 //! What no clause says: numbers at the edges of the two types, texts, and each call once at both types.
 ghost use Rattle.std.specs.Prelude.{◌≤◌};
 
-use exact_fraction::{Exact, Frac, Frac63, Op, Passed, Sign};
+use exact_fraction::{Exact, Frac, Frac63, Op, Passed, Sign, size};
 use std::cmp::Ordering;
 use std::process::Abort;
 
@@ -363,4 +363,43 @@ fn texts<N: Exact>(rt: &impl Abort) {
 fn texts_at_both_types(rt: HostRuntime) {
     texts::<Frac>(&rt);
     texts::<Frac63>(&rt);
+}
+
+/// The nearest number of units, where the size is at most 1000.
+fn nearest(x: Frac, places: u8) -> Option<i64> {
+    if places > 9 {
+        return None;
+    }
+    match size(x).order(Frac::of_parts(1000, 1)) {
+        Ordering::Less => Some(x.nearest(places)),
+        Ordering::Equal => Some(x.nearest(places)),
+        Ordering::Greater => None,
+    }
+}
+
+/// Whole numbers of units, with ties away from 0.
+#[test]
+fn nearest_units(rt: HostRuntime) {
+    for (num, den, places, units) in [
+        (1, 2, 0, 1),
+        (-1, 2, 0, -1),
+        (1, 3, 6, 333_333),
+        (-2, 3, 6, -666_667),
+        (115, 128, 6, 898_438),
+        (-1000, 1, 9, -1_000_000_000_000),
+    ] {
+        match fraction::<Frac>(num, den) {
+            Some(x) => assert_eq!(rt; nearest(x, places), Some(units)),
+            None => assert!(rt; false),
+        }
+    }
+}
+
+/// Numerators that 64 bits don't hold.
+#[test]
+fn wide_parts(rt: HostRuntime) {
+    let whole = Frac::of_wide(10_000_000_000_000_000_000_000, 1_000_000_000_000_000_000);
+    assert!(rt; is_in_parts(whole, "10000/1"));
+    let most = Frac::of_wide(-i128::MAX, 2);
+    assert!(rt; is_in_parts(most, "-170141183460469231731687303715884105727/2"));
 }
