@@ -1,7 +1,7 @@
 -- The network of live branches as guesses take it, and columns that are told of it.
 use Rattle.std.proofs.Common.{◌≡◌, ◌∙◌, ◌<◌, ◌≤◌, ◌*◌, ◌+◌, ◌^◌, ℕ, ℤ, pos, suc, Bool, true, false, cond, List, [], ◌∷◌, length, map, sym, ap, subst, refl, arith, inl, inr, Option, Some, None}
 use mathlib.Core.Path.{ap₂}
-use Rattle.std.specs.Prelude.{All, Contains, filter, not, ◌==◌, ◌<ℤ◌, slice_get, Result, Ok, Err, IfOk, IfSome}
+use Rattle.std.specs.Prelude.{All, Contains, filter, not, ◌==◌, ◌<ℤ◌, slice_get, Result, Ok, Err, IfOk, IfErr, IfSome}
 use Rattle.std.specs.List.{AllZip}
 use Rattle.std.proofs.lemmas.Int.{ints}
 use Rattle.std.proofs.lemmas.List.{length-map}
@@ -27,7 +27,9 @@ use Rattle.flow_guess.specs.Links.{Grid, IsLink, branch_of as guess_branch, grid
 use Rattle.flow_guess.specs.Told.{AreNearest}
 use Rattle.flow_guess.specs.declared.links.Link.{Link}
 use Rattle.exact_flows.specs.Links.{AreFlows, branch_of as exact_branch, network_of as exact_network}
+use Rattle.exact_flows.specs.FlowSystems.{IsFlowStop}
 use Rattle.exact_flows.specs.declared.link.Link.{Link as ExactLink}
+use Rattle.exact_flows.specs.declared.stop.FlowStop.{FlowStop}
 use Rattle.factor_maker.specs.Columns.{AreCarried, AreColumn, AreTold, link_of}
 use Rattle.factor_maker.specs.ExactLists.{AreEntries}
 use Rattle.factor_maker.specs.Made.{AreUnits}
@@ -99,22 +101,36 @@ module _ (network : LiveNetwork) (xs : List ℤ) (lost : Option ℕ) (sound : Is
   pub few_kept : length bs ≤ 2000
   few_kept = let h = kept_short lost network.branches in let n = sound.network_is.branch_count in omega (arith, h, n)
 
-  module _ {N : Type 0} (value : N → Fraction) (lines : List (ExactLink N)) (are : map (exact_branch value) lines ≡ map (dc_branch network xs) bs) where
-    pub lines_are : exact_network value (length network.buses) lines ≡ dc
-    lines_are = ap (λ (all : List Branch). record { buses = length network.buses; branches = all }) are
+  pub given_links : {n : ℕ} {links : List Link} → n ≡ length network.buses → links ≡ map (link_of network xs) bs → All (IsLink n) links
+  given_links {n} {links} count is = subst (λ (m : ℕ). All (IsLink m) links) (sym count) (subst (λ (ls : List Link). All (IsLink (length network.buses)) ls) (sym is) are_links)
 
-    pub few_lines : (length network.buses ≤ 1000) × (length lines ≤ 2000)
-    few_lines =
-        let n = sound.network_is.bus_count in
+  module _ {N : Type 0} {value : N → Fraction} {lines : List (ExactLink N)} {n r : ℕ} (count : n ≡ length network.buses) (place : r ≡ network.reference)
+      (are : map (exact_branch value) lines ≡ map (dc_branch network xs) bs) where
+    network_is : exact_network value n lines ≡ dc
+    network_is = ap₂ (λ (m : ℕ) (all : List Branch). record { buses = m; branches = all }) count are
+
+    pub given_few : (n ≤ 1000) × (length lines ≤ 2000)
+    given_few =
+        let b = sound.network_is.bus_count in
         let k = few_kept in
         let e = sym (length-map lines (exact_branch value)) ∙ ap length are ∙ length-map bs (dc_branch network xs) in
-        (omega (arith, n), omega (arith, k, e))
+        (omega (arith, b, count), omega (arith, k, e))
 
-    pub lines_network : IsTheoryNetwork (exact_network value (length network.buses) lines)
-    lines_network = subst IsTheoryNetwork (sym lines_are) (law_of_the_network network xs lost sound).0
+    pub given_network : IsTheoryNetwork (exact_network value n lines)
+    given_network = subst IsTheoryNetwork (sym network_is) (law_of_the_network network xs lost sound).0
 
-    pub lines_connected : IsConnected (exact_network value (length network.buses) lines) network.reference
-    lines_connected = subst (λ (n : Network). IsConnected n network.reference) (sym lines_are) (law_of_the_network network xs lost sound).1
+    pub given_connected : IsConnected (exact_network value n lines) r
+    given_connected = subst (λ (m : Network). IsConnected m r) (sym network_is) (subst (λ (i : ℕ). IsConnected dc i) (sym place) (law_of_the_network network xs lost sound).1)
+
+    pub given_flows : {E : Type 0} (result : Result (List N) E) → IfOk result (AreFlows value (exact_network value n lines) r) → IfOk result (AreFlows value dc network.reference)
+    given_flows result h = subst (λ (i : ℕ). IfOk result (AreFlows value dc i)) place (subst (λ (m : Network). IfOk result (AreFlows value m r)) network_is h)
+
+    pub given_stop : {A : Type 0} (bound : ℕ) (result : Result A (FlowStop N)) → IfErr result (IsFlowStop value bound (exact_network value n lines) r) → IfErr result (IsFlowStop value bound dc network.reference)
+    given_stop bound result h = subst (λ (i : ℕ). IfErr result (IsFlowStop value bound dc i)) place (subst (λ (m : Network). IfErr result (IsFlowStop value bound m r)) network_is h)
+
+  pub given_lines : {N : Type 0} {value : N → Fraction} {slice lines : List (ExactLink N)} {branches : List NetBranch} → slice ≡ lines → branches ≡ bs
+      → map (exact_branch value) lines ≡ map (dc_branch network xs) branches → map (exact_branch value) slice ≡ map (dc_branch network xs) bs
+  given_lines {N} {value} is kept_are are = ap (map (exact_branch value)) is ∙ are ∙ ap (map (dc_branch network xs)) kept_are
 
   -- ---- guesses that tell all
   pub told_column : (guess : Grid) (source sink : ℕ) (places : FactorPlaces) (units : List ℤ) → guess ≡ guess_of network xs lost → source < length network.buses → sink < length network.buses

@@ -1,5 +1,6 @@
 -- 1 over a number of small units.
-use Rattle.std.specs.Prelude.{◌≡◌, ℕ, ◌<◌, ◌*◌, ℤ, pos, ◌*ℤ◌, [], ◌∷◌, refl}
+use Rattle.std.specs.Prelude.{◌≡◌, ℕ, ◌<◌, ◌*◌, ℤ, pos, ◌*ℤ◌, ◌<ℤ◌, [], ◌∷◌, refl}
+use Rattle.std.proofs.lemmas.Int.{ints}
 use Rattle.std.proofs.Common.{arith, ap, sym, ◌∙◌, subst}
 use Rattle.std.proofs.Math.Nat.{mul-pos, zero-lt-suc}
 use Rattle.fraction_theory.specs.Fraction.{Fraction, whole, over, ◌*ℚ◌, recip_ℚ}
@@ -21,3 +22,9 @@ module _ (x : ℤ) (d : ℕ) (above : 0 < d) where
   recip_units u v = by_ring3 ring_ℚ (over x d ∷ whole (pos d) ∷ whole x ∷ recip_ℚ (over x d) ∷ recip_ℚ (whole x) ∷ []) (at 3) (at 1 ⊗ at 4)
       (at 1 ⊗ at 4) (at 0 ⊗ at 3) pone (pneg (at 3)) (at 2 ⊗ at 4) pone (pneg (at 3 ⊗ at 4)) (at 0 ⊗ at 1) (at 2)
       (*ℚ-recip (over x d) u) (*ℚ-recip (whole x) (whole_apart x v)) times_units refl
+
+pub over_apart : (x : ℤ) (d : ℕ) → 0 < d → pos 0 <ℤ x → ¬ (over x d ≡ whole (pos 0))
+unfolding whole
+over_apart x d above positive e =
+    let zero : Is (whole (pos 0)) x d = subst (λ (f : Fraction). Is f x d) e (over_is x d above) in
+    Prim.omega (arith, ints, zero.cross, positive)

@@ -32,7 +32,6 @@ pub(crate) fn guessed_column(
     sink: usize,
     places: FactorPlaces,
 ) -> Result<Option<List<i64>>, Memory>
-    requires ends { (source < guesser.now.buses) × (sink < guesser.now.buses) }
     ensures { IfOk result (λ told. IfSome told (AreTold guesser.now source sink (place_count places))) }
 {
     let guess = guesser.carried(alloc, source, sink, places.count())?;

@@ -60,8 +60,8 @@ pub(crate) fn rounded<N: FactorNumber>(alloc: Global, factors: &[N], places: Fac
     ensures { IfOk result (AllZip (λ factor units. IsNearest (place_count places) (N.value factor) units) factors.now) }
 {
     let mut units = List::new(alloc);
-    for factor in factors {
-        units.push(factor.units(places))?;
+    for place in 0..factors.len() {
+        units.push(factors[place].units(places))?;
     }
     Ok(units)
 }

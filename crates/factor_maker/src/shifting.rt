@@ -102,12 +102,12 @@ fn add_records(
     requires units { (i : ℕ) → i < length columns.now → length (slice_index_or columns.now i []) ≡ length network.now.branches }
     ensures { IfOk result (λ _. records.new ≡ records.old ++ map (shift_made network.now columns.now place) (places_below (length network.now.buses))) }
 {
-    let branch = network.branches().at(place).row;
+    let branch = network.branches().slice()[place].row;
     for bus in 0..network.buses().len() {
         records.push(MadeFactor {
             branch,
             of: bus_number(network, bus),
-            units: *columns[bus].at(place),
+            units: columns[bus].slice()[place],
         })?;
     }
     Ok(())

@@ -72,10 +72,12 @@ pub(crate) fn check_positive<N>(network: &Network, reactances: &Reactances) -> R
     ensures positive { OnOk result (ArePositive reactances.now) }
     ensures stop { IfErr result (λ stop. (row : ℕ) × (stop ≡ why.NotPositive row) × IsFirstNotPositive network.now reactances.now row) }
 {
-    for (place, x) in reactances.slice().iter().enumerate() {
-        if *x <= 0 {
+    let xs = reactances.slice();
+    let branches = network.branches().slice();
+    for place in 0..xs.len() {
+        if xs[place] <= 0 {
             return Err(MakeStop::NotPositive {
-                branch: network.branches().at(place).row,
+                branch: branches[place].row,
             });
         }
     }
