@@ -1,3 +1,4 @@
+mod Columns
 mod ListSteps
 mod Lists
 mod Made

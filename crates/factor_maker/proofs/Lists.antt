@@ -217,8 +217,8 @@ places_below n i c = let r = get_places n c.0 i (get_there (places n) c.0 i c.1 
 pub pairs-places : (P : ℕ → ℕ → Type 0) (n : ℕ) → ((i j : ℕ) → i < j → j < n → P i j) → AllPairs P (places n)
 pairs-places P n h = λ i j d p q.
     let c = length-places n in
-    subst (λ (u : ℕ). P u (get_or (places n) j d)) (sym (here i d (omega (arith, p, q))))
-    (subst (λ (v : ℕ). P i v) (sym (here j d q)) (h i j p (omega (arith, q, c))))
+    subst (λ (u : ℕ). P u (get_or (places n) j d)) (sym (here n i d (omega (arith, p, q))))
+    (subst (λ (v : ℕ). P i v) (sym (here n j d q)) (h i j p (omega (arith, q, c))))
   where
-    here : {n : ℕ} (k d : ℕ) → k < length (places n) → get_or (places n) k d ≡ k
-    here {n} k d lt = let x = place_of (places n) k lt in (at_place (places n) k x.0 d x.1).1 ∙ (get_places n k x.0 x.1).1
+    here : (n k d : ℕ) → k < length (places n) → get_or (places n) k d ≡ k
+    here n k d lt = let x = place_of (places n) k lt in (at_place (places n) k x.0 d x.1).1 ∙ (get_places n k x.0 x.1).1

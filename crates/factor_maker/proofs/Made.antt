@@ -33,7 +33,7 @@ module _ (network : LiveNetwork) (is : IsNetwork network) where
   abbrev shift_key : NetBranch × ℕ → ℕ × ℕ
   shift_key pair = (pair.0.row, bus_number network pair.1)
 
-  shift_apart : AllPairs (λ p q. shift_key p ≢ shift_key q) (shift_pairs network)
+  pub shift_apart : AllPairs (λ p q. shift_key p ≢ shift_key q) (shift_pairs network)
   shift_apart = flat_pairs (λ (l m : NetBranch). l.row ≢ m.row) (λ p q. shift_key p ≢ shift_key q) (λ l. map (λ i. (l, i)) (places_below (length network.buses))) network.branches
       (λ l c. pairs-map (λ p q. shift_key p ≢ shift_key q) (λ i. (l, i)) (places_below (length network.buses))
       (pairs-places (λ i j. shift_key (l, i) ≢ shift_key (l, j)) (length network.buses)
@@ -47,7 +47,7 @@ module _ (network : LiveNetwork) (is : IsNetwork network) where
   abbrev loss_key : NetBranch × NetBranch → ℕ × ℕ
   loss_key pair = (pair.0.row, pair.1.row)
 
-  loss_apart : (lost : List NetBranch) → AllPairs (λ (k m : NetBranch). k.row ≢ m.row) lost → AllPairs (λ p q. loss_key p ≢ loss_key q) (loss_pairs network lost)
+  pub loss_apart : (lost : List NetBranch) → AllPairs (λ (k m : NetBranch). k.row ≢ m.row) lost → AllPairs (λ p q. loss_key p ≢ loss_key q) (loss_pairs network lost)
   loss_apart lost apart = flat_pairs (λ (l m : NetBranch). l.row ≢ m.row) (λ p q. loss_key p ≢ loss_key q) (λ k. map (λ l. (l, k)) (others k.row network.branches)) lost
       (λ k c. pairs-map (λ p q. loss_key p ≢ loss_key q) (λ l. (l, k)) (others k.row network.branches)
       (pairs-weaker (λ (l m : NetBranch). l.row ≢ m.row) (λ (l m : NetBranch). loss_key (l, k) ≢ loss_key (m, k)) (others k.row network.branches) (λ l m h e. h (ap (λ (pair : ℕ × ℕ). pair.0) e))

@@ -47,11 +47,11 @@ kept_short (Some row) branches = shorter (λ (branch : NetBranch). not (branch.r
   where
     shorter : {A : Type 0} (test : A → Bool) (items : List A) → length (filter test items) ≤ length items
     shorter test [] = omega arith
-    shorter test (x ∷ items) = by (test x) x items (shorter test items)
+    shorter test (x ∷ items) = by test (test x) x items (shorter test items)
       where
-        by : {A : Type 0} {test : A → Bool} (b : Bool) (x : A) (items : List A) → length (filter test items) ≤ length items → length (cond b (x ∷ filter test items) (filter test items)) ≤ suc (length items)
-        by true x items h = omega (arith, h)
-        by false x items h = omega (arith, h)
+        by : {A : Type 0} (test : A → Bool) (b : Bool) (x : A) (items : List A) → length (filter test items) ≤ length items → length (cond b (x ∷ filter test items) (filter test items)) ≤ suc (length items)
+        by test true x items h = omega (arith, h)
+        by test false x items h = omega (arith, h)
 
 module _ (network : LiveNetwork) (xs : List ℤ) (lost : Option ℕ) (sound : IsSound network xs lost) where
   abbrev bs : List NetBranch
@@ -101,10 +101,10 @@ module _ (network : LiveNetwork) (xs : List ℤ) (lost : Option ℕ) (sound : Is
   pub few_kept : length bs ≤ 2000
   few_kept = let h = kept_short lost network.branches in let n = sound.network_is.branch_count in omega (arith, h, n)
 
-  pub given_links : {n : ℕ} {links : List Link} → n ≡ length network.buses → links ≡ map (link_of network xs) bs → All (IsLink n) links
-  given_links {n} {links} count is = subst (λ (m : ℕ). All (IsLink m) links) (sym count) (subst (λ (ls : List Link). All (IsLink (length network.buses)) ls) (sym is) are_links)
+  pub given_links : (n : ℕ) (links : List Link) → n ≡ length network.buses → links ≡ map (link_of network xs) bs → All (IsLink n) links
+  given_links n links count is = subst (λ (m : ℕ). All (IsLink m) links) (sym count) (subst (λ (ls : List Link). All (IsLink (length network.buses)) ls) (sym is) are_links)
 
-  module _ {N : Type 0} {value : N → Fraction} {lines : List (ExactLink N)} {n r : ℕ} (count : n ≡ length network.buses) (place : r ≡ network.reference)
+  module _ {N : Type 0} (value : N → Fraction) (lines : List (ExactLink N)) (n r : ℕ) (count : n ≡ length network.buses) (place : r ≡ network.reference)
       (are : map (exact_branch value) lines ≡ map (dc_branch network xs) bs) where
     network_is : exact_network value n lines ≡ dc
     network_is = ap₂ (λ (m : ℕ) (all : List Branch). record { buses = m; branches = all }) count are
@@ -128,9 +128,9 @@ module _ (network : LiveNetwork) (xs : List ℤ) (lost : Option ℕ) (sound : Is
     pub given_stop : {A : Type 0} (bound : ℕ) (result : Result A (FlowStop N)) → IfErr result (IsFlowStop value bound (exact_network value n lines) r) → IfErr result (IsFlowStop value bound dc network.reference)
     given_stop bound result h = subst (λ (i : ℕ). IfErr result (IsFlowStop value bound dc i)) place (subst (λ (m : Network). IfErr result (IsFlowStop value bound m r)) network_is h)
 
-  pub given_lines : {N : Type 0} {value : N → Fraction} {slice lines : List (ExactLink N)} {branches : List NetBranch} → slice ≡ lines → branches ≡ bs
+  pub given_lines : {N : Type 0} (value : N → Fraction) {slice lines : List (ExactLink N)} {branches : List NetBranch} → slice ≡ lines → branches ≡ bs
       → map (exact_branch value) lines ≡ map (dc_branch network xs) branches → map (exact_branch value) slice ≡ map (dc_branch network xs) bs
-  given_lines {N} {value} is kept_are are = ap (map (exact_branch value)) is ∙ are ∙ ap (map (dc_branch network xs)) kept_are
+  given_lines {N} value is kept_are are = ap (map (exact_branch value)) is ∙ are ∙ ap (map (dc_branch network xs)) kept_are
 
   -- ---- guesses that tell all
   pub told_column : (guess : Grid) (source sink : ℕ) (places : FactorPlaces) (units : List ℤ) → guess ≡ guess_of network xs lost → source < length network.buses → sink < length network.buses

@@ -16,6 +16,7 @@ use Rattle.factor_tables.specs.Factors.{FactorRecords}
 use Rattle.factor_tables.specs.Made.{AreApart, AreInBounds, made_entry, made_table}
 use Rattle.factor_tables.specs.declared.made.MadeFactor.{MadeFactor}
 use Rattle.factor_residuals.specs.Residuals.{AreReactances, places as places_below}
+use Rattle.network_theory.specs.Networks.{Network}
 use Rattle.network_theory.specs.Carrying.{IsCarried}
 use Rattle.dc_network.specs.DcNetworks.{ArePositive, IsOutageFactor, IsShiftFactor, dc_branch, dc_network}
 use Rattle.dc_network.specs.Laws.{IsSound}
@@ -34,14 +35,14 @@ places_stand branches = zip-by_places (λ l b. slice_get branches b ≡ Some l) 
 
 -- ---- of a column
 module _ (network : LiveNetwork) (xs : List ℤ) (places : FactorPlaces) where
-  made_at : (branches : List NetBranch) (n : _) (reference source sink of : ℕ) (units : List ℤ) (l : NetBranch) (b : ℕ)
+  made_at : (branches : List NetBranch) (n : Network) (reference source sink of : ℕ) (units : List ℤ) (l : NetBranch) (b : ℕ)
       → n ≡ record { buses = length network.buses; branches = map (dc_branch network xs) branches } → AreColumn n reference source sink places units → slice_get branches b ≡ Some l
       → IsMade places (l.row, of) (IsCarried n reference source sink (dc_branch network xs l)) (made_of branches of units b)
   made_at branches n reference source sink of units l b is column at =
       let here = at_place (map (λ (m : NetBranch). m.row) branches) b l.row 0 (get_map (λ (m : NetBranch). m.row) branches b l at) in
-      let lines = subst (λ m. AreColumn m reference source sink places units) is column in
+      let lines = subst (λ (m : Network). AreColumn m reference source sink places units) is column in
       let count = zip-length (λ br k. AreUnits places (IsCarried n reference source sink br) k) n.branches units column in
-      let long = ap (λ m. length m.branches) is ∙ length-map branches (dc_branch network xs) in
+      let long = ap (λ (m : Network). length m.branches) is ∙ length-map branches (dc_branch network xs) in
       let within = (at_place branches b l l at).0 in
       let unit = place_of units b (omega (arith, count, long, within)) in
       let read = (at_place units b unit.0 (pos 0) unit.1).1 in
@@ -49,7 +50,7 @@ module _ (network : LiveNetwork) (xs : List ℤ) (places : FactorPlaces) where
         pair_is = ap (λ (r : ℕ). (r, of)) here.1;
         units = subst (λ (k : ℤ). AreUnits places (IsCarried n reference source sink (dc_branch network xs l)) k) (sym read)
             (zip-at (λ br k. AreUnits places (IsCarried n reference source sink br) k) n.branches units column b (dc_branch network xs l) unit.0
-            (ap (λ m. slice_get m.branches b) is ∙ get_map (dc_branch network xs) branches b l at) unit.1);
+            (ap (λ (m : Network). slice_get m.branches b) is ∙ get_map (dc_branch network xs) branches b l at) unit.1);
       }
 
   -- ---- shift factors

@@ -11,6 +11,8 @@ use Rattle.net_paths.specs.Detours.{IsBranchOf}
 use Rattle.network_theory.specs.Networks.{Branch, Network}
 use Rattle.network_theory.specs.Carrying.{IsCarried}
 use Rattle.exact_flows.specs.FlowSystems.{IsFlowPassed}
+use Rattle.exact_flows.specs.declared.stop.FlowStop.{FlowStop}
+use Rattle.exact_flows.specs.declared.stop.FlowStop.TheVariants as flow_stop
 use Rattle.dc_network.specs.DcNetworks.{ArePositive, dc_network}
 use Rattle.factor_maker.specs.declared.stops.MakeStop.{MakeStop}
 use Rattle.factor_maker.specs.declared.stops.MakeStop.TheVariants as stop
@@ -62,6 +64,11 @@ OnMakePassed P (stop.TooMany many) = ⊥
 OnMakePassed P (stop.NotPositive row) = ⊥
 OnMakePassed P (stop.Passed e) = P e
 OnMakePassed P stop.Memory = Unit {0}
+
+-- why there are no exact flows, as why no factors are made
+abbrev pub made_stop : {N : Type 0} → FlowStop N → MakeStop N
+made_stop (flow_stop.Passed e) = stop.Passed e
+made_stop flow_stop.Memory = stop.Memory
 
 -- There are too many factors; or else some reactance is not above 0; or else numbers became too large, of which P holds.
 abbrev pub StopsAt : {N : Type 0} → ℕ → LiveNetwork → List ℤ → (PassedPair N → Type 0) → MakeStop N → Type 0

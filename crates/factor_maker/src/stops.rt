@@ -4,7 +4,7 @@ ghost use Rattle.std.specs.Prelude.{◌≡◌, ◌<◌, ◌≤◌, ◌*◌, ℕ,
 ghost use Rattle.market_data.specs.Scales.{most_lines};
 ghost use Rattle.dc_network.specs.DcNetworks.{ArePositive};
 ghost use Rattle.factor_residuals.specs.Residuals.{AreReactances};
-ghost use Rattle.factor_maker.specs.Stops.{IsFirstNotPositive, most_made};
+ghost use Rattle.factor_maker.specs.Stops.{IsFirstNotPositive, made_stop, most_made};
 ghost use Rattle.factor_maker.specs.declared.stops.MakeStop.TheVariants as why;
 
 use exact_flows::FlowStop;
@@ -44,7 +44,9 @@ impl<N> From<Passed<N>> for MakeStop<N> {
 }
 
 /// Why there are no exact flows, as why no factors are made.
-pub(crate) fn flow_stop<N>(stop: FlowStop<N>) -> MakeStop<N> {
+pub(crate) fn flow_stop<N>(stop: FlowStop<N>) -> MakeStop<N>
+    ensures { result ≡ made_stop stop }
+{
     match stop {
         FlowStop::Passed(passed) => MakeStop::Passed(passed),
         FlowStop::Memory => MakeStop::Memory,

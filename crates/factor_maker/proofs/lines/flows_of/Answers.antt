@@ -12,34 +12,34 @@ pub exact_flows-requires-clause-few : goal.exact_flows-requires-clause-few
 exact_flows-requires-clause-few c =
     let network = c.args.network.now in
     let xs = c.args.reactances.now in
-    given_few network xs c.args.lost c.requires.sound (c.len.ensures ∙ ap length c.buses.ensures.list) c.reference.ensures.place
-    (given_lines network xs c.args.lost c.requires.sound c.slice-2.ensures (c.slice.ensures ∙ c.in_ok-branches.ensures) c.in_ok-lines.ensures)
+    given_few network xs c.args.lost c.requires.sound _ c.slice-2.result.now c.len.result c.reference.result (c.len.ensures ∙ ap length c.buses.ensures.list) c.reference.ensures.place
+    (given_lines network xs c.args.lost c.requires.sound _ c.slice-2.ensures (c.slice.ensures ∙ c.in_ok-branches.ensures) c.in_ok-lines.ensures)
 
 pub exact_flows-requires-clause-network : goal.exact_flows-requires-clause-network
 exact_flows-requires-clause-network c =
     let network = c.args.network.now in
     let xs = c.args.reactances.now in
-    given_network network xs c.args.lost c.requires.sound (c.len.ensures ∙ ap length c.buses.ensures.list) c.reference.ensures.place
-    (given_lines network xs c.args.lost c.requires.sound c.slice-2.ensures (c.slice.ensures ∙ c.in_ok-branches.ensures) c.in_ok-lines.ensures)
+    given_network network xs c.args.lost c.requires.sound _ c.slice-2.result.now c.len.result c.reference.result (c.len.ensures ∙ ap length c.buses.ensures.list) c.reference.ensures.place
+    (given_lines network xs c.args.lost c.requires.sound _ c.slice-2.ensures (c.slice.ensures ∙ c.in_ok-branches.ensures) c.in_ok-lines.ensures)
 
 pub exact_flows-requires-clause-connected : goal.exact_flows-requires-clause-connected
 exact_flows-requires-clause-connected c =
     let network = c.args.network.now in
     let xs = c.args.reactances.now in
-    given_connected network xs c.args.lost c.requires.sound (c.len.ensures ∙ ap length c.buses.ensures.list) c.reference.ensures.place
-    (given_lines network xs c.args.lost c.requires.sound c.slice-2.ensures (c.slice.ensures ∙ c.in_ok-branches.ensures) c.in_ok-lines.ensures)
+    given_connected network xs c.args.lost c.requires.sound _ c.slice-2.result.now c.len.result c.reference.result (c.len.ensures ∙ ap length c.buses.ensures.list) c.reference.ensures.place
+    (given_lines network xs c.args.lost c.requires.sound _ c.slice-2.ensures (c.slice.ensures ∙ c.in_ok-branches.ensures) c.in_ok-lines.ensures)
 
 pub returns-clause-flows : goal.returns-clause-flows
 returns-clause-flows c =
     let network = c.args.network.now in
     let xs = c.args.reactances.now in
-    given_flows network xs c.args.lost c.requires.sound (c.len.ensures ∙ ap length c.buses.ensures.list) c.reference.ensures.place
-    (given_lines network xs c.args.lost c.requires.sound c.slice-2.ensures (c.slice.ensures ∙ c.in_ok-branches.ensures) c.in_ok-lines.ensures) c.exact_flows.result c.exact_flows.ensures.flows
+    given_flows network xs c.args.lost c.requires.sound _ c.slice-2.result.now c.len.result c.reference.result (c.len.ensures ∙ ap length c.buses.ensures.list) c.reference.ensures.place
+    (given_lines network xs c.args.lost c.requires.sound _ c.slice-2.ensures (c.slice.ensures ∙ c.in_ok-branches.ensures) c.in_ok-lines.ensures) c.exact_flows.result c.exact_flows.ensures.flows
 
 pub returns-clause-stop : goal.returns-clause-stop
 returns-clause-stop c =
     let network = c.args.network.now in
     let xs = c.args.reactances.now in
-    given_stop network xs c.args.lost c.requires.sound (c.len.ensures ∙ ap length c.buses.ensures.list) c.reference.ensures.place
-    (given_lines network xs c.args.lost c.requires.sound c.slice-2.ensures (c.slice.ensures ∙ c.in_ok-branches.ensures) c.in_ok-lines.ensures)
+    given_stop network xs c.args.lost c.requires.sound _ c.slice-2.result.now c.len.result c.reference.result (c.len.ensures ∙ ap length c.buses.ensures.list) c.reference.ensures.place
+    (given_lines network xs c.args.lost c.requires.sound _ c.slice-2.ensures (c.slice.ensures ∙ c.in_ok-branches.ensures) c.in_ok-lines.ensures)
     170141183460469231731687303715884105727 c.exact_flows.result c.exact_flows.ensures.pair

@@ -7,5 +7,5 @@ pub new-requires : goal.new-requires
 new-requires c =
     let network = c.args.network.now in
     let xs = c.args.reactances.now in
-    given_links network xs c.args.lost c.requires.sound (c.len.ensures ∙ ap length c.buses.ensures.list)
+    given_links network xs c.args.lost c.requires.sound c.len.result c.slice-2.result.now (c.len.ensures ∙ ap length c.buses.ensures.list)
     (c.slice-2.ensures ∙ c.in_ok-links.ensures ∙ ap (map (link_of network xs)) (c.slice.ensures ∙ c.in_ok-branches.ensures))
