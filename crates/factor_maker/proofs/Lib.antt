@@ -1,4 +1,4 @@
-mod Columns
+mod ColumnLemmas
 mod ListSteps
 mod Lists
 mod Made
