@@ -1,6 +1,7 @@
 //! Outage factors.
 
 ghost use Rattle.std.specs.Prelude.{◌≡◌, ◌<◌, ◌≤◌, ◌++◌, ℕ, List, length, map, All, IfErr, IfOk, Some};
+ghost use Rattle.net_case.specs.Networks.{IsNetwork};
 ghost use Rattle.net_case.specs.declared.live_parts.NetBranch.{NetBranch};
 ghost use Rattle.factor_tables.specs.declared.made.MadeFactor.{MadeFactor};
 ghost use Rattle.net_paths.specs.Connection.{JoinAll};
@@ -126,6 +127,7 @@ fn records_of(
     outages: &Outages,
     places: FactorPlaces,
 ) -> Result<List<MadeFactor>, MakeStop<Frac>>
+    requires network { IsNetwork network.now }
     requires reactances { AreReactances network.now reactances.now }
     requires positive { ArePositive reactances.now }
     requires joined { JoinAll network.now.branches (length network.now.buses) }
