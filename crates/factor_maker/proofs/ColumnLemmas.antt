@@ -1,13 +1,12 @@
 -- Columns one by one, and exact columns as differences.
-use Rattle.std.proofs.Common.{◌≡◌, ◌∙◌, ◌<◌, ◌≤◌, ◌+◌, ◌++◌, ◌∷◌, [], ℕ, ℤ, List, length, sym, ap, subst, refl, arith, Some, Option, inl, inr}
+use Rattle.std.proofs.Common.{◌≡◌, ◌∙◌, ◌+◌, ◌++◌, ◌∷◌, [], ℕ, ℤ, List, length, sym, ap, subst, arith}
 use Rattle.std.proofs.Math.Logic.{⊎_elim}
 use Rattle.std.proofs.lemmas.List.{length-append}
-use Rattle.std.specs.Prelude.{Contains, slice_get, slice_index_or, Result, Ok, Err, IfErr, IfOk}
-use Rattle.std.specs.List.{AllZip}
-use Rattle.fraction_theory.specs.Fraction.{Fraction, ◌-ℚ◌}
+use Rattle.std.specs.Prelude.{Result, Ok, Err, IfErr}
+use Rattle.fraction_theory.specs.Fraction.{Fraction}
 use Rattle.exact_fraction.specs.declared.Passed.{Passed}
 use Rattle.market_data.specs.declared.scales.FactorPlaces.{FactorPlaces}
-use Rattle.network_theory.specs.Networks.{Branch, Network}
+use Rattle.network_theory.specs.Networks.{Network}
 use Rattle.network_theory.specs.Carrying.{IsCarried}
 use Rattle.exact_flows.specs.FlowSystems.{IsFlowPassed, IsFlowStop}
 use Rattle.exact_flows.specs.declared.stop.FlowStop.{FlowStop}
@@ -26,15 +25,18 @@ module _ (n : Network) (reference : ℕ) (places : FactorPlaces) where
 
   pub columns_more : (columns new : List (List ℤ)) (column : List ℤ) (bus : ℕ) → length columns ≡ bus → AreColumns n reference places columns → AreColumn n reference bus reference places column
       → new ≡ columns ++ column ∷ [] → (length new ≡ bus + 1) × AreColumns n reference places new
-  columns_more columns new column bus count are here is =
-      (ap length is ∙ length-append columns (column ∷ []) ∙ (omega (arith, count)),
-      subst (AreColumns n reference places) (sym is) (record { each = λ i lt.
-      let y = place_of (columns ++ column ∷ []) i lt in
-      let at = (at_place (columns ++ column ∷ []) i y.0 [] y.1).1 in
-      ⊎_elim
-      (λ h. let old = at_place columns i y.0 [] h in subst (λ (c : List ℤ). AreColumn n reference i reference places c) (old.1 ∙ sym at) (are.each i old.0))
-      (λ h. subst (λ (c : List ℤ). AreColumn n reference i reference places c) (sym h.1 ∙ sym at) (subst (λ (k : ℕ). AreColumn n reference k reference places column) (sym (h.0 ∙ count)) here))
-      (get_last columns column i y.0 y.1) }))
+  columns_more columns new column bus count are here is = (
+    ap length is ∙ length-append columns (column ∷ []) ∙ (omega (arith, count)),
+    subst (AreColumns n reference places) (sym is) (record {
+      each = λ i lt.
+          let y = place_of (columns ++ column ∷ []) i lt in
+          let at = (at_place (columns ++ column ∷ []) i y.0 [] y.1).1 in
+          ⊎_elim
+          (λ h. let old = at_place columns i y.0 [] h in subst (λ (c : List ℤ). AreColumn n reference i reference places c) (old.1 ∙ sym at) (are.each i old.0))
+          (λ h. subst (λ (c : List ℤ). AreColumn n reference i reference places c) (sym h.1 ∙ sym at) (subst (λ (k : ℕ). AreColumn n reference k reference places column) (sym (h.0 ∙ count)) here))
+          (get_last columns column i y.0 y.1);
+    }),
+  )
 
 module _ {N : Type 0} (value : N → Fraction) (n : Network) (reference source sink : ℕ) (left right : List N)
     (from_source : AreCarried value n reference source reference left) (from_sink : AreCarried value n reference sink reference right) where

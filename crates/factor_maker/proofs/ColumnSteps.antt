@@ -1,5 +1,5 @@
 -- Columns that are told by a guess, columns of buses by exact fractions, and the records of both.
-use Rattle.std.proofs.Common.{◌≡◌, ◌∙◌, ◌<◌, ◌≤◌, ◌*◌, ◌+◌, ◌++◌, ◌∷◌, [], ℕ, ℤ, pos, List, length, map, take, sym, ap, subst, refl, arith, Option, Some, None, get_or}
+use Rattle.std.proofs.Common.{◌≡◌, ◌∙◌, ◌<◌, ◌≤◌, ◌*◌, ◌+◌, ◌++◌, ◌∷◌, [], ℕ, ℤ, pos, List, length, map, take, sym, ap, subst, Option, Some, None, get_or}
 use mathlib.Core.Path.{ap₂}
 use Rattle.std.specs.Prelude.{All, Contains, IfSome, Result, Err, IfErr, slice_index_or}
 use Rattle.std.specs.List.{AllZip}
@@ -9,7 +9,6 @@ use Rattle.fraction_theory.specs.Fraction.{Fraction, whole}
 use Rattle.fraction_theory.specs.Order.{◌≤ℚ◌}
 use Rattle.fraction_theory.specs.Signs.{abs_ℚ}
 use Rattle.exact_fraction.specs.Nearest.{IsNearest}
-use Rattle.exact_fraction.specs.declared.Passed.{Passed}
 use Rattle.market_data.specs.Scales.{place_count}
 use Rattle.market_data.specs.declared.scales.FactorPlaces.{FactorPlaces}
 use Rattle.net_case.specs.Networks.{LiveNetwork, IsNetBranch}
@@ -24,13 +23,13 @@ use Rattle.dc_network.specs.DcNetworks.{ArePositive, dc_branch, dc_network}
 use Rattle.dc_network.specs.Laws.{IsSound}
 use Rattle.flow_guess.specs.Links.{Grid}
 use Rattle.exact_flows.specs.Links.{AreFlows}
-use Rattle.exact_flows.specs.FlowSystems.{IsFlowPassed, IsFlowStop}
+use Rattle.exact_flows.specs.FlowSystems.{IsFlowStop}
 use Rattle.exact_flows.specs.declared.stop.FlowStop.{FlowStop}
 use Rattle.exact_flows.specs.declared.stop.FlowStop.TheVariants as flow
 use Rattle.factor_maker.specs.Columns.{AreCarried, AreColumn, AreLossRecords, AreOutageRecords, AreTold, made_of, shift_made}
 use Rattle.factor_maker.specs.ExactLists.{AreEntries}
 use Rattle.factor_maker.specs.Made.{AreUnits}
-use Rattle.factor_maker.specs.Stops.{IsOutagePair, IsPairOfOne, IsShiftStop, OnMakePassed, made_stop, most_made, shift_count}
+use Rattle.factor_maker.specs.Stops.{IsOutagePair, IsPairOfOne, IsShiftStop, OnMakePassed, made_stop, most_made}
 use Rattle.factor_maker.specs.declared.stops.MakeStop.{MakeStop}
 use Rattle.factor_maker.proofs.ColumnLemmas.{on_weaker}
 use Rattle.factor_maker.proofs.Lists.{zip-length}
@@ -99,10 +98,13 @@ module _ (network : LiveNetwork) (xs : List ℤ) (places : FactorPlaces) where
 
   pub added_outage : (outage : ℕ) (k : NetBranch) (old new : List MadeFactor) (units read : List ℤ) (branches list : List NetBranch) → IsBranchOf network outage k → AreColumn (dc_network network xs (Some k.row)) network.reference k.from k.to places units
       → read ≡ units → list ≡ branches → branches ≡ kept (Some k.row) network.branches → new ≡ old ++ map (made_of list k.row read) (places_below (length list)) → AddsOutage outage old new
-  added_outage outage k old new units read branches list of column same is are added =
-      (k, of, map (made_of (kept (Some k.row) network.branches) k.row units) (places_below (length (kept (Some k.row) network.branches))),
-      added ∙ ap₂ (λ (bs : List NetBranch) (us : List ℤ). old ++ map (made_of bs k.row us) (places_below (length bs))) (is ∙ are) same,
-      outage_records network xs places k units column)
+  added_outage outage k old new units read branches list of column same is are added = (
+    k,
+    of,
+    map (made_of (kept (Some k.row) network.branches) k.row units) (places_below (length (kept (Some k.row) network.branches))),
+    added ∙ ap₂ (λ (bs : List NetBranch) (us : List ℤ). old ++ map (made_of bs k.row us) (places_below (length bs))) (is ∙ are) same,
+    outage_records network xs places k units column,
+  )
 
   pub outage_more : (outages list : List ℕ) (i : ℕ) (old new : List MadeFactor) → list ≡ outages → i < length list → AreLossRecords network xs places (take i outages) old → AddsOutage (slice_index_or list i 0) old new
       → AreLossRecords network xs places (take (i + 1) outages) new

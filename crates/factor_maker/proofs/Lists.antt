@@ -1,5 +1,5 @@
 -- Lists side by side, and pairs of lists.
-use Rattle.std.proofs.Common.{◌≡◌, ◌≢◌, ◌∙◌, ◌<◌, ◌+◌, ℕ, zero, suc, List, [], ◌∷◌, ◌++◌, length, map, get_or, sym, ap, subst, refl, arith, inl, inr, Option, Some, None}
+use Rattle.std.proofs.Common.{◌≡◌, ◌∙◌, ◌<◌, ℕ, zero, suc, List, [], ◌∷◌, ◌++◌, length, map, get_or, sym, ap, subst, refl, arith, inl, inr, Option, Some, None}
 use Rattle.std.specs.Prelude.{All, AllPairs, Contains, ◌⊎◌, slice_get}
 use mathlib.Core.Path.{ap₂}
 use Rattle.std.proofs.Math.Logic.{⊎_elim}

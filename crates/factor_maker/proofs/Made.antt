@@ -1,7 +1,7 @@
 -- The pairs of the records of tables that are made: no two are one, and no factor is too great.
-use Rattle.std.proofs.Common.{◌≡◌, ◌≢◌, ◌∙◌, ◌<◌, ◌≤◌, ◌*◌, ℕ, ℤ, pos, List, [], length, map, sym, ap, subst, refl, arith, Some, None, get_or, unsigned_abs}
-use Rattle.std.specs.Prelude.{All, AllPairs, Contains, slice_get, slice_index_or, not, ◌==◌}
-use Rattle.std.specs.List.{AllZip, flat_map}
+use Rattle.std.proofs.Common.{◌≡◌, ◌≢◌, ◌∙◌, ◌<◌, ◌≤◌, ◌*◌, ℕ, pos, List, length, map, sym, ap, arith, unsigned_abs}
+use Rattle.std.specs.Prelude.{AllPairs, Contains, not, ◌==◌}
+use Rattle.std.specs.List.{AllZip}
 use Rattle.std.proofs.lemmas.List.{length-map}
 use Rattle.std.proofs.lemmas.List.Kept.{AllPairs-filter}
 use Rattle.fraction_theory.specs.Fraction.{Fraction, whole}
@@ -10,18 +10,14 @@ use Rattle.market_data.specs.declared.scales.FactorPlaces.{FactorPlaces}
 use Rattle.net_case.specs.Networks.{LiveNetwork, IsNetwork}
 use Rattle.net_case.specs.declared.live_parts.NetBranch.{NetBranch}
 use Rattle.net_paths.specs.Connection.{bus_number}
-use Rattle.net_paths.specs.Detours.{IsBranchOf, others}
-use Rattle.factor_tables.specs.Made.{AreApart, AreInBounds, made_entry, made_pair}
+use Rattle.net_paths.specs.Detours.{others}
+use Rattle.factor_tables.specs.Made.{AreApart, AreInBounds, made_pair}
 use Rattle.factor_tables.specs.declared.made.MadeFactor.{MadeFactor}
 use Rattle.factor_residuals.specs.Residuals.{places as places_below}
-use Rattle.network_theory.specs.Carrying.{IsCarried}
-use Rattle.dc_network.specs.DcNetworks.{IsOutageFactor, IsShiftFactor, dc_branch, dc_network}
-use Rattle.dc_network.specs.Laws.{IsSound}
-use Rattle.dc_network.proofs.Carried.{law_of_one_factor}
 use Rattle.dc_network.proofs.Connection.{kept_live}
-use Rattle.factor_maker.specs.Columns.{AreColumns, AreColumn, AreLossRecords, AreOutageRecords, IsLossMade, IsMade, IsShiftMade, made_of, shift_made}
-use Rattle.factor_maker.specs.Made.{AreUnits, IsLossEntry, IsMadeLoss, IsMadeShift, IsRounded, IsShiftEntry, loss_pairs, shift_pairs}
-use Rattle.factor_maker.proofs.Lists.{all-by_members, at_place, flat_contains, flat_pairs, get_map, get_places, length-places, pairs-map, pairs-of_map, pairs-places, pairs-weaker, place_of, zip-all, zip-at, zip-by_places, zip-flat, zip-length, zip-map, zip-of_map, zip-same, zip_pairs}
+use Rattle.factor_maker.specs.Columns.{IsMade}
+use Rattle.factor_maker.specs.Made.{loss_pairs, shift_pairs}
+use Rattle.factor_maker.proofs.Lists.{all-by_members, flat_pairs, pairs-map, pairs-of_map, pairs-places, pairs-weaker, zip-all, zip_pairs}
 use Rattle.factor_maker.proofs.Sizes.{units_small}
 
 -- ---- no two pairs are one

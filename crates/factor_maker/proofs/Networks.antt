@@ -1,12 +1,12 @@
 -- The network of live branches as guesses take it, and columns that are told of it.
-use Rattle.std.proofs.Common.{◌≡◌, ◌∙◌, ◌<◌, ◌≤◌, ◌*◌, ◌+◌, ◌^◌, ℕ, ℤ, pos, suc, Bool, true, false, cond, List, [], ◌∷◌, length, map, sym, ap, subst, refl, arith, inl, inr, Option, Some, None}
+use Rattle.std.proofs.Common.{◌≡◌, ◌∙◌, ◌<◌, ◌≤◌, ◌^◌, ℕ, ℤ, pos, suc, Bool, true, false, cond, List, [], ◌∷◌, length, map, sym, ap, subst, refl, arith, Option, Some, None}
 use mathlib.Core.Path.{ap₂}
 use Rattle.std.specs.Prelude.{All, Contains, filter, not, ◌==◌, ◌<ℤ◌, slice_get, Result, Ok, Err, IfOk, IfErr, IfSome}
 use Rattle.std.specs.List.{AllZip}
 use Rattle.std.proofs.lemmas.Int.{ints}
 use Rattle.std.proofs.lemmas.List.{length-map}
 use Rattle.std.proofs.lemmas.List.Elements.{All-contains}
-use Rattle.fraction_theory.specs.Fraction.{Fraction, whole, over, recip_ℚ, ◌*ℚ◌}
+use Rattle.fraction_theory.specs.Fraction.{Fraction, whole, over}
 use Rattle.fraction_theory.specs.Order.{◌≤ℚ◌}
 use Rattle.fraction_theory.specs.Signs.{abs_ℚ}
 use Rattle.exact_fraction.specs.Nearest.{IsNearest}
@@ -16,7 +16,7 @@ use Rattle.net_case.specs.Networks.{LiveNetwork, IsNetBranch}
 use Rattle.net_case.specs.declared.live_parts.NetBranch.{NetBranch}
 use Rattle.net_paths.specs.Loops.{kept}
 use Rattle.factor_residuals.specs.Kirchhoff.{reactance_at}
-use Rattle.network_theory.specs.Networks.{Branch, Network, StandsAt, IsNetwork as IsTheoryNetwork, IsConnected}
+use Rattle.network_theory.specs.Networks.{Branch, Network, IsNetwork as IsTheoryNetwork, IsConnected}
 use Rattle.network_theory.specs.Carrying.{IsCarried}
 use Rattle.dc_network.specs.DcNetworks.{dc_branch, dc_network}
 use Rattle.dc_network.specs.Laws.{IsSound}
@@ -33,7 +33,7 @@ use Rattle.exact_flows.specs.declared.stop.FlowStop.{FlowStop}
 use Rattle.factor_maker.specs.Columns.{AreCarried, AreColumn, AreTold, link_of}
 use Rattle.factor_maker.specs.ExactLists.{AreEntries}
 use Rattle.factor_maker.specs.Made.{AreUnits}
-use Rattle.factor_maker.proofs.Lists.{all-by_members, at_place, get_contains, get_map, map-members, zip-all, zip-at, zip-by_places, zip-length, zip-of_map, zip-through}
+use Rattle.factor_maker.proofs.Lists.{all-by_members, at_place, get_contains, get_map, map-members, zip-all, zip-by_places, zip-of_map, zip-through}
 use Rattle.factor_maker.proofs.Recips.{recip_units}
 use Rattle.factor_maker.proofs.Scaling.{carried_scaled, scaled}
 

@@ -1,6 +1,6 @@
 -- The column of a lost branch by exact fractions: what goes from each of its ends to the reference, and the differences.
-use Rattle.std.proofs.Common.{◌≡◌, ◌∙◌, ◌<◌, ◌≤◌, ◌*◌, ◌+◌, ℕ, ℤ, List, length, sym, ap, subst, arith, Some, inl, inr}
-use Rattle.std.specs.Prelude.{All, Contains, pos, Result, Err, IfErr}
+use Rattle.std.proofs.Common.{◌≡◌, ◌∙◌, ◌<◌, ◌≤◌, ℕ, ℤ, List, length, sym, subst, arith, Some, inl, inr}
+use Rattle.std.specs.Prelude.{All, pos, Result, Err, IfErr}
 use Rattle.std.specs.List.{AllZip}
 use Rattle.std.proofs.lemmas.List.{length-map}
 use Rattle.std.proofs.lemmas.List.Elements.{All-contains}

@@ -1,7 +1,7 @@
 -- 1 over a number of small units.
 use Rattle.std.specs.Prelude.{◌≡◌, ℕ, ◌<◌, ◌*◌, ℤ, pos, ◌*ℤ◌, ◌<ℤ◌, [], ◌∷◌, refl}
 use Rattle.std.proofs.lemmas.Int.{ints}
-use Rattle.std.proofs.Common.{arith, ap, sym, ◌∙◌, subst}
+use Rattle.std.proofs.Common.{arith, ap, subst}
 use Rattle.std.proofs.Math.Nat.{mul-pos, zero-lt-suc}
 use Rattle.fraction_theory.specs.Fraction.{Fraction, whole, over, ◌*ℚ◌, recip_ℚ}
 use Rattle.fraction_theory.proofs.Ring.{by_ring3, at, pone, pneg, ◌⊗◌}

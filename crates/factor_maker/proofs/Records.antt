@@ -1,11 +1,9 @@
 -- The records of tables that are made, from their columns.
-use Rattle.std.proofs.Common.{◌≡◌, ◌≢◌, ◌∙◌, ◌<◌, ◌≤◌, ◌*◌, ◌++◌, ◌∷◌, ℕ, ℤ, pos, List, [], length, map, sym, ap, subst, refl, arith, Some, None, get_or}
-use mathlib.Core.Path.{ap₂}
-use Rattle.std.specs.Prelude.{All, AllPairs, Contains, slice_get, slice_index_or}
+use Rattle.std.proofs.Common.{◌≡◌, ◌≢◌, ◌∙◌, ◌<◌, ◌++◌, ◌∷◌, ℕ, ℤ, pos, List, [], length, map, sym, ap, subst, refl, arith, Some, None}
+use Rattle.std.specs.Prelude.{AllPairs, Contains, slice_get, slice_index_or}
 use Rattle.std.specs.List.{AllZip, flat_map}
 use Rattle.std.proofs.lemmas.List.{length-map}
 use Rattle.std.proofs.lemmas.Grind.{flat_map-append}
-use Rattle.fraction_theory.specs.Fraction.{Fraction, whole}
 use Rattle.market_data.specs.declared.scales.FactorPlaces.{FactorPlaces}
 use Rattle.net_case.specs.Networks.{LiveNetwork, IsNetwork}
 use Rattle.net_case.specs.declared.live_parts.NetBranch.{NetBranch}
@@ -22,7 +20,7 @@ use Rattle.dc_network.specs.DcNetworks.{ArePositive, IsOutageFactor, IsShiftFact
 use Rattle.dc_network.specs.Laws.{IsSound}
 use Rattle.dc_network.proofs.Connection.{Contains-from_map, Contains-map}
 use Rattle.factor_maker.specs.Columns.{AreColumns, AreColumn, AreLossRecords, AreOutageRecords, IsLossMade, IsMade, IsShiftMade, made_of, shift_made}
-use Rattle.factor_maker.specs.Made.{AreUnits, IsLossEntry, IsMadeLoss, IsMadeShift, IsRounded, IsShiftEntry, loss_pairs, shift_pairs}
+use Rattle.factor_maker.specs.Made.{AreUnits, IsLossEntry, IsMadeLoss, IsMadeShift, IsShiftEntry, loss_pairs, shift_pairs}
 use Rattle.factor_maker.proofs.Lists as lists
 use Rattle.factor_maker.proofs.Lists.{at_place, get_map, get_places, length-places, place_of, zip-all, zip-append, zip-at, zip-by_places, zip-flat, zip-last, zip-length, zip-map, zip-of_map, zip-same, zip_pairs}
 use Rattle.factor_maker.proofs.Made.{are_apart, are_small, loss_apart, shift_apart}

@@ -1,5 +1,5 @@
 -- What is carried does not change where all susceptances are scaled by one factor.
-use Rattle.std.specs.Prelude.{◌≡◌, ℕ, ◌<◌, ◌==◌, pos, List, [], ◌∷◌, map, refl}
+use Rattle.std.specs.Prelude.{◌≡◌, ℕ, ◌==◌, pos, List, [], ◌∷◌, map, refl}
 use Rattle.std.proofs.Common.{ap, sym, ◌∙◌}
 use mathlib.Core.Path.{ap₂}
 use Rattle.fraction_theory.specs.Fraction.{Fraction, whole, ◌+ℚ◌, ◌-ℚ◌, ◌*ℚ◌}

@@ -1,13 +1,12 @@
 -- The nearest units of a number whose size is at most 1.
 use Rattle.std.proofs.Common.{◌≡◌, ◌∙◌, ◌≤◌, ◌*◌, ◌^◌, ℕ, ℤ, pos, unsigned_abs, [], ◌∷◌, sym, ap, subst, refl, arith}
-use mathlib.Core.Path.{ap₂}
 use Rattle.std.specs.Prelude.{◌≤ℤ◌, neg_ℤ}
 use Rattle.std.proofs.Common.{inl, inr}
 use Rattle.std.proofs.lemmas.Int.{ints}
-use Rattle.fraction_theory.specs.Fraction.{Fraction, whole, ◌*ℚ◌, ◌-ℚ◌, neg_ℚ}
-use Rattle.fraction_theory.specs.Order.{◌≤ℚ◌, NonNeg}
+use Rattle.fraction_theory.specs.Fraction.{Fraction, whole, ◌-ℚ◌, neg_ℚ}
+use Rattle.fraction_theory.specs.Order.{◌≤ℚ◌}
 use Rattle.fraction_theory.specs.Signs.{abs_ℚ}
-use Rattle.fraction_theory.proofs.Ring.{at, pnil, pone, pneg, ◌⊕◌, ◌⊗◌, by_ring}
+use Rattle.fraction_theory.proofs.Ring.{at, pnil, pone, pneg, ◌⊗◌, by_ring}
 use Rattle.fraction_theory.proofs.FieldLaws.{ring_ℚ, *ℚ_one, whole-neg}
 use Rattle.fraction_theory.proofs.FractionLaws.{over_is}
 use Rattle.fraction_theory.proofs.OrderLaws.{≤ℚ-or-<ℚ, <ℚ-≤ℚ, ≤ℚ_trans, ≤ℚ_refl, ≤ℚ_of_same, by_le1, by_le2, NonNeg-one, NonNeg_to}

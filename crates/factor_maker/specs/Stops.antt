@@ -1,8 +1,7 @@
 -- Why no factors are made.
-use Rattle.std.specs.Prelude.{◌≡◌, ℕ, ◌<◌, ◌≤◌, ◌*◌, ℤ, pos, ◌≤ℤ◌, List, ◌∷◌, ◌++◌, ◌⊎◌, length, map, Contains, Option, Some, None, slice_index_or}
+use Rattle.std.specs.Prelude.{◌≡◌, ℕ, ◌<◌, ◌≤◌, ◌*◌, ℤ, pos, ◌≤ℤ◌, List, ◌∷◌, ◌++◌, ◌⊎◌, length, map, Contains, Some, None, slice_index_or}
 use Rattle.fraction_theory.specs.Fraction.{Fraction}
 use Rattle.exact_fraction.specs.Passes.{Passes}
-use Rattle.exact_fraction.specs.declared.Op.{Op}
 use Rattle.exact_fraction.specs.declared.Op.TheVariants.{Minus}
 use Rattle.exact_fraction.specs.declared.Passed.{Passed as PassedPair}
 use Rattle.net_case.specs.Networks.{LiveNetwork}

@@ -55,7 +55,11 @@ pub(crate) fn differences<N: Exact>(
 }
 
 /// The nearest units of exact factors.
-pub(crate) fn rounded<N: FactorNumber>(alloc: Global, factors: &[N], places: FactorPlaces) -> Result<List<i64>, Memory>
+pub(crate) fn rounded<N: FactorNumber>(
+    alloc: Global,
+    factors: &[N],
+    places: FactorPlaces,
+) -> Result<List<i64>, Memory>
     requires sizes { All (λ factor. abs_ℚ (N.value factor) ≤ℚ whole (pos 1)) factors.now }
     ensures { IfOk result (AllZip (λ factor units. IsNearest (place_count places) (N.value factor) units) factors.now) }
 {

@@ -80,14 +80,19 @@ pub(crate) fn guesser_of(
 ) -> Result<Guesser, Memory>
     requires sound { IsSound network.now reactances.now lost }
     ensures { IfOk result (λ guesser. guesser ≡ record {
-        buses = length network.now.buses;
-        reference = network.now.reference;
-        links = map (link_of network.now reactances.now) (kept lost network.now.branches);
+      buses = length network.now.buses;
+      reference = network.now.reference;
+      links = map (link_of network.now reactances.now) (kept lost network.now.branches);
     }) }
 {
     let branches = kept_branches(alloc, network, lost)?;
     let links = links_of(alloc, network, reactances, branches.slice())?;
-    Guesser::new(alloc, network.buses().len(), network.reference(), links.slice())
+    Guesser::new(
+        alloc,
+        network.buses().len(),
+        network.reference(),
+        links.slice(),
+    )
 }
 
 /// Branches with their susceptances.
@@ -125,5 +130,10 @@ pub(crate) fn flows_of(
 {
     let branches = kept_branches(alloc, network, lost)?;
     let lines = lines_of::<Frac>(alloc, network, reactances, branches.slice())?;
-    exact_flows(alloc, network.buses().len(), network.reference(), lines.slice())
+    exact_flows(
+        alloc,
+        network.buses().len(),
+        network.reference(),
+        lines.slice(),
+    )
 }

@@ -69,7 +69,10 @@ pub(crate) fn check_count<N>(rows: usize, columns: usize) -> Result<(), MakeStop
 }
 
 /// Whether all reactances are above 0, or else the first branch whose reactance is not.
-pub(crate) fn check_positive<N>(network: &Network, reactances: &Reactances) -> Result<(), MakeStop<N>>
+pub(crate) fn check_positive<N>(
+    network: &Network,
+    reactances: &Reactances,
+) -> Result<(), MakeStop<N>>
     requires reactances { AreReactances network.now reactances.now }
     ensures positive { OnOk result (ArePositive reactances.now) }
     ensures stop { IfErr result (λ stop. (row : ℕ) × (stop ≡ why.NotPositive row) × IsFirstNotPositive network.now reactances.now row) }

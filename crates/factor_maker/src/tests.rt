@@ -9,7 +9,8 @@ use outage_list::listed;
 use std::alloc::Global;
 use std::test::Fail;
 
-/// Bus 1 is the reference. Of 1 MW from bus 2 to it, 3/4 goes over the branch between them and 1/4 by bus 3, whose way has three times the reactance.
+/// Bus 1 is the reference. Of 1 MW from bus 2 to it, 127/128 goes over the branch between them and 1/128 by bus 3; of 1 MW from bus 3, 101/128
+/// goes over the branch between them and 27/128 by bus 2.
 const TRIANGLE: &str = "function mpc = triangle
 mpc.version = '2';
 mpc.baseMVA = 100;
@@ -22,23 +23,23 @@ mpc.gen = [
 1 0 0 0 0 1 100 1 100 0;
 ];
 mpc.branch = [
-1 2 0 0.1 0 0 0 0 0 0 1 -360 360;
-1 3 0 0.1 0 0 0 0 0 0 1 -360 360;
-2 3 0 0.2 0 0 0 0 0 0 1 -360 360;
+1 2 0 0.001 0 0 0 0 0 0 1 -360 360;
+1 3 0 0.027 0 0 0 0 0 0 1 -360 360;
+2 3 0 0.1 0 0 0 0 0 0 1 -360 360;
 ];
 ";
 
-/// By branch and bus, in 10^-9: 3/4 and 1/4 with the signs of the branches' directions, and 0 at the reference.
+/// By branch and bus, in 10^-9, of six places: each is half-way between two numbers of them, and the one farther from 0 is taken.
 const SHIFT: &[(u32, u32, i64)] = &[
     (1, 1, 0),
-    (1, 2, -750_000_000),
-    (1, 3, -250_000_000),
+    (1, 2, -992_188_000),
+    (1, 3, -210_938_000),
     (2, 1, 0),
-    (2, 2, -250_000_000),
-    (2, 3, -750_000_000),
+    (2, 2, -7_813_000),
+    (2, 3, -789_063_000),
     (3, 1, 0),
-    (3, 2, 250_000_000),
-    (3, 3, -250_000_000),
+    (3, 2, 7_813_000),
+    (3, 3, -210_938_000),
 ];
 
 #[test]

@@ -1,4 +1,3 @@
-use Rattle.std.proofs.Common.{◌≡◌, length}
 use Rattle.factor_maker.proofs.ListSteps.{AreFirstDifferences}
 use Rattle.factor_maker.proofs.exact_columns.differences.Given as goal
 

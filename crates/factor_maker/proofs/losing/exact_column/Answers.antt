@@ -26,10 +26,10 @@ returns-in_err-factors-clause-stop c =
 pub rounded-requires : goal.rounded-requires
 rounded-requires c = record {
   sizes = sides_small _ c.args.network.now c.args.reactances.now c.args.lost.now c.requires.sound c.requires.lost c.slice-3.result.now c.slice-4.result.now
-    (sides _ c.args.network.now c.args.reactances.now c.args.lost.now c.requires.sound c.requires.lost c.args.others c.len-buses.result c.in-Ok.flows c.slice.result.now c.slice-2.result.now
-    c.slice-3.result.now c.slice-4.result.now c.in_ok-from_source.from_source c.in_ok-from_sink.from_sink c.requires.others (c.len-buses.ensures ∙ ap length c.buses.ensures.list) c.in-Ok.ensures.flows
-    c.slice.ensures c.slice-2.ensures c.in_ok-from_source.ensures c.in_ok-from_sink.ensures c.slice-3.ensures c.slice-4.ensures)
-    c.in_ok-factors.factors c.slice-5.result.now c.slice-5.ensures c.in_ok-factors.ensures.are;
+      (sides _ c.args.network.now c.args.reactances.now c.args.lost.now c.requires.sound c.requires.lost c.args.others c.len-buses.result c.in-Ok.flows c.slice.result.now c.slice-2.result.now
+      c.slice-3.result.now c.slice-4.result.now c.in_ok-from_source.from_source c.in_ok-from_sink.from_sink c.requires.others (c.len-buses.ensures ∙ ap length c.buses.ensures.list) c.in-Ok.ensures.flows
+      c.slice.ensures c.slice-2.ensures c.in_ok-from_source.ensures c.in_ok-from_sink.ensures c.slice-3.ensures c.slice-4.ensures)
+      c.in_ok-factors.factors c.slice-5.result.now c.slice-5.ensures c.in_ok-factors.ensures.are;
 }
 
 pub returns-clause-column : goal.returns-clause-column

@@ -1,6 +1,5 @@
-use Rattle.std.proofs.Common.{rules, ◌≡◌, ◌∙◌, Err, ℕ, List, Some, ap, subst, sym}
-use Rattle.std.specs.Prelude.{All, slice_index_or}
-use Rattle.dc_network.specs.Laws.{IsSound}
+use Rattle.std.proofs.Common.{rules, ◌≡◌, Err, subst, sym}
+use Rattle.std.specs.Prelude.{All}
 use Rattle.outage_list.specs.Listing.{IsOutage}
 use Rattle.factor_maker.proofs.ColumnSteps.{outage_more, outage_refused}
 use Rattle.factor_maker.proofs.losing.records_of.Goals as goal

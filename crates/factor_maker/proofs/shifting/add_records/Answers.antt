@@ -1,7 +1,6 @@
-use Rattle.std.proofs.Common.{rules, ◌≡◌, ◌<◌, ◌∙◌, ℕ, ℤ, None, ap, arith, false, length, pos, sym, w64}
+use Rattle.std.proofs.Common.{rules, ◌≡◌, ◌<◌, ◌∙◌, ℤ, None, ap, arith, false, length, pos, w64}
 use Rattle.std.specs.Prelude.{slice_index_or}
 use Rattle.net_case.specs.declared.live_parts.NetBranch.{NetBranch}
-use Rattle.factor_tables.specs.declared.made.MadeFactor.{MadeFactor}
 use Rattle.factor_maker.specs.Columns.{shift_made}
 use Rattle.factor_maker.proofs.ColumnSteps.{shift_made_is}
 use Rattle.factor_maker.proofs.ListSteps.{one_more}

@@ -11,7 +11,7 @@ rounded-requires c =
     let within : c.loop-bus.bus < length network.buses = omega (arith, c.loop-bus-test.true, c.loop-bus.auto.bus-end, all) in
     record {
       sizes = bus_small _ network c.args.reactances.now c.requires.sound c.loop-bus.bus within c.in_ok-flows.flows c.slice.result.now c.in_ok-factors.factors c.slice-in-loop-bus.result.now c.len-branches.result
-        c.len-buses.result c.in_ok-flows.ensures.flows c.slice.ensures (c.len-branches.ensures ∙ ap length c.branches.ensures.list) all c.in_ok-factors.ensures c.slice-in-loop-bus.ensures;
+          c.len-buses.result c.in_ok-flows.ensures.flows c.slice.ensures (c.len-branches.ensures ∙ ap length c.branches.ensures.list) all c.in_ok-factors.ensures c.slice-in-loop-bus.ensures;
     }
 
 pub loop-bus-preserved : goal.loop-bus-preserved

@@ -1,7 +1,6 @@
 use Rattle.std.proofs.Common.{◌<◌, ◌≡◌, ◌∙◌, [], ℕ, ℤ, List, None, ap, length, subst, sym}
 use Rattle.std.specs.Prelude.{slice_index_or}
 use Rattle.dc_network.specs.DcNetworks.{dc_network}
-use Rattle.factor_tables.specs.Made.{AreApart, AreInBounds}
 use Rattle.factor_maker.specs.Columns.{AreColumns}
 use Rattle.factor_maker.proofs.ColumnSteps.{shift_stopped}
 use Rattle.factor_maker.proofs.Records.{columns_count, shift_records_apart, shift_records_small, shift_table}

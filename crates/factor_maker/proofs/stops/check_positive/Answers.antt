@@ -1,4 +1,4 @@
-use Rattle.std.proofs.Common.{◌≡◌, ◌<◌, ◌≤◌, ◌+◌, ◌^◌, ◌∙◌, ℕ, ℤ, None, List, length, ap, arith, false, pos, refl, subst, sym, take}
+use Rattle.std.proofs.Common.{◌≡◌, ◌<◌, ◌≤◌, ◌∙◌, ℕ, ℤ, None, List, length, ap, arith, false, pos, refl, subst, sym}
 use Rattle.std.specs.Prelude.{◌<ℤ◌, slice_index_or, unsigned_abs}
 use Rattle.std.specs.Int.{w128}
 use Rattle.std.proofs.lemmas.Int.{fits_signed_from_abs, ints, to_z-of_z}
@@ -31,12 +31,14 @@ returns-then-xs-place-le0-clause-stop g c =
     let branch = slice_index_or c.slice-branches.result.now place none in
     let all = c.slice-branches.ensures ∙ c.branches.ensures.list in
     let lt : place < length xs = omega (arith, c.loop-place-test.true, c.loop-place.auto.place-end, ap length c.slice-xs.ensures) in
-    let within : place < length network.branches = omega (arith, lt, c.requires.reactances.count) in
-    (branch.row, refl,
-    first_not_positive network xs place x branch c.loop-place.invariant lt
-    (get_or_default xs place x (pos 0) lt ∙ ap (λ (ys : List ℤ). slice_index_or ys place (pos 0)) (sym c.slice-xs.ensures))
-    (let same = kept x (size_at xs c.slice-xs.result.now place c.slice-xs.ensures c.requires.reactances.sizes lt) in omega (arith, ints, same, c.if-xs-place-le0.true)) within
-    (get_or_default network.branches place branch none within ∙ ap (λ (bs : List NetBranch). slice_index_or bs place none) (sym all)))
+    let within : place < length network.branches = omega (arith, lt, c.requires.reactances.count) in (
+      branch.row,
+      refl,
+      first_not_positive network xs place x branch c.loop-place.invariant lt
+          (get_or_default xs place x (pos 0) lt ∙ ap (λ (ys : List ℤ). slice_index_or ys place (pos 0)) (sym c.slice-xs.ensures))
+          (let same = kept x (size_at xs c.slice-xs.result.now place c.slice-xs.ensures c.requires.reactances.sizes lt) in omega (arith, ints, same, c.if-xs-place-le0.true)) within
+          (get_or_default network.branches place branch none within ∙ ap (λ (bs : List NetBranch). slice_index_or bs place none) (sym all)),
+    )
 
 pub loop-place-preserved : goal.loop-place-preserved
 loop-place-preserved g c =
