@@ -1,0 +1,12 @@
+mod ColumnLemmas
+mod ColumnSteps
+mod ListSteps
+mod Lists
+mod ListedOutages
+mod Made
+mod Networks
+mod OutageColumns
+mod Recips
+mod Records
+mod Scaling
+mod Sizes

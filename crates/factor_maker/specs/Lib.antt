@@ -1,0 +1,4 @@
+pub mod Columns
+pub mod ExactLists
+pub mod Made
+pub mod Stops
