@@ -28,7 +28,7 @@ use Rattle.exact_flows.specs.declared.stop.FlowStop.{FlowStop}
 use Rattle.exact_flows.specs.declared.stop.FlowStop.TheVariants as flow
 use Rattle.factor_maker.specs.Columns.{AreCarried, AreColumn, AreLossRecords, AreOutageRecords, AreTold, made_of, shift_made}
 use Rattle.factor_maker.specs.ExactLists.{AreEntries}
-use Rattle.factor_maker.specs.Made.{AreUnits}
+use Rattle.factor_maker.specs.Made.{AreNearestUnits}
 use Rattle.factor_maker.specs.Stops.{IsOutagePair, IsPairOfOne, IsShiftStop, OnMakePassed, made_stop, most_made}
 use Rattle.factor_maker.specs.declared.stops.MakeStop.{MakeStop}
 use Rattle.factor_maker.proofs.ColumnLemmas.{on_weaker}
@@ -88,7 +88,7 @@ pub column_count : (network : LiveNetwork) (xs : List ℤ) (k : NetBranch) (plac
     → read ≡ units → list ≡ branches → branches ≡ kept (Some k.row) network.branches → length read ≡ length list
 column_count network xs k places units read branches list column same is are =
     ap length same
-    ∙ zip-length (λ b u. AreUnits places (IsCarried (dc_network network xs (Some k.row)) network.reference k.from k.to b) u) (dc_network network xs (Some k.row)).branches units column
+    ∙ zip-length (λ b u. AreNearestUnits places (IsCarried (dc_network network xs (Some k.row)) network.reference k.from k.to b) u) (dc_network network xs (Some k.row)).branches units column
     ∙ length-map (kept (Some k.row) network.branches) (dc_branch network xs) ∙ sym (ap length (is ∙ are))
 
 module _ (network : LiveNetwork) (xs : List ℤ) (places : FactorPlaces) where

@@ -32,7 +32,7 @@ use Rattle.exact_flows.specs.declared.line.Line.{Line}
 use Rattle.exact_flows.specs.declared.stop.FlowStop.{FlowStop}
 use Rattle.factor_maker.specs.Columns.{AreCarried, AreColumn, AreTold, link_of}
 use Rattle.factor_maker.specs.ExactLists.{AreEntries}
-use Rattle.factor_maker.specs.Made.{AreUnits}
+use Rattle.factor_maker.specs.Made.{AreNearestUnits}
 use Rattle.factor_maker.proofs.Lists.{all-by_members, at_place, get_contains, get_map, map-members, zip-all, zip-by_places, zip-of_map, zip-through}
 use Rattle.factor_maker.proofs.Recips.{recip_units}
 use Rattle.factor_maker.proofs.Scaling.{carried_scaled, scaled}
@@ -136,14 +136,14 @@ module _ (network : LiveNetwork) (xs : List ℤ) (lost : Option ℕ) (sound : Is
   pub told_column : (guess : Grid) (source sink : ℕ) (places : FactorPlaces) (units : List ℤ) → guess ≡ guess_of network xs lost → source < length network.buses → sink < length network.buses
       → AreTold guess source sink (place_count places) units → AreColumn dc network.reference source sink places units
   told_column guess source sink places units is s t told =
-      zip-of_map (λ l k. AreUnits places (IsCarried dc network.reference source sink (dc_branch network xs l)) k)
-      (λ b k. AreUnits places (IsCarried dc network.reference source sink b) k) (dc_branch network xs) bs units (λ l k c u. u)
-      (zip-by_places (λ l k. AreUnits places (IsCarried dc network.reference source sink (dc_branch network xs l)) k) bs units count each)
+      zip-of_map (λ l k. AreNearestUnits places (IsCarried dc network.reference source sink (dc_branch network xs l)) k)
+      (λ b k. AreNearestUnits places (IsCarried dc network.reference source sink b) k) (dc_branch network xs) bs units (λ l k c u. u)
+      (zip-by_places (λ l k. AreNearestUnits places (IsCarried dc network.reference source sink (dc_branch network xs l)) k) bs units count each)
     where
       count : length units ≡ length bs
       count = told.count ∙ ap (λ (g : Grid). length g.links) is ∙ length-map bs (link_of network xs)
 
-      each : (k : ℕ) (l : NetBranch) (u : ℤ) → slice_get bs k ≡ Some l → slice_get units k ≡ Some u → AreUnits places (IsCarried dc network.reference source sink (dc_branch network xs l)) u
+      each : (k : ℕ) (l : NetBranch) (u : ℤ) → slice_get bs k ≡ Some l → slice_get units k ≡ Some u → AreNearestUnits places (IsCarried dc network.reference source sink (dc_branch network xs l)) u
       each k l u p q =
           let c = get_contains bs k l p in
           let f = law_of_one_factor network xs lost source sink l sound s t c in
@@ -177,7 +177,7 @@ module _ (network : LiveNetwork) (xs : List ℤ) (lost : Option ℕ) (sound : Is
     pub rounded_column : (source sink : ℕ) (places : FactorPlaces) (factors : List N) (units : List ℤ) → AreCarried value dc network.reference source sink factors
         → AllZip (λ factor k. IsNearest (place_count places) (value factor) k) factors units → AreColumn dc network.reference source sink places units
     rounded_column source sink places factors units are near = zip-through (λ b factor. IsCarried dc network.reference source sink b (value factor)) (λ factor k. IsNearest (place_count places) (value factor) k)
-        (λ b k. AreUnits places (IsCarried dc network.reference source sink b) k) dc.branches factors units (λ b factor k c is nearest. record { exact = value factor; is_exact = is; nearest = nearest }) are near
+        (λ b k. AreNearestUnits places (IsCarried dc network.reference source sink b) k) dc.branches factors units (λ b factor k c is nearest. record { exact = value factor; is_exact = is; nearest = nearest }) are near
 
 -- ---- flows by branch and by bus
 module _ {N : Type 0} (value : N → Fraction) (n : Network) (reference : ℕ) where

@@ -20,7 +20,7 @@ use Rattle.dc_network.specs.DcNetworks.{ArePositive, IsOutageFactor, IsShiftFact
 use Rattle.dc_network.specs.Laws.{IsSound}
 use Rattle.dc_network.proofs.Connection.{Contains-from_map, Contains-map}
 use Rattle.factor_maker.specs.Columns.{AreColumns, AreColumn, AreLossRecords, AreOutageRecords, IsLossMade, IsMade, IsShiftMade, made_of, shift_made}
-use Rattle.factor_maker.specs.Made.{AreUnits, IsLossEntry, IsMadeLoss, IsMadeShift, IsShiftEntry, loss_pairs, shift_pairs}
+use Rattle.factor_maker.specs.Made.{AreNearestUnits, IsLossEntry, IsMadeLoss, IsMadeShift, IsShiftEntry, loss_pairs, shift_pairs}
 use Rattle.factor_maker.proofs.Lists as lists
 use Rattle.factor_maker.proofs.Lists.{at_place, get_map, get_places, length-places, place_of, zip-all, zip-append, zip-at, zip-by_places, zip-flat, zip-last, zip-length, zip-map, zip-of_map, zip-same, zip_pairs}
 use Rattle.factor_maker.proofs.Made.{are_apart, are_small, loss_apart, shift_apart}
@@ -39,15 +39,15 @@ module _ (network : LiveNetwork) (xs : List ℤ) (places : FactorPlaces) where
   made_at branches n reference source sink of units l b is column at =
       let here = at_place (map (λ (m : NetBranch). m.row) branches) b l.row 0 (get_map (λ (m : NetBranch). m.row) branches b l at) in
       let lines = subst (λ (m : Network). AreColumn m reference source sink places units) is column in
-      let count = zip-length (λ br k. AreUnits places (IsCarried n reference source sink br) k) n.branches units column in
+      let count = zip-length (λ br k. AreNearestUnits places (IsCarried n reference source sink br) k) n.branches units column in
       let long = ap (λ (m : Network). length m.branches) is ∙ length-map branches (dc_branch network xs) in
       let within = (at_place branches b l l at).0 in
       let unit = place_of units b (omega (arith, count, long, within)) in
       let read = (at_place units b unit.0 (pos 0) unit.1).1 in
       record {
         pair_is = ap (λ (r : ℕ). (r, of)) here.1;
-        units = subst (λ (k : ℤ). AreUnits places (IsCarried n reference source sink (dc_branch network xs l)) k) (sym read)
-            (zip-at (λ br k. AreUnits places (IsCarried n reference source sink br) k) n.branches units column b (dc_branch network xs l) unit.0
+        units = subst (λ (k : ℤ). AreNearestUnits places (IsCarried n reference source sink (dc_branch network xs l)) k) (sym read)
+            (zip-at (λ br k. AreNearestUnits places (IsCarried n reference source sink br) k) n.branches units column b (dc_branch network xs l) unit.0
             (ap (λ (m : Network). slice_get m.branches b) is ∙ get_map (dc_branch network xs) branches b l at) unit.1);
       }
 
@@ -55,7 +55,7 @@ module _ (network : LiveNetwork) (xs : List ℤ) (places : FactorPlaces) where
   pub columns_count : (columns : List (List ℤ)) → AreColumns (dc_network network xs None) network.reference places columns → (i : ℕ) → i < length columns
       → length (slice_index_or columns i []) ≡ length network.branches
   columns_count columns are i within =
-      zip-length (λ b k. AreUnits places (IsCarried (dc_network network xs None) network.reference i network.reference b) k) (dc_network network xs None).branches (slice_index_or columns i []) (are.each i within)
+      zip-length (λ b k. AreNearestUnits places (IsCarried (dc_network network xs None) network.reference i network.reference b) k) (dc_network network xs None).branches (slice_index_or columns i []) (are.each i within)
       ∙ length-map network.branches (dc_branch network xs)
 
   shift_records : (columns : List (List ℤ)) → length columns ≡ length network.buses → AreColumns (dc_network network xs None) network.reference places columns
@@ -116,7 +116,7 @@ module _ (network : LiveNetwork) (xs : List ℤ) (places : FactorPlaces) (is : I
       places_are = ap (λ (t : FactorRecords). t.places) e;
       entries = subst (λ (t : FactorRecords). AllZip (IsShiftEntry network xs places) (shift_pairs network) t.entries) (sym e)
           (zip-map (IsShiftMade network xs places) (IsShiftEntry network xs places) (made_entry places)
-          (λ pair m made. record { pair_is = made.pair_is; factor = record { units = m.units; are = made.units; factor_is = refl } }) (shift_pairs network) records made_all);
+          (λ pair m made. record { pair_is = made.pair_is; factor = record { exact = made.units.exact; is_exact = made.units.is_exact; units = m.units; nearest = made.units.nearest; factor_is = refl } }) (shift_pairs network) records made_all);
     }
 
   module _ (outages : List ℕ) (listed : AreOutages network outages) (records : List MadeFactor) (are : AreLossRecords network xs places outages records) where
@@ -152,5 +152,5 @@ module _ (network : LiveNetwork) (xs : List ℤ) (places : FactorPlaces) (is : I
       lost_are = are.lost_are;
       entries = subst (λ (t : FactorRecords). AllZip (IsLossEntry network xs places) (loss_pairs network are.lost) t.entries) (sym e)
           (zip-map (IsLossMade network xs places) (IsLossEntry network xs places) (made_entry places)
-          (λ pair m made. record { pair_is = made.pair_is; factor = record { units = m.units; are = made.units; factor_is = refl } }) (loss_pairs network are.lost) records are.made);
+          (λ pair m made. record { pair_is = made.pair_is; factor = record { exact = made.units.exact; is_exact = made.units.is_exact; units = m.units; nearest = made.units.nearest; factor_is = refl } }) (loss_pairs network are.lost) records are.made);
     }

@@ -16,7 +16,7 @@ use Rattle.flow_guess.specs.declared.links.Link.{Link}
 use Rattle.dc_network.specs.DcNetworks.{IsOutageFactor, IsShiftFactor}
 use Rattle.factor_tables.specs.Made.{made_pair}
 use Rattle.factor_tables.specs.declared.made.MadeFactor.{MadeFactor}
-use Rattle.factor_maker.specs.Made.{AreUnits, loss_pairs}
+use Rattle.factor_maker.specs.Made.{AreNearestUnits, loss_pairs}
 
 -- a branch as guesses take it: its reactance in 10^-18
 abbrev pub link_of : LiveNetwork → List ℤ → NetBranch → Link
@@ -28,7 +28,7 @@ AreCarried value n reference source sink flows = AllZip (λ b flow. IsCarried n 
 
 -- by branch, the nearest units of it
 abbrev pub AreColumn : Network → ℕ → ℕ → ℕ → FactorPlaces → List ℤ → Type 0
-AreColumn n reference source sink places units = AllZip (λ b k. AreUnits places (IsCarried n reference source sink b) k) n.branches units
+AreColumn n reference source sink places units = AllZip (λ b k. AreNearestUnits places (IsCarried n reference source sink b) k) n.branches units
 
 -- for each bus the column of what goes from there to the reference
 pub record AreColumns (n : Network) (reference : ℕ) (places : FactorPlaces) (columns : List (List ℤ)) : Type 0 where
@@ -51,7 +51,7 @@ shift_made network columns b i = made_of network.branches (bus_number network i)
 -- a record of a pair of rows and numbers, with the nearest units of a factor
 pub record IsMade (places : FactorPlaces) (pair : ℕ × ℕ) (IsFactor : Fraction → Type 0) (made : MadeFactor) : Type 0 where
   pub pair_is : made_pair made ≡ pair
-  pub units : AreUnits places IsFactor made.units
+  pub units : AreNearestUnits places IsFactor made.units
 
 -- the records of an outage, by branch other than it
 abbrev pub IsLossMade : LiveNetwork → List ℤ → FactorPlaces → NetBranch × NetBranch → MadeFactor → Type 0

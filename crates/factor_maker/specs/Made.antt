@@ -1,10 +1,10 @@
 -- The tables of factors that are made.
 -- Source: generation shift factors and line outage distribution factors (Wood and Wollenberg).
-use Rattle.std.specs.Prelude.{◌≡◌, ℕ, ℤ, pos, ◌*ℤ◌, List, length, map}
+use Rattle.std.specs.Prelude.{◌≡◌, ℕ, ℤ, List, length, map}
 use Rattle.std.specs.List.{AllZip, flat_map}
 use Rattle.fraction_theory.specs.Fraction.{Fraction}
 use Rattle.exact_fraction.specs.Nearest.{IsNearest}
-use Rattle.market_data.specs.Scales.{place_count, place_step}
+use Rattle.market_data.specs.Scales.{place_count}
 use Rattle.market_data.specs.declared.scales.FactorPlaces.{FactorPlaces}
 use Rattle.net_case.specs.Networks.{LiveNetwork}
 use Rattle.net_case.specs.declared.live_parts.NetBranch.{NetBranch}
@@ -13,18 +13,13 @@ use Rattle.net_paths.specs.Detours.{IsBranchOf, others}
 use Rattle.factor_tables.specs.Factors.{Entry, FactorRecords}
 use Rattle.factor_residuals.specs.Residuals.{places as places_below}
 use Rattle.dc_network.specs.DcNetworks.{IsShiftFactor, IsOutageFactor}
+use Rattle.dc_network.specs.Rounding.{IsRounded}
 
 -- so many units of the last of so many places are nearest to the exact factor
-pub record AreUnits (places : FactorPlaces) (IsFactor : Fraction → Type 0) (units : ℤ) : Type 0 where
+pub record AreNearestUnits (places : FactorPlaces) (IsFactor : Fraction → Type 0) (units : ℤ) : Type 0 where
   pub exact : Fraction
   pub is_exact : IsFactor exact
   pub nearest : IsNearest (place_count places) exact units
-
--- a factor in 10^-9 is the exact one rounded to so many places
-pub record IsRounded (places : FactorPlaces) (IsFactor : Fraction → Type 0) (factor : ℤ) : Type 0 where
-  pub units : ℤ
-  pub are : AreUnits places IsFactor units
-  pub factor_is : factor ≡ units *ℤ pos (place_step places)
 
 -- ---- a shift table: by branch, and for each by bus in row order, the reference too
 abbrev pub shift_pairs : LiveNetwork → List (NetBranch × ℕ)
