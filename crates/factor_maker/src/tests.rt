@@ -1,7 +1,10 @@
-use crate::{MakeStop, make_loss, make_shift};
+ghost use Rattle.std.specs.Prelude.{length};
+ghost use Rattle.net_paths.specs.Connection.{JoinAll};
+ghost use Rattle.factor_residuals.specs.Residuals.{AreReactances};
+
+use crate::{make_loss, make_shift};
 use case_text::read_case;
-use exact_fraction::Frac;
-use factor_tables::{OutageRows, outage_rows};
+use factor_tables::{Loss, outage_rows};
 use market_data::FactorPlaces;
 use net_case::{Branches, Network, PostRating, Reactances, network, reactances};
 use net_paths::connected;
@@ -56,6 +59,16 @@ fn makes_shift_factors(rt: HostRuntime) -> Result<(), Fail> {
     Ok(())
 }
 
+/// The factors of one outage, that of the branch of row 1.
+fn loss_of(alloc: Global, network: &Network, reactances: &Reactances) -> Result<Loss, Fail>
+    requires reactances { AreReactances network.now reactances.now }
+    requires joined { JoinAll network.now.branches (length network.now.buses) }
+{
+    let rows = outage_rows(alloc, b"branch\n1\n")?;
+    let outages = listed(alloc, network, &rows)?;
+    Ok(make_loss(alloc, network, reactances, &outages, FactorPlaces::Nine)?)
+}
+
 #[test]
 fn makes_outage_factors(rt: HostRuntime) -> Result<(), Fail> {
     let alloc = rt.alloc();
@@ -63,9 +76,7 @@ fn makes_outage_factors(rt: HostRuntime) -> Result<(), Fail> {
     let network = network(alloc, &case, Branches::Read(PostRating::C))?;
     let reactances = reactances(alloc, &case, &network)?;
     connected(alloc, &network)?;
-    let rows = outage_rows(alloc, b"branch\n1\n")?;
-    let outages = listed(alloc, &network, &rows)?;
-    let loss = make_loss(alloc, &network, &reactances, &outages, FactorPlaces::Nine)?;
+    let loss = loss_of(alloc, &network, &reactances)?;
     assert_eq!(rt; loss.factor(2, 1), 1_000_000_000);
     assert_eq!(rt; loss.factor(3, 1), -1_000_000_000);
     Ok(())
