@@ -1,0 +1,4 @@
+mod Lists
+mod Names
+mod ShiftTables
+mod LossTables
