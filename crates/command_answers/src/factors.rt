@@ -24,7 +24,7 @@ use std::alloc::Global;
 
 /// The tables that are made of a case.
 #[derive(Drop)]
-pub(crate) struct MadeTables {
+pub struct MadeTables {
     pub shift: Shift,
     /// There is none where it is not wanted.
     pub loss: Option<Loss>,

@@ -1,4 +1,4 @@
 mod Lists
 mod Names
-mod ShiftTables
-mod LossTables
+pub mod ShiftTables
+pub mod LossTables
