@@ -39,10 +39,18 @@ module _ {N : Type 0} (value : N → Fraction) (bound : ℕ) (network : LiveNetw
   pub loss-stop : (outages : List ℕ) (why : MakeStop N) → IsLossStop value bound network xs outages why → IsLossStop (λ x. x) bound network xs outages (stop_at value why)
   loss-stop outages (stop.TooMany count) h = h
   loss-stop outages (stop.NotPositive row) h = h
-  loss-stop outages (stop.Passed e) (few, positive, row, k, there, of, pair) = (few, positive, row, k, there, of, elim pair [
-    | inl flow ↦ inl flow
-    | inr d ↦ inr (record { branch = d.branch; there = d.there; op_is = d.op_is; from_source = d.from_source; from_sink = d.from_sink; passes = d.passes })
-  ])
+  loss-stop outages (stop.Passed e) (few, positive, row, k, there, of, pair) = (
+    few,
+    positive,
+    row,
+    k,
+    there,
+    of,
+    elim pair [
+      | inl flow ↦ inl flow
+      | inr d ↦ inr (record { branch = d.branch; there = d.there; op_is = d.op_is; from_source = d.from_source; from_sink = d.from_sink; passes = d.passes })
+    ],
+  )
   loss-stop outages stop.Memory h = tt
 
 -- ---- what tables are made of is sound
@@ -89,5 +97,5 @@ law_of_checked_tables places inputs shift loss t fit is lost (r, residuals, told
     let (bus, round) = shift_explained inputs.network inputs.reactances places shift is_sound is.made in
     let (outage_bus, outage_round) = loss_explained inputs.network inputs.reactances inputs.outages places loss is_sound fit.outages lost in
     let all : are_within r ≡ true = within r.bus.over r.round.over r.outage_bus.over r.outage_round.over
-        (bus r.bus residuals.bus) (round r.round residuals.round) (outage_bus r.outage_bus residuals.outage_bus) (outage_round r.outage_round residuals.outage_round) in
+    (bus r.bus residuals.bus) (round r.round residuals.round) (outage_bus r.outage_bus residuals.outage_bus) (outage_round r.outage_round residuals.outage_round) in
     ap (λ (u : Telling). u.status) told ∙ ap (λ (b : Bool). if b then status.Done else status.Refuted) all

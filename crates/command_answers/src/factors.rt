@@ -141,7 +141,10 @@ fn stop_told<N: Exact>(alloc: Global, why: MakeStop<N>) -> Result<Told, Memory>
             refused(alloc, &Refusal::Factors(FactorFault::TooMany { count }))
         }
         MakeStop::NotPositive { branch } => {
-            refused(alloc, &Refusal::Factors(FactorFault::NotPositive { branch }))
+            refused(
+                alloc,
+                &Refusal::Factors(FactorFault::NotPositive { branch }),
+            )
         }
         MakeStop::Passed(passed) => {
             let text = range(alloc, &passed)?;

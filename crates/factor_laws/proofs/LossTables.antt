@@ -64,9 +64,10 @@ module _ (network : LiveNetwork) (xs : List ℤ) (outages : List ℕ) (places : 
   pair_of pair c =
       let r = flat_contains (λ k. map (λ l. (l, k)) (others k.row network.branches)) made.lost pair c in
       let q = Contains-from_map (λ l. (l, r.0)) (others r.0.row network.branches) pair r.2 in
-      let second : r.0 ≡ pair.1 = ap (λ (w : NetBranch × NetBranch). w.1) q.2 in
-      (subst (λ (k : NetBranch). Contains (others k.row network.branches) pair.0) second (subst (λ (l : NetBranch). Contains (others r.0.row network.branches) l) (ap (λ (w : NetBranch × NetBranch). w.0) q.2) q.1),
-      subst (λ (k : NetBranch). Contains made.lost k) second r.1)
+      let second : r.0 ≡ pair.1 = ap (λ (w : NetBranch × NetBranch). w.1) q.2 in (
+        subst (λ (k : NetBranch). Contains (others k.row network.branches) pair.0) second (subst (λ (l : NetBranch). Contains (others r.0.row network.branches) l) (ap (λ (w : NetBranch × NetBranch). w.0) q.2) q.1),
+        subst (λ (k : NetBranch). Contains made.lost k) second r.1,
+      )
 
   pair_there_of : (l k : NetBranch) → Contains made.lost k → Contains (others k.row network.branches) l → Contains pairs (l, k)
   pair_there_of l k c d = flat_there (λ m. map (λ b. (b, m)) (others m.row network.branches)) made.lost k (l, k) c (Contains-map (λ b. (b, k)) (others k.row network.branches) l d)

@@ -46,9 +46,10 @@ module _ (network : LiveNetwork) (xs : List ℤ) (places : FactorPlaces) (shift 
   pair_of : (pair : NetBranch × ℕ) → Contains pairs pair → Contains network.branches pair.0 × (pair.1 < buses)
   pair_of pair c =
       let r = flat_contains (λ l. map (λ i. (l, i)) (places_below buses)) network.branches pair c in
-      let q = Contains-from_map (λ i. (r.0, i)) (places_below buses) pair r.2 in
-      (subst (λ (l : NetBranch). Contains network.branches l) (ap (λ (w : NetBranch × ℕ). w.0) q.2) r.1,
-      subst (λ (i : ℕ). i < buses) (ap (λ (w : NetBranch × ℕ). w.1) q.2) (lists.places_below buses q.0 q.1))
+      let q = Contains-from_map (λ i. (r.0, i)) (places_below buses) pair r.2 in (
+        subst (λ (l : NetBranch). Contains network.branches l) (ap (λ (w : NetBranch × ℕ). w.0) q.2) r.1,
+        subst (λ (i : ℕ). i < buses) (ap (λ (w : NetBranch × ℕ). w.1) q.2) (lists.places_below buses q.0 q.1),
+      )
 
   pair_there_of : (l : NetBranch) (i : ℕ) → Contains network.branches l → Contains (places_below buses) i → Contains pairs (l, i)
   pair_there_of l i c d = flat_there (λ m. map (λ j. (m, j)) (places_below buses)) network.branches l (l, i) c (Contains-map (λ j. (l, j)) (places_below buses) i d)
@@ -131,8 +132,11 @@ module _ (network : LiveNetwork) (xs : List ℤ) (places : FactorPlaces) (shift 
       (All-contains (λ (members : List Member). exceeds (loop_spot (reactance_at network xs) (shift_column network shift i.0) members) ≡ false) is.loops b.0 ((explained i.0 i.1).round_loops is.loops is.are) b.1)))
 
   back : IsTableOver column.Bus network shift × (shift_of network (table_text column.Bus shift.entries) places ≡ Ok shift)
-  back = (over, subst (λ (p : FactorPlaces). table_of column.Bus network (table_text column.Bus shift.entries) p ≡ Ok shift) made.places_are
-      (read-back column.Bus network shift sound.network_is over))
+  back = (
+    over,
+    subst (λ (p : FactorPlaces). table_of column.Bus network (table_text column.Bus shift.entries) p ≡ Ok shift) made.places_are
+        (read-back column.Bus network shift sound.network_is over),
+  )
 
 pub shift_read_back : ShiftTablesAreReadBack
 shift_read_back network xs places shift sound made = back network xs places shift sound made

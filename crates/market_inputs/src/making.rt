@@ -1,9 +1,9 @@
 //! What tables of factors are made of.
 
 ghost use Rattle.std.specs.Prelude.{IfOk, option_map};
-ghost use Rattle.outage_list.specs.Listing.{AreOutages};
 ghost use Rattle.market_inputs.specs.Making.{AreAskedOutages, AreFactorInputs, AreFactorInputsOf, AreFitToMake};
 ghost use Rattle.market_inputs.specs.Stops.{IsToldAs};
+ghost use Rattle.market_inputs.specs.Tables.{MayBeLost};
 
 use crate::cases::{case_matrices, case_reactances, joined_network};
 use crate::stops::InputStop;
@@ -30,7 +30,7 @@ fn asked_outages(
     contingencies: Option<&[u8]>,
 ) -> Result<Outages, InputStop>
     ensures told { IsToldAs (AreAskedOutages network.now (option_map (λ bytes. bytes.now) contingencies)) result }
-    ensures kept { IfOk result (AreOutages network.now) }
+    ensures kept { IfOk result (MayBeLost network.now) }
 {
     match contingencies {
         Some(bytes) => outage_table(alloc, network, bytes),

@@ -364,7 +364,11 @@ fn write_factor_fault(text: &mut Text, fault: FactorFault) -> Result<(), Memory>
 {
     match fault {
         FactorFault::TooMany { count } => numbered(text, b"TooMany count ", count),
-        FactorFault::NotPositive { branch } => numbered(text, b"NotPositive branch ", branch as usize),
+        FactorFault::NotPositive { branch } => numbered(
+            text,
+            b"NotPositive branch ",
+            branch as usize,
+        ),
     }
 }
 
