@@ -1,6 +1,6 @@
 -- Tables of factors that are made, and why none are.
-use Rattle.std.proofs.Common.{◌≡◌, ◌∙◌, ◌++◌, ℕ, ℤ, List, ap, cc, subst, sym, refl, tt, Bool, true, false, Option, Some, None, Ok, inl, inr}
-use Rattle.std.specs.Prelude.{IfSome, not, is_some, option_map, ◌&&◌, ◌⊎◌, if◌then◌else◌}
+use Rattle.std.proofs.Common.{◌≡◌, ◌∙◌, ◌++◌, ℕ, ℤ, List, ap, cc, subst, sym, refl, tt, Bool, true, false, Option, Some, None, Result, Ok, Err, inl, inr}
+use Rattle.std.specs.Prelude.{IfErr, IfSome, not, is_some, option_map, ◌&&◌, ◌⊎◌, if◌then◌else◌}
 use Rattle.fraction_theory.specs.Fraction.{Fraction}
 use Rattle.market_data.specs.declared.scales.FactorPlaces.{FactorPlaces}
 use Rattle.net_case.specs.Networks.{LiveNetwork}
@@ -52,6 +52,28 @@ module _ {N : Type 0} (value : N → Fraction) (bound : ℕ) (network : LiveNetw
     ],
   )
   loss-stop outages stop.Memory h = tt
+
+-- ---- what is handed on
+-- why there is no shift table is why there are none
+pub shift-stopped : {A B N : Type 0} (value : N → Fraction) (bound : ℕ) (inputs : FactorInputs) (wanted : Bool) (places : FactorPlaces) (r : Result A (MakeStop N)) (out : Result B (MakeStop N)) (why : MakeStop N)
+    → IfErr r (IsShiftStop value bound inputs.network inputs.reactances) → r ≡ Err why → out ≡ Err why → IfErr out (λ e. IsFactorsStop bound inputs wanted places (stop_at value e))
+shift-stopped value bound inputs wanted places r out why is was gives =
+    subst (λ o. IfErr o (λ e. IsFactorsStop bound inputs wanted places (stop_at value e))) (sym gives)
+    (of_shift (shift-stop value bound inputs.network inputs.reactances why (subst (λ q. IfErr q (IsShiftStop value bound inputs.network inputs.reactances)) was is)))
+
+-- and so is why there is no outage table, behind a shift table
+pub loss-stopped : {A B N : Type 0} (value : N → Fraction) (bound : ℕ) (inputs : FactorInputs) (wanted : Bool) (places : FactorPlaces) (shift : FactorRecords) (r : Result A (MakeStop N)) (out : Result B (MakeStop N))
+    (why : MakeStop N) → IsShiftTable inputs places shift → IfErr r (λ e. (wanted ≡ true) × IsLossStop value bound inputs.network inputs.reactances inputs.outages e) → r ≡ Err why → out ≡ Err why
+    → IfErr out (λ e. IsFactorsStop bound inputs wanted places (stop_at value e))
+loss-stopped value bound inputs wanted places shift r out why table is was gives =
+    let cause = subst (λ q. IfErr q (λ e. (wanted ≡ true) × IsLossStop value bound inputs.network inputs.reactances inputs.outages e)) was is in
+    subst (λ o. IfErr o (λ e. IsFactorsStop bound inputs wanted places (stop_at value e))) (sym gives)
+    (of_loss shift table cause.0 (loss-stop value bound inputs.network inputs.reactances inputs.outages why cause.1))
+
+-- an outage table that is wanted
+pub loss-wanted : (inputs : FactorInputs) (wanted : Bool) (places : FactorPlaces) (loss : FactorRecords) → wanted ≡ true → IsLossTable inputs places loss → IsLossIfWanted inputs wanted places (Some loss)
+loss-wanted inputs true places loss is table = table
+loss-wanted inputs false places loss is table = cc is
 
 -- ---- what tables are made of is sound
 sound : (inputs : FactorInputs) → AreFitToMake inputs → ArePositive inputs.reactances → IsSound inputs.network inputs.reactances None

@@ -125,15 +125,15 @@ module _ (network : LiveNetwork) (xs : List ℤ) (outages : List ℕ) (places : 
   rounded : (k : NetBranch) → Contains made.lost k → AreRounded network xs (Some k.row) places k.from k.to (λ row. factor_at loss.entries (row, k.row))
   rounded k d l c = elim (factor_at-means loss.entries (l.row, k.row)) [
     | inl there ↦ of_record l k (factor_at loss.entries (l.row, k.row)) (kept_live (Some k.row) network.branches l c) (lost_live k d).0 there
-    | inr none ↦ absurd (missing none.0)
+    | inr lacking ↦ absurd (missing lacking.0)
   ]
     where
       missing : has_pair loss.entries (l.row, k.row) ≡ false → ⊥
-      missing none =
+      missing lacking =
           let p = zip_partner (IsLossEntry network xs places) pairs loss.entries made.entries (l, k) (pair_there_of l k d c) in
           let there : Contains loss.entries ((l.row, k.row), p.0.1) = subst (λ (q : Pair). Contains loss.entries (q, p.0.1)) p.2.pair_is p.1 in
           let found = pair_there loss.entries (l.row, k.row) p.0.1 there in
-          cc (found, none)
+          cc (found, lacking)
 
   explained : (k : NetBranch) → Contains made.lost k → AreExplained network xs (outage_column network loss k)
   explained k d =

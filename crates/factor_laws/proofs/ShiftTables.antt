@@ -100,15 +100,15 @@ module _ (network : LiveNetwork) (xs : List ℤ) (places : FactorPlaces) (shift 
   rounded : (i : ℕ) → Contains (places_below buses) i → AreRounded network xs None places i network.reference (λ row. factor_at shift.entries (row, bus_number network i))
   rounded i d l c = elim (factor_at-means shift.entries (l.row, bus_number network i)) [
     | inl there ↦ of_record l i (factor_at shift.entries (l.row, bus_number network i)) c (lists.places_below buses i d) there
-    | inr none ↦ absurd (missing none.0)
+    | inr lacking ↦ absurd (missing lacking.0)
   ]
     where
       missing : has_pair shift.entries (l.row, bus_number network i) ≡ false → ⊥
-      missing none =
+      missing lacking =
           let p = zip_partner (IsShiftEntry network xs places) pairs shift.entries made.entries (l, i) (pair_there_of l i c d) in
           let there : Contains shift.entries ((l.row, bus_number network i), p.0.1) = subst (λ (q : Pair). Contains shift.entries (q, p.0.1)) p.2.pair_is p.1 in
           let found = pair_there shift.entries (l.row, bus_number network i) p.0.1 there in
-          cc (found, none)
+          cc (found, lacking)
 
   explained : (i : ℕ) → Contains (places_below buses) i → AreExplained network xs (shift_column network shift i)
   explained i d = subst (λ (p : FactorPlaces). AreExplained network xs (rounded_column network None p (bus_number network i) i network.reference (λ row. factor_at shift.entries (row, bus_number network i)))) (sym made.places_are)
