@@ -181,7 +181,7 @@ pub fn factors_told(
     places: FactorPlaces,
 ) -> Result<Told, Memory>
     ensures status { IfOk result (λ told. IsOfWork told.status) }
-    ensures tells { IfOk result (λ told. Tells (IsFactorWork case.now (option_map (λ bytes. bytes.now) contingencies)) (TellsFactors wanted places) (telling_of told)) }
+    ensures tells { IfOk result (λ told. Tells (IsFactorWork case.now (option_map (λ bytes. bytes.now) contingencies.entry)) (TellsFactors wanted places) (telling_of told)) }
 {
     match factor_inputs(alloc, case, contingencies) {
         Ok(inputs) => made_told(alloc, &inputs, wanted, places),

@@ -29,7 +29,7 @@ fn asked_outages(
     network: &Network,
     contingencies: Option<&[u8]>,
 ) -> Result<Outages, InputStop>
-    ensures told { IsToldAs (AreAskedOutages network.now (option_map (λ bytes. bytes.now) contingencies)) result }
+    ensures told { IsToldAs (AreAskedOutages network.now (option_map (λ bytes. bytes.now) contingencies.entry)) result }
     ensures kept { IfOk result (MayBeLost network.now) }
 {
     match contingencies {
@@ -44,7 +44,7 @@ fn factor_inputs_of(
     raw: &RawCase<'_>,
     contingencies: Option<&[u8]>,
 ) -> Result<FactorInputs, InputStop>
-    ensures told { IsToldAs (AreFactorInputsOf (option_map (λ bytes. bytes.now) contingencies) raw.now) result }
+    ensures told { IsToldAs (AreFactorInputsOf (option_map (λ bytes. bytes.now) contingencies.entry) raw.now) result }
     ensures fit { IfOk result AreFitToMake }
 {
     let network = joined_network(alloc, raw, PostRating::C)?;
@@ -63,7 +63,7 @@ pub fn factor_inputs(
     case: &[u8],
     contingencies: Option<&[u8]>,
 ) -> Result<FactorInputs, InputStop>
-    ensures told { IsToldAs (AreFactorInputs case.now (option_map (λ bytes. bytes.now) contingencies)) result }
+    ensures told { IsToldAs (AreFactorInputs case.now (option_map (λ bytes. bytes.now) contingencies.entry)) result }
     ensures fit { IfOk result AreFitToMake }
 {
     let raw = case_matrices(alloc, case)?;
