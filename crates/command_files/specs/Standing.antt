@@ -78,7 +78,7 @@ pub record AreFactorFiles (files : Files) (names : FactorNames) (told : Result F
 
 -- what these come to, with a table of outage factors where a file is named for it, and factors of so many places
 abbrev pub TellsFactorsOf : FactorNames → FactorInputs → Telling → Type 0
-TellsFactorsOf names inputs t = TellsFactors inputs (is_some names.lodf_out) names.places t
+TellsFactorsOf names = TellsFactors (is_some names.lodf_out) names.places
 
 -- ---- where the files are told
 -- what is told is right for what the files stand for

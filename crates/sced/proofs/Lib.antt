@@ -1,6 +1,7 @@
 pub mod AnswerLemmas
 pub mod AskedLemmas
 pub mod EndLemmas
+mod FactorLemmas
 mod FailureLemmas
 mod HeadlineLemmas
 mod PromiseLemmas
