@@ -7,6 +7,7 @@ use Rattle.net_case.specs.declared.live_parts.PostRating.{PostRating}
 use Rattle.refusal_text.specs.declared.refusals.Input.TheVariants as input
 use Rattle.refusal_text.specs.declared.refusals.Refusal.{Refusal}
 use Rattle.refusal_text.specs.declared.refusals.Refusal.TheVariants as refusal
+use Rattle.market_inputs.specs.Cases.{matrices_in}
 use Rattle.market_inputs.specs.Checking.{AreInputs}
 use Rattle.market_inputs.specs.Clearing.{IsClearMarket}
 use Rattle.market_inputs.specs.Files.{sized}
@@ -188,7 +189,7 @@ pub factor-work-same : (case case' outages outages' : List ℕ) (told : Result F
     → sized (refusal.TooLong input.Case) case ≡ sized (refusal.TooLong input.Case) case'
     → sized (refusal.TooLong input.Contingencies) outages ≡ sized (refusal.TooLong input.Contingencies) outages'
     → IsFactorWork case (Some outages) told → IsFactorWork case' (Some outages') told
-factor-work-same case case' outages outages' told same_case same_outages h = rw (same_case, same_outages) at h
+factor-work-same case case' outages outages' told same_case same_outages h = record { made = h.made; is = ap matrices_in (sym same_case) ∙ h.is; rest = rw same_outages at h.rest }
 
 pub files-factors : (files : Option Files) (names : FactorNames) (case_read outages_read : List ℕ) (t : Telling) → Reads files names.case 33554432 case_read
     → ReadsTable files (source_of outage_header names.contingencies) outages_read → Tells (IsFactorWork case_read (Some outages_read)) (TellsFactorsOf names) t

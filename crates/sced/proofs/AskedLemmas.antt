@@ -88,7 +88,7 @@ factor-files-once : (files : Files) (names : FactorNames) → OfOne (AreFactorFi
 factor-files-once files names a b h k =
     let same_case = same-bytes k.case h.case (files names.case) k.case_is h.case_is in
     let same_outages = same-table files (source_of outage_header names.contingencies) k.outages h.outages k.outages_are h.outages_are in
-    factor-work-once h.case h.outages a b h.work (rw (same_case, same_outages) at k.work)
+    factor-work-once h.case h.outages a b h.work (subst (λ o. IsFactorWork h.case (Some o) b) same_outages (subst (λ c. IsFactorWork c (Some k.outages) b) same_case k.work))
 
 migrated-file-once : (files : Files) (certificate : List ℕ) → OfOne (IsMigratedFile files certificate)
 migrated-file-once files certificate a b h k =
