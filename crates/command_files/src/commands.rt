@@ -16,10 +16,12 @@ ghost use Rattle.command_files.specs.Standing.{AreCheckFiles, AreClearFiles, Are
 
 use crate::reading::{read_file, read_grid, read_market, read_table};
 use command_answers::{
-    Status, Told, check_told, clear_told, factors_told, migrate_told, pool_told, replay_told, rights_told,
-    verify_told,
+    Status, Told, check_told, clear_told, factors_told, migrate_told, pool_told, replay_told,
+    rights_told, verify_told,
 };
-use command_words::{CheckNames, FactorNames, MarketNames, PoolFiles, ReplayFiles, RightsFiles, VerifyFiles};
+use command_words::{
+    CheckNames, FactorNames, MarketNames, PoolFiles, ReplayFiles, RightsFiles, VerifyFiles,
+};
 use edit_table::EDIT_HEADER;
 use factor_tables::OUTAGE_HEADER;
 use outside_store::Store;

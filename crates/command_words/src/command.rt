@@ -296,11 +296,7 @@ fn factors_command<'a>(alloc: Global, places: &'a [&'a str]) -> Result<Command<'
     ensures app { IfOk result (λ made. app_of made ≡ factors_app places.entry) }
     ensures local { IfOk result (λ made. (fields_of made).has_globals ≡ false) }
 {
-    let command = described(
-        alloc,
-        "factors",
-        "Makes tables of shift and outage factors",
-    );
+    let command = described(alloc, "factors", "Makes tables of shift and outage factors");
     let command = with_file(alloc, command, "case", CASE)?;
     let command = with_file(alloc, command, "ptdf-out", PTDF_OUT)?;
     let command = with_table(alloc, command, "lodf-out", LODF_OUT)?;

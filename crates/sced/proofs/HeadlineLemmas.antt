@@ -526,22 +526,19 @@ module _ (words : List (List ℕ)) (files : Files) (text : List ℕ) (s : Status
         check-status true wrong = cc wrong
         check-status false wrong = cc wrong
 
-    of-factors : (names : FactorNames) (asked : AsksFactors words names) (inputs : FactorInputs) → AreFactorFiles files names (Ok inputs) → TellsFactorsOf names inputs p.telling → Why
-    of-factors names asked inputs stands (fit, makes) = by makes
+    of-factors : (inputs : FactorInputs) (asks : AsksForFactors files words (Ok inputs)) → TellsFactorsOf asks.names inputs p.telling → Why
+    of-factors inputs asks (fit, makes) = by makes
       where
-        asks : AsksForFactors files words (Ok inputs)
-        asks = record { names = names; asks = asked; stand = stands }
-
         line : (fault : FactorFault) → p.telling ≡ refusal_of (refusal.Factors fault) → text ≡ refusal_line (refusal.Factors fault)
         line fault is = (refusal-put (refusal.Factors fault) is).1
 
-        none : (why : MakeStop Fraction) → making_factors.IsFactorsStop most_size inputs (is_some names.lodf_out) names.places why → making_factors.TellsStop most_size why p.telling → Why
+        none : (why : MakeStop Fraction) → making_factors.IsFactorsStop most_size inputs (is_some asks.names.lodf_out) asks.names.places why → making_factors.TellsStop most_size why p.telling → Why
         none (make_stop.TooMany count) stops is = inr (inr (record { inputs = inputs; asks = asks; fault = factor_fault.TooMany count; why = stops; told = line (factor_fault.TooMany count) is }))
         none (make_stop.NotPositive branch) stops is = inr (inr (record { inputs = inputs; asks = asks; fault = factor_fault.NotPositive branch; why = stops; told = line (factor_fault.NotPositive branch) is }))
         none (make_stop.Passed q) stops (within, is) = let wrong : status.Range ≡ status.Refused = sym (ap (λ (t : Telling). t.status) is) ∙ bad in cc wrong
         none make_stop.Memory stops never = absurd never
 
-        by : MakesFactors most_size inputs (is_some names.lodf_out) names.places p.telling → Why
+        by : MakesFactors most_size inputs (is_some asks.names.lodf_out) asks.names.places p.telling → Why
         by (making_factors.made tables are is) = let wrong : status.Done ≡ status.Refused = sym (ap (λ (t : Telling). t.status) is) ∙ bad in cc wrong
         by (making_factors.stopped why stops tells) = none why stops tells
 
@@ -565,7 +562,7 @@ module _ (words : List (List ℕ)) (files : Files) (text : List ℕ) (s : Status
         by-fault (IsMigratedFile files old) TellsMigration (λ r stands. to_migrate (record { certificate = old; out = out; asks = asked; stand = stands })) (λ c stands right. of-migration c right) tells
     why-refused _ (checked names asked tells) = by-fault (AreCheckFiles files names) TellsCheck (λ r stands. to_check (record { names = names; asks = asked; stand = stands })) (λ inputs stands right. of-check inputs right) tells
     why-refused _ (factored names asked tells) =
-        by-fault (AreFactorFiles files names) (TellsFactorsOf names) (λ r stands. for_factors (record { names = names; asks = asked; stand = stands })) (λ inputs stands right. of-factors names asked inputs stands right) tells
+        by-fault (AreFactorFiles files names) (TellsFactorsOf names) (λ r stands. for_factors (record { names = names; asks = asked; stand = stands })) (λ inputs stands right. of-factors inputs (record { names = names; asks = asked; stand = stands }) right) tells
     why-refused _ (made buses seed asked makes) = of-ring buses seed makes
 
 pub law_of_faults : LawOfFaults
