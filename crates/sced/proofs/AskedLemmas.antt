@@ -34,10 +34,10 @@ use Rattle.sced.specs.Told.{AnswersTo, checked, cleared, entitled, factored, mad
 use Rattle.command_files.specs.Standing.{AreCheckFiles, AreClearFiles, AreFactorFiles, ArePoolFiles, AreReplayFiles, AreRightsFiles, AreVerifyFiles, IsMigratedFile, TellsFactorsOf}
 
 -- ---- files stand for one market, or have one first fault
-same-bytes : (a b : List ℕ) (o : Option (List ℕ)) → o ≡ Some a → o ≡ Some b → a ≡ b
+pub same-bytes : (a b : List ℕ) (o : Option (List ℕ)) → o ≡ Some a → o ≡ Some b → a ≡ b
 same-bytes a b o first second = Prim.cc
 
-same-table : (files : Files) (source : Source) (a b : List ℕ) → IsTable files source a → IsTable files source b → a ≡ b
+pub same-table : (files : Files) (source : Source) (a b : List ℕ) → IsTable files source a → IsTable files source b → a ≡ b
 same-table files (in_file name) a b first second = same-bytes a b (files name) first second
 same-table files (header_alone header) a b first second = first ∙ sym second
 

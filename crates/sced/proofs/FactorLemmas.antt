@@ -1,5 +1,5 @@
 -- The law of runs that make tables of factors.
-use Rattle.std.specs.Prelude.{◌≡◌, ◌≢◌, ℕ, List, [], codes, Option, Some, None, Ok, is_some, option_map}
+use Rattle.std.specs.Prelude.{◌≡◌, ◌≢◌, ℕ, Bool, true, false, List, [], codes, Option, Some, None, Ok, is_some, option_map}
 use Rattle.std.proofs.Common.{inl, inr, refl, sym, subst, ap, ◌∙◌}
 use Rattle.fraction_theory.specs.Fraction.{Fraction}
 use Rattle.outside_store.specs.Files.{Files, SameFiles}
@@ -8,6 +8,12 @@ use Rattle.factor_maker.specs.declared.stops.MakeStop.TheVariants as make_stop
 use Rattle.factor_tables.specs.declared.by_pair.Column.TheVariants as column
 use Rattle.factor_tables.specs.Factors.{FactorRecords}
 use Rattle.factor_text.specs.Texts.{table_text}
+use Rattle.factor_laws.specs.Laws.{LossTablesAreReadBack, ShiftTablesAreReadBack}
+use Rattle.factor_tables.specs.Tables.{loss_of}
+use Rattle.dc_network.specs.DcNetworks.{ArePositive}
+use Rattle.dc_network.specs.Laws.{IsSound}
+use Rattle.market_data.specs.declared.scales.FactorPlaces.{FactorPlaces}
+use Rattle.market_inputs.specs.Making.{AreFitToMake}
 use Rattle.market_inputs.specs.declared.making.FactorInputs.{FactorInputs}
 use Rattle.refusal_text.specs.declared.refusals.FactorFault.TheVariants as factor_fault
 use Rattle.refusal_text.specs.declared.refusals.Refusal.{Refusal}
@@ -16,14 +22,13 @@ use Rattle.refusal_text.specs.Refusals.{refusal_line}
 use Rattle.command_words.specs.Words.{AsksFactors, FactorNames}
 use Rattle.command_words.proofs.WordsLemmas.{factors-once}
 use Rattle.command_answers.specs.Clearing.{most_size}
-use Rattle.command_answers.specs.Factors.{AreTables, IsFactorsStop, MakesFactors, TellsStop, made, stopped, tables_telling, tables_text}
-use Rattle.command_answers.specs.Laws.{LawOfMadeTables}
+use Rattle.command_answers.specs.Factors.{AreTables, IsFactorsStop, IsLossIfWanted, IsLossTable, TellsStop, made, stopped, tables_telling}
 use Rattle.command_answers.specs.Tellings.{Telling, certified, refusal_of, tabled}
 use Rattle.command_answers.specs.declared.factors.MadeTables.{MadeTables}
 use Rattle.command_answers.specs.declared.status.Status.{Status}
 use Rattle.command_answers.specs.declared.status.Status.TheVariants as status
 use Rattle.command_files.specs.Standing.{TellsFactorsOf}
-use Rattle.sced.specs.Headline.{HaveTables, IsFactored, LawOfFactors, made_tables, passed_tables, refused_tables}
+use Rattle.sced.specs.Headline.{HaveTables, IsFactored, LawOfFactors, Prints, made_tables, passed_tables, refused_tables}
 use Rattle.sced.specs.Runs.{Keeps}
 use Rattle.sced.specs.Told.{AnswersTo, checked, cleared, entitled, factored, migrated, named_bytes, named_outputs, pooled, refused, replayed, verified}
 use Rattle.sced.specs.Told as told
@@ -66,8 +71,22 @@ module _ (files later : Files) (first : List ℕ) (second : Option (List ℕ)) (
       (subst (λ b. Keeps ⊥ (named_bytes (Some name) b []) (Some between) (Some later)) there (subst (λ n. Keeps ⊥ (named_bytes n two []) (Some between) (Some later)) named kept))
   second-kept (inr (None, wrote, kept)) name text named there = elim wrote [ ]
 
+-- ---- what was made
+-- a network of which tables were made is sound
+pub sound : (inputs : FactorInputs) → AreFitToMake inputs → ArePositive inputs.reactances → IsSound inputs.network inputs.reactances None
+sound inputs fit positive = record { network_is = fit.network; reactances = fit.reactances; positive = positive; joined = fit.joined }
+
+-- a table of outage factors that is there was wanted
+pub loss-made : (inputs : FactorInputs) (wanted : Bool) (places : FactorPlaces) (loss : Option FactorRecords) (table : FactorRecords) → loss ≡ Some table
+    → IsLossIfWanted inputs wanted places loss → IsLossTable inputs places table
+loss-made inputs wanted places loss table there is = by wanted (subst (IsLossIfWanted inputs wanted places) there is)
+  where
+    by : (wanted : Bool) → IsLossIfWanted inputs wanted places (Some table) → IsLossTable inputs places table
+    by true is = is
+    by false is = absurd is
+
 -- ---- the law
-module _ (law_of_made_tables : LawOfMadeTables) (names : FactorNames) (inputs : FactorInputs) (files later : Files) (t : Telling) (text : List ℕ) (s : Status) (words : t.text ≡ text) (ends : t.status ≡ s) where
+module _ (shift_back : ShiftTablesAreReadBack) (loss_back : LossTablesAreReadBack) (names : FactorNames) (inputs : FactorInputs) (files later : Files) (t : Telling) (text : List ℕ) (s : Status) (words : t.text ≡ text) (ends : t.status ≡ s) where
   abbrev Kept : Telling → Type 0
   Kept e = Keeps ⊥ (named_outputs (tabled names.ptdf_out names.lodf_out) e.outputs) (Some files) (Some later)
 
@@ -96,19 +115,27 @@ module _ (law_of_made_tables : LawOfMadeTables) (names : FactorNames) (inputs : 
   of-tables : TellsFactorsOf names inputs t → Kept t → IsFactored names inputs files later text s
   of-tables (fit, stopped why stops tells) = of-stop why stops tells
   of-tables (fit, made tables are is) =
-      let read = law_of_made_tables inputs (is_some names.lodf_out) names.places tables fit are in
       as-told (tables_telling tables) is
       (λ kept. made_tables tables are refl (record {
         shift = first-kept files later names.ptdf_out names.lodf_out (shift_text tables) (option_map loss_text tables.loss) kept;
         loss = λ file loss named there. second-kept files later names.ptdf_out names.lodf_out (shift_text tables) (option_map loss_text tables.loss) kept file (loss_text loss) named (ap (option_map loss_text) there);
-        shift_read = read.shift;
-        loss_read = read.loss;
+        shift_read = (shift_back inputs.network inputs.reactances names.places tables.shift (sound inputs fit are.shift.positive) are.shift.made).1;
+        loss_read = λ loss there. loss-back loss (loss-made inputs (is_some names.lodf_out) names.places tables.loss loss there are.loss);
       }))
+    where
+      loss-back : (loss : FactorRecords) → IsLossTable inputs names.places loss → loss_of inputs.network (loss_text loss) names.places ≡ Ok loss
+      loss-back loss is = (loss_back inputs.network inputs.reactances inputs.outages names.places loss (sound inputs fit is.positive) fit.outages is.made).1
 
-pub law_of_factors : LawOfMadeTables → LawOfFactors
-law_of_factors law_of_made_tables words files later text s inputs run now asks =
+-- what a run writes that was asked for tables
+pub factors-kept : (words : List (List ℕ)) (files later : Files) (text : List ℕ) (s : Status) (run : Prints words files text s) → run.after.files ≡ Some later → (names : FactorNames) → AsksFactors words names
+    → Keeps ⊥ (named_outputs (tabled names.ptdf_out names.lodf_out) (printed words files text s run).telling.outputs) (Some files) (Some later)
+factors-kept words files later text s run now names asks =
     let p = printed words files text s run in
-    let written = factors-written files words p.telling p.written asks.names asks.asks p.answers in
-    let kept : Keeps ⊥ (named_outputs (tabled asks.names.ptdf_out asks.names.lodf_out) p.telling.outputs) (Some files) (Some later) =
-    subst (λ a. Keeps ⊥ (named_outputs (tabled asks.names.ptdf_out asks.names.lodf_out) p.telling.outputs) (Some files) a) now (subst (λ w. Keeps ⊥ w (Some files) run.after.files) written p.kept) in
-    of-tables law_of_made_tables asks.names inputs files later p.telling text s p.text_is p.status_is (factors-told files words p.telling p.written (Ok inputs) p.answers asks) kept
+    let written = factors-written files words p.telling p.written names asks p.answers in
+    subst (λ a. Keeps ⊥ (named_outputs (tabled names.ptdf_out names.lodf_out) p.telling.outputs) (Some files) a) now (subst (λ w. Keeps ⊥ w (Some files) run.after.files) written p.kept)
+
+pub law_of_factors : ShiftTablesAreReadBack → LossTablesAreReadBack → LawOfFactors
+law_of_factors shift_back loss_back words files later text s inputs run now asks =
+    let p = printed words files text s run in
+    of-tables shift_back loss_back asks.names inputs files later p.telling text s p.text_is p.status_is (factors-told files words p.telling p.written (Ok inputs) p.answers asks)
+    (factors-kept words files later text s run now asks.names asks.asks)

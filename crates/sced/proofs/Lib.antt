@@ -1,6 +1,7 @@
 pub mod AnswerLemmas
 pub mod AskedLemmas
 pub mod EndLemmas
+mod FactorCheckLemmas
 mod FactorLemmas
 mod FailureLemmas
 mod HeadlineLemmas

@@ -62,7 +62,7 @@ use Rattle.refusal_text.specs.declared.refusals.FactorFault.{FactorFault}
 use Rattle.refusal_text.specs.declared.refusals.FactorFault.TheVariants as factor_fault
 use Rattle.refusal_text.specs.declared.refusals.Refusal.{Refusal}
 use Rattle.refusal_text.specs.declared.refusals.Refusal.TheVariants as refusal
-use Rattle.command_words.specs.Words.{AsksClear, AsksMake, AsksNothing, AsksReplay, FactorNames, MarketNames, NamesFile, NamesToWrite}
+use Rattle.command_words.specs.Words.{AsksClear, AsksMake, AsksNothing, AsksReplay, CheckNames, FactorNames, IsFactorFile, IsFactorTable, MarketNames, NamesFile, NamesToWrite}
 use Rattle.residual_text.specs.ResidualLines.{residuals_text}
 use Rattle.market_inputs.specs.declared.checking.Inputs.{Inputs}
 use Rattle.market_inputs.specs.declared.making.FactorInputs.{FactorInputs}
@@ -346,6 +346,26 @@ abbrev pub LawOfFactors : Type 0
 LawOfFactors = (words : List (List ℕ)) (files later : Files) (text : List ℕ) (s : Status) (inputs : FactorInputs)
     → (run : Prints words files text s) → run.after.files ≡ Some later → (asks : AsksForFactors files words (Ok inputs))
     → IsFactored asks.names inputs files later text s
+
+-- ---- check of factors
+-- each table has a file of its own, which is none that was read
+pub record AreFilesApart (names : FactorNames) : Type 0 where
+  pub outputs : names.lodf_out ≢ Some names.ptdf_out
+  pub inputs : (file : List ℕ) → IsFactorFile names file → ¬ (IsFactorTable names file)
+
+-- the files of a check of the tables, whose factors have the places that were asked for
+abbrev pub check_of : FactorNames → CheckNames
+check_of names = record {
+  tables = record { case = names.case; ptdf = names.ptdf_out; lodf = names.lodf_out; contingencies = names.contingencies };
+  places = names.places;
+}
+
+-- of both tables that were made, with the case and the outages of which they were, `check` says that all is within what rounding explains
+abbrev pub LawOfFactorCheck : Type 0
+LawOfFactorCheck = (words again : List (List ℕ)) (files later : Files) (text answer : List ℕ) (s t : Status) (inputs : FactorInputs) (checked : Inputs)
+    (file : List ℕ) → (run : Prints words files text s) → run.after.files ≡ Some later → (asks : AsksForFactors files words (Ok inputs)) → s ≡ status.Done
+    → asks.names.lodf_out ≡ Some file → AreFilesApart asks.names → Prints again later answer t → (check : AsksToCheck later again (Ok checked))
+    → check.names ≡ check_of asks.names → t ≡ status.Done
 
 -- ---- faults
 -- an edit among the steps that the words ask for is refused
