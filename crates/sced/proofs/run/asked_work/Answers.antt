@@ -148,3 +148,6 @@ returns-in-Ok-Factors-clause-named g c =
     let asks = asks-factors words c.in-Ok-Factors.field-0 c.in-Ok-Factors.files c.in-Ok-Factors.field-0-is c.in-Ok-Factors.ensures.asked in
     named-ok words c.with_files-in-Ok-Factors.result c.factors_files.result (tabled names.ptdf_out names.lodf_out) (rw c.tabled.ensures at c.with_files-in-Ok-Factors.ensures)
     (λ file is. inr (inr (inr (names, asks, tables-named names.ptdf_out names.lodf_out file is))))
+
+pub returns-in-Err-Usage-clause-named : goal.returns-in-Err-Usage-clause-named
+returns-in-Err-Usage-clause-named g c = rw c.certified.ensures (none-named (NamesToWrite (map string_bytes c.args.words.now)))
