@@ -3,6 +3,7 @@
 
 ghost use Rattle.std.specs.Prelude.{◌≡◌, ◌∷◌, [], pos, negsuc, length, None, Some, if◌then◌else◌, IfOk};
 ghost use Rattle.market_model.specs.Lines.{hard_line};
+ghost use Rattle.market_model.specs.Market.{bare_parts};
 
 use crate::{Fit, MOST_RIGHTS, Payments, RightsFault, fit, pay, rights};
 use exact_fraction::{Exact, Frac, Frac63, Op, Passed};
@@ -16,90 +17,117 @@ use std::cmp::Ordering;
 use std::fmt::Debug;
 use std::test::Fail;
 
-fn bus(number: u32) -> Bus
-    ensures { result ≡ record { number = number; pd = pos 0; gs = pos 0 } }
-{
+const BUSES: [Bus; 3] = [
     Bus {
-        number,
+        number: 1,
         pd: 0,
         gs: 0,
-    }
-}
+    },
+    Bus {
+        number: 2,
+        pd: 0,
+        gs: 0,
+    },
+    Bus {
+        number: 3,
+        pd: 0,
+        gs: 0,
+    },
+];
 
-fn factor_for(line: usize, of: usize, value: i64) -> Factor
-    ensures { result ≡ record { line = line; of = of; value = value } }
-{
-    Factor { line, of, value }
-}
+/// The shift factors of branches 1 and 2 of the triangle.
+const SHIFT: [Factor; 4] = [
+    Factor {
+        line: 0,
+        of: 1,
+        value: -500_000_000,
+    },
+    Factor {
+        line: 0,
+        of: 2,
+        value: -250_000_000,
+    },
+    Factor {
+        line: 1,
+        of: 1,
+        value: -500_000_000,
+    },
+    Factor {
+        line: 1,
+        of: 2,
+        value: -750_000_000,
+    },
+];
 
-fn three_buses(alloc: Global) -> Result<List<Bus>, Memory>
-    ensures { IfOk result (λ list. list ≡ record { number = 1; pd = pos 0; gs = pos 0 } ∷ record { number = 2; pd = pos 0; gs = pos 0 } ∷ record { number = 3; pd = pos 0; gs = pos 0 } ∷ []) }
+/// All of the flow of branch 1 goes over to branch 2.
+const LOSS: [Factor; 1] = [Factor {
+    line: 1,
+    of: 0,
+    value: 1_000_000_000,
+}];
+
+/// A list of these.
+fn listed<T: Copy>(alloc: Global, items: &[T]) -> Result<List<T>, Memory>
+    ensures { IfOk result (λ list. list ≡ items.now) }
 {
     let mut list = List::new(alloc);
-    list.push(bus(1))?;
-    list.push(bus(2))?;
-    list.push(bus(3))?;
+    for item in items {
+        list.push(*item)?;
+    }
     Ok(list)
 }
 
-fn three_lines(alloc: Global) -> Result<List<Line>, Memory>
+fn lines(alloc: Global) -> Result<List<Line>, Memory>
     ensures { IfOk result (λ list. list ≡ hard_line 1 None None (pos 0) ∷ hard_line 2 (Some (pos 40)) (Some (pos 45)) (pos 0) ∷ hard_line 3 None None (pos 0) ∷ []) }
 {
-    let mut list = List::new(alloc);
-    list.push(Line::hard(1, None, None, 0))?;
-    list.push(Line::hard(2, Some(40), Some(45), 0))?;
-    list.push(Line::hard(3, None, None, 0))?;
-    Ok(list)
-}
-
-fn shift_factors(alloc: Global) -> Result<List<Factor>, Memory>
-    ensures { IfOk result (λ list. list ≡ record { line = 0; of = 1; value = negsuc 499999999 } ∷ record { line = 0; of = 2; value = negsuc 249999999 } ∷ record { line = 1; of = 1; value = negsuc 499999999 } ∷ record { line = 1; of = 2; value = negsuc 749999999 } ∷ []) }
-{
-    let mut list = List::new(alloc);
-    list.push(factor_for(0, 1, -500_000_000))?;
-    list.push(factor_for(0, 2, -250_000_000))?;
-    list.push(factor_for(1, 1, -500_000_000))?;
-    list.push(factor_for(1, 2, -750_000_000))?;
-    Ok(list)
-}
-
-fn loss_factors(alloc: Global) -> Result<List<Factor>, Memory>
-    ensures { IfOk result (λ list. list ≡ record { line = 1; of = 0; value = pos 1000000000 } ∷ []) }
-{
-    let mut list = List::new(alloc);
-    list.push(factor_for(1, 0, 1_000_000_000))?;
-    Ok(list)
+    let lines = [
+        Line::hard(1, None, None, 0),
+        Line::hard(2, Some(40), Some(45), 0),
+        Line::hard(3, None, None, 0),
+    ];
+    listed(alloc, &lines)
 }
 
 /// The outage of branch 1, or none.
 fn outages(alloc: Global, is_lost: bool) -> Result<List<u32>, Memory>
     ensures { IfOk result (λ list. list ≡ (if is_lost then 1 ∷ [] else [])) }
 {
-    let mut list = List::new(alloc);
     if is_lost {
-        list.push(1)?;
+        listed(alloc, &[1])
+    } else {
+        Ok(List::new(alloc))
     }
-    Ok(list)
+}
+
+/// Three buses with these branches and outages.
+fn network(alloc: Global, lines: List<Line>, outages: List<u32>) -> Result<Parts, Memory>
+    ensures { IfOk result (λ parts. parts ≡ record (bare_parts (record { number = 1; pd = pos 0; gs = pos 0 } ∷ record { number = 2; pd = pos 0; gs = pos 0 } ∷ record { number = 3; pd = pos 0; gs = pos 0 } ∷ []) [] []) { lines = lines; outages = outages; shift = record { line = 0; of = 1; value = negsuc 499999999 } ∷ record { line = 0; of = 2; value = negsuc 249999999 } ∷ record { line = 1; of = 1; value = negsuc 499999999 } ∷ record { line = 1; of = 2; value = negsuc 749999999 } ∷ []; loss = record { line = 1; of = 0; value = pos 1000000000 } ∷ [] }) }
+{
+    let buses = listed(alloc, &BUSES)?;
+    let shift = listed(alloc, &SHIFT)?;
+    let loss = listed(alloc, &LOSS)?;
+    Ok(Parts {
+        buses,
+        units: List::new(alloc),
+        blocks: List::new(alloc),
+        lines,
+        outages,
+        shift,
+        loss,
+        unit_outages: List::new(alloc),
+        pickups: List::new(alloc),
+        places: FactorPlaces::Six,
+        reserve: Reserve::none(alloc),
+    })
 }
 
 /// The triangle, with the outage or without.
 fn triangle(alloc: Global, is_lost: bool) -> Result<Market, Memory>
     ensures { IfOk result (λ market. length market.buses ≡ 3) }
 {
-    let parts = Parts {
-        buses: three_buses(alloc)?,
-        units: List::new(alloc),
-        blocks: List::new(alloc),
-        lines: three_lines(alloc)?,
-        outages: outages(alloc, is_lost)?,
-        shift: shift_factors(alloc)?,
-        loss: loss_factors(alloc)?,
-        unit_outages: List::new(alloc),
-        pickups: List::new(alloc),
-        places: FactorPlaces::Six,
-        reserve: Reserve::none(alloc),
-    };
-    assemble(alloc, parts)
+    let lines = lines(alloc)?;
+    let outages = outages(alloc, is_lost)?;
+    assemble(alloc, network(alloc, lines, outages)?)
 }
 
 /// Whether a number is this one.
@@ -108,10 +136,15 @@ fn is_number<N: Exact>(number: N, of: i32) -> bool {
 }
 
 /// The fit of a table of rights.
+fn fit_on<N: Exact + Debug>(alloc: Global, market: &Market, table: &[u8]) -> Result<Fit<N>, Fail> {
+    let rights = rights(alloc, market, table)?;
+    Ok(fit(alloc, market, rights.slice())?)
+}
+
+/// The same in the triangle.
 fn fit_of<N: Exact + Debug>(alloc: Global, is_lost: bool, table: &[u8]) -> Result<Fit<N>, Fail> {
     let market = triangle(alloc, is_lost)?;
-    let rights = rights(alloc, &market, table)?;
-    Ok(fit(alloc, &market, rights.slice())?)
+    fit_on(alloc, &market, table)
 }
 
 /// Whether all limits hold, or the one of branch 2 after the loss of this branch is broken with this flow; 0 is the base.
@@ -130,11 +163,22 @@ fn is_fit<N: Exact>(fit: Fit<N>, want: Option<(u32, i32)>) -> bool {
 }
 
 /// What the rights of a table are paid at bus prices of 10, 30 and 40.
+fn payments_on<N: Exact + Debug>(
+    alloc: Global,
+    market: &Market,
+    table: &[u8],
+) -> Result<Payments<N>, Fail>
+    requires { length market.now.buses ≡ 3 }
+{
+    let prices = prices(alloc)?;
+    let rights = rights(alloc, market, table)?;
+    Ok(pay(alloc, rights.slice(), prices.slice())?)
+}
+
+/// The same in the triangle.
 fn payments_of<N: Exact + Debug>(alloc: Global, table: &[u8]) -> Result<Payments<N>, Fail> {
     let market = triangle(alloc, false)?;
-    let rights = rights(alloc, &market, table)?;
-    let prices = prices(alloc)?;
-    Ok(pay(alloc, rights.slice(), prices.slice())?)
+    payments_on(alloc, &market, table)
 }
 
 /// The bus prices.
@@ -167,41 +211,43 @@ fn are_paid<N: Exact>(payments: &Payments<N>, each: &[i32], total: i32) -> bool 
     payments.each.len() == each.len() && is_number(payments.total, total)
 }
 
-/// The flow of branch 2 is a half of what is taken out at bus 2 and three quarters of that at bus 3; branch 1 adds a half and a quarter.
+/// Tables, whether branch 1 is lost, and the limit of branch 2 that is broken. The flow of branch 2 is a half of what is taken out at bus 2
+/// and three quarters of that at bus 3; branch 1 adds a half and a quarter.
+static FITS: [(&[u8], bool, Option<(u32, i32)>); 9] = [
+    (b"from,to,mw\n1,3,5e-8\n1,2,5e-9\n", false, None),
+    (b"from,to,mw\n1,3,6e-8\n", false, Some((0, 45))),
+    (b"from,to,mw\n3,1,6e-8\n", false, Some((0, -45))),
+    // 75/2 in the base is kept, and 75/2 + 25/2 after the outage is not.
+    (b"from,to,mw\n1,3,5e-8\n", true, Some((1, 50))),
+    (b"from,to,mw\n1,3,6e-8\n", true, Some((0, 45))),
+    // Opposite rights, one from a bus to itself, one of nothing, and none.
+    (b"from,to,mw\n1,3,6e-8\n3,1,6e-8\n", true, None),
+    (b"from,to,mw\n2,2,9e-8\n", true, None),
+    (b"from,to,mw\n1,3,0\n", true, None),
+    (b"from,to,mw\n", true, None),
+];
+
 fn fits<N: Exact + Debug>(alloc: Global) -> Result<bool, Fail> {
-    for (table, is_lost, want) in [
-        (b"from,to,mw\n1,3,5e-8\n1,2,5e-9\n".as_slice(), false, None),
-        (b"from,to,mw\n1,3,6e-8\n", false, Some((0, 45))),
-        (b"from,to,mw\n3,1,6e-8\n", false, Some((0, -45))),
-        // 75/2 in the base is kept, and 75/2 + 25/2 after the outage is not.
-        (b"from,to,mw\n1,3,5e-8\n", true, Some((1, 50))),
-        (b"from,to,mw\n1,3,6e-8\n", true, Some((0, 45))),
-        // Opposite rights, one from a bus to itself, one of nothing, and none.
-        (b"from,to,mw\n1,3,6e-8\n3,1,6e-8\n", true, None),
-        (b"from,to,mw\n2,2,9e-8\n", true, None),
-        (b"from,to,mw\n1,3,0\n", true, None),
-        (b"from,to,mw\n", true, None),
-    ] {
-        if !is_fit(fit_of::<N>(alloc, is_lost, table)?, want) {
+    for (table, is_lost, want) in &FITS {
+        if !is_fit(fit_of::<N>(alloc, *is_lost, table)?, *want) {
             return Ok(false);
         }
     }
     Ok(true)
 }
 
+/// Tables, what each of their rights is paid, and all together.
+static PAYS: [(&[u8], &[i32], i32); 5] = [
+    (b"from,to,mw\n1,3,5e-8\n1,2,5e-9\n", &[1500, 100], 1600),
+    (b"from,to,mw\n1,3,6e-8\n", &[1800], 1800),
+    (b"from,to,mw\n3,1,6e-8\n1,2,5e-9\n", &[-1800, 100], -1700),
+    (b"from,to,mw\n2,2,9e-8\n1,3,0\n", &[0, 0], 0),
+    (b"from,to,mw\n", &[], 0),
+];
+
 fn pays<N: Exact + Debug>(alloc: Global) -> Result<bool, Fail> {
-    for (table, each, total) in [
-        (
-            b"from,to,mw\n1,3,5e-8\n1,2,5e-9\n".as_slice(),
-            [1500, 100].as_slice(),
-            1600,
-        ),
-        (b"from,to,mw\n1,3,6e-8\n", &[1800], 1800),
-        (b"from,to,mw\n3,1,6e-8\n1,2,5e-9\n", &[-1800, 100], -1700),
-        (b"from,to,mw\n2,2,9e-8\n1,3,0\n", &[0, 0], 0),
-        (b"from,to,mw\n", &[], 0),
-    ] {
-        if !are_paid(&payments_of::<N>(alloc, table)?, each, total) {
+    for (table, each, total) in &PAYS {
+        if !are_paid(&payments_of::<N>(alloc, table)?, each, *total) {
             return Ok(false);
         }
     }
@@ -222,51 +268,67 @@ fn what_rights_are_paid(rt: HostRuntime) -> Result<(), Fail> {
     Ok(())
 }
 
+/// Whether the sum of what two rights of the most take out is told.
+fn is_too_large(alloc: Global, market: &Market) -> Result<bool, RightsFault> {
+    let rights = rights(alloc, market, b"from,to,mw\n1,3,9e9\n1,2,9e9\n")?;
+    let most: Frac63 = Frac63::of_parts(9_000_000_000_000_000_000, 1);
+    match fit::<Frac63>(alloc, market, rights.slice()) {
+        Err(Stop::Passed(Passed { left, right, op })) => {
+            Ok(left == most && right == most && op == Op::Plus)
+        }
+        _ => Ok(false),
+    }
+}
+
 #[test]
 fn a_sum_that_is_too_large(rt: HostRuntime) -> Result<(), Fail> {
     let market = triangle(rt.alloc(), false)?;
-    let table = b"from,to,mw\n1,3,9e9\n1,2,9e9\n";
-    let rights = rights(rt.alloc(), &market, table)?;
-    let most: Frac63 = Frac63::of_parts(9_000_000_000_000_000_000, 1);
-    match fit::<Frac63>(rt.alloc(), &market, rights.slice()) {
-        Err(Stop::Passed(Passed { left, right, op })) => {
-            assert!(rt; left == most && right == most && op == Op::Plus);
-        }
-        _ => assert!(rt; false),
-    }
+    assert!(rt; is_too_large(rt.alloc(), &market)?);
     Ok(())
+}
+
+/// Tables that are refused, and why.
+static FAULTS: [(&[u8], RightsFault); 5] = [
+    (
+        b"from,to,MW\n1,3,5\n",
+        RightsFault::Frame(FrameFault::Header),
+    ),
+    (
+        b"from,to,mw\n1,3,5\n1,3\n",
+        RightsFault::Frame(FrameFault::Width { line: 3 }),
+    ),
+    (
+        b"from,to,mw\n1,3,5\n4,3,5\n",
+        RightsFault::NoBus { line: 3 },
+    ),
+    (b"from,to,mw\n1,0,-5\n", RightsFault::NoBus { line: 2 }),
+    (b"from,to,mw\n1,3,-5\n", RightsFault::Negative { line: 2 }),
+];
+
+/// Why a table is refused.
+fn fault_of(alloc: Global, market: &Market, table: &[u8]) -> Option<RightsFault> {
+    match rights(alloc, market, table) {
+        Err(fault) => Some(fault),
+        Ok(_) => None,
+    }
+}
+
+/// Whether the first cell that is refused is the second of line 2.
+fn is_of_the_cell(fault: Option<RightsFault>) -> bool {
+    match fault {
+        Some(RightsFault::Frame(FrameFault::Cell { line, col, why: _ })) => line == 2 && col == 2,
+        _ => false,
+    }
 }
 
 #[test]
 fn faults_of_tables(rt: HostRuntime) -> Result<(), Fail> {
     let market = triangle(rt.alloc(), false)?;
-    for (table, want) in [
-        (
-            b"from,to,MW\n1,3,5\n".as_slice(),
-            RightsFault::Frame(FrameFault::Header),
-        ),
-        (
-            b"from,to,mw\n1,3,5\n1,3\n",
-            RightsFault::Frame(FrameFault::Width { line: 3 }),
-        ),
-        (
-            b"from,to,mw\n1,3,5\n4,3,5\n",
-            RightsFault::NoBus { line: 3 },
-        ),
-        (b"from,to,mw\n1,0,-5\n", RightsFault::NoBus { line: 2 }),
-        (b"from,to,mw\n1,3,-5\n", RightsFault::Negative { line: 2 }),
-    ] {
-        match rights(rt.alloc(), &market, table) {
-            Err(fault) => assert_eq!(rt; fault, want),
-            Ok(_) => assert!(rt; false),
-        }
+    for (table, want) in &FAULTS {
+        assert_eq!(rt; fault_of(rt.alloc(), &market, table), Some(*want));
     }
-    match rights(rt.alloc(), &market, b"from,to,mw\n1,x,-5\n4,3,5\n") {
-        Err(RightsFault::Frame(FrameFault::Cell { line, col, why: _ })) => {
-            assert!(rt; line == 2 && col == 2);
-        }
-        _ => assert!(rt; false),
-    }
+    let cell = fault_of(rt.alloc(), &market, b"from,to,mw\n1,x,-5\n4,3,5\n");
+    assert!(rt; is_of_the_cell(cell));
     assert!(rt; MOST_RIGHTS == 1000);
     Ok(())
 }
