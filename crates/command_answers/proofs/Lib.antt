@@ -1,3 +1,4 @@
+pub mod FactorLemmas
 pub mod IfOkLemmas
 pub mod ListingLemmas
 pub mod ReplayLemmas

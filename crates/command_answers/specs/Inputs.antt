@@ -20,7 +20,9 @@ use Rattle.market_inputs.specs.Pooling.{IsPoolMarket}
 use Rattle.market_inputs.specs.Replaying.{certificate_in, steps_in}
 use Rattle.market_inputs.specs.RightsInputs.{rights_in}
 use Rattle.market_inputs.specs.Steps.{Is, Then}
+use Rattle.market_inputs.specs.Making.{AreFactorInputs}
 use Rattle.market_inputs.specs.declared.checking.Inputs.{Inputs}
+use Rattle.market_inputs.specs.declared.making.FactorInputs.{FactorInputs}
 use Rattle.market_inputs.specs.declared.stops.InputStop.{InputStop}
 use Rattle.command_answers.specs.declared.replaying.Replayed.{Replayed}
 use Rattle.command_answers.specs.declared.rights.Entitled.{Entitled}
@@ -101,3 +103,8 @@ AreEntitled rating places texts rights told =
 -- what a case and its tables stand for, whose factors may have so many places
 abbrev pub IsCheck : FactorPlaces → GridTexts → Result Inputs Refusal → Type 0
 IsCheck places texts told = AreInputs places (sized_grid texts) told
+
+-- ---- the making of factors
+-- what a case, and a table of outages where there is one, stand for
+abbrev pub IsFactorWork : List ℕ → Option (List ℕ) → Result FactorInputs Refusal → Type 0
+IsFactorWork case contingencies told = AreFactorInputs case contingencies told

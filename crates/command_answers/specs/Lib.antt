@@ -1,5 +1,7 @@
 pub mod Checking
 pub mod Clearing
+pub mod FactorLaws
+pub mod Factors
 pub mod Inputs
 pub mod Laws
 pub mod Making

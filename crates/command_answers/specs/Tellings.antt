@@ -1,5 +1,5 @@
 -- What the inputs of a command come to: a status, the text that goes with it, and what there is to write to files.
-use Rattle.std.specs.Prelude.{◌≡◌, ℕ, List, Option, None, option_map, Result, Ok, Err}
+use Rattle.std.specs.Prelude.{◌≡◌, ℕ, List, Option, Some, None, option_map, Result, Ok, Err}
 use Rattle.refusal_text.specs.Refusals.{refusal_line}
 use Rattle.refusal_text.specs.declared.refusals.Refusal.{Refusal}
 use Rattle.market_inputs.specs.declared.stops.InputStop.{InputStop}
@@ -11,11 +11,15 @@ use Rattle.command_answers.specs.declared.told.Told.{Told}
 
 -- what there is for each file, as something else
 abbrev pub map_outputs : {T U : Type 0} → (T → U) → Outputs T → Outputs U
-map_outputs f outputs = record { certificate = option_map f outputs.certificate }
+map_outputs f outputs = record { ptdf = option_map f outputs.ptdf; lodf = option_map f outputs.lodf; certificate = option_map f outputs.certificate }
 
 -- a certificate alone, where there is one
 abbrev pub certified : {T : Type 0} → Option T → Outputs T
-certified certificate = record { certificate = certificate }
+certified certificate = record { ptdf = None; lodf = None; certificate = certificate }
+
+-- a table of shift factors, and one of outage factors where there is one
+abbrev pub tabled : {T : Type 0} → T → Option T → Outputs T
+tabled ptdf lodf = record { ptdf = Some ptdf; lodf = lodf; certificate = None }
 
 pub record Telling : Type 0 where
   pub status : Status

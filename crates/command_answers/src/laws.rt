@@ -1,5 +1,6 @@
 //! Laws of what commands come to, each the contract of a function that does nothing.
 
+ghost use Rattle.command_answers.specs.FactorLaws.{LawOfCheckedTables, LawOfMadeTables};
 ghost use Rattle.command_answers.specs.Laws.{LawOfListedReserve, LawOfTheReplay, LawOfTheRightsTelling, LawOfTheRightsText, LawOfTheRoundTrip, LawOfTheSameFiles, LawOfYes};
 
 /// The market that files stand for is of energy alone exactly where their table of reserves has no records.
@@ -37,4 +38,14 @@ pub fn rights_text_has_one_reading()
 /// Two runs over one market, with whatever rights, that print one text came to the same outcome and status.
 pub fn rights_text_tells_the_outcome()
     ensures { LawOfTheRightsTelling }
+{}
+
+/// The tables of factors that there are to write are read over the network of their case as those that were made.
+pub fn made_tables_come_back()
+    ensures { LawOfMadeTables }
+{}
+
+/// A check of tables that are made tells that all is within rounding.
+pub fn made_tables_are_within_rounding()
+    ensures { LawOfCheckedTables }
 {}

@@ -3,6 +3,7 @@
 
 mod checking;
 mod clearing;
+mod factors;
 pub mod laws;
 mod making;
 mod migrating;
@@ -16,6 +17,7 @@ mod verifying;
 
 pub use checking::check_told;
 pub use clearing::{clear_told, pool_told};
+pub use factors::factors_told;
 pub use making::make_told;
 pub use migrating::migrate_told;
 pub use replaying::replay_told;

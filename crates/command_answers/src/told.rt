@@ -2,7 +2,7 @@
 
 ghost use Rattle.std.specs.Prelude.{◌≡◌, IfOk};
 ghost use Rattle.command_answers.specs.Status.{IsOfWork};
-ghost use Rattle.command_answers.specs.Tellings.{certified, refusal_of, telling_of, uncertified};
+ghost use Rattle.command_answers.specs.Tellings.{certified, refusal_of, tabled, telling_of, uncertified};
 
 use crate::status::Status;
 use plain_list::Memory;
@@ -12,6 +12,10 @@ use std::alloc::Global;
 /// What a command has to write to files, whatever stands for each: its bytes, the name of its file. They are written in this order.
 #[derive(Clone, Copy, Debug, Drop)]
 pub struct Outputs<T> {
+    /// The table of shift factors that was made.
+    pub ptdf: Option<T>,
+    /// The table of outage factors that was made.
+    pub lodf: Option<T>,
     /// The certificate of what was cleared last, or one that is written anew.
     pub certificate: Option<T>,
 }
@@ -21,7 +25,22 @@ impl<T> Outputs<T> {
     pub fn certified(certificate: Option<T>) -> Outputs<T>
         ensures { result ≡ certified certificate }
     {
-        Outputs { certificate }
+        Outputs {
+            ptdf: None,
+            lodf: None,
+            certificate,
+        }
+    }
+
+    /// A table of shift factors, and one of outage factors where there is one.
+    pub fn tabled(ptdf: T, lodf: Option<T>) -> Outputs<T>
+        ensures { result ≡ tabled ptdf lodf }
+    {
+        Outputs {
+            ptdf: Some(ptdf),
+            lodf,
+            certificate: None,
+        }
     }
 }
 

@@ -7,6 +7,7 @@ use Rattle.net_case.specs.declared.live_parts.PostRating.{PostRating}
 use Rattle.refusal_text.specs.declared.refusals.Input.TheVariants as input
 use Rattle.refusal_text.specs.declared.refusals.Refusal.{Refusal}
 use Rattle.refusal_text.specs.declared.refusals.Refusal.TheVariants as refusal
+use Rattle.market_inputs.specs.Cases.{matrices_in}
 use Rattle.market_inputs.specs.Checking.{AreInputs}
 use Rattle.market_inputs.specs.Clearing.{IsClearMarket}
 use Rattle.market_inputs.specs.Files.{sized}
@@ -15,18 +16,20 @@ use Rattle.market_inputs.specs.Replaying.{certificate_in}
 use Rattle.market_inputs.proofs.FileLemmas.{AreAlike, alike-grid, alike-tables, sized-cut}
 use Rattle.market_tables.specs.Tables.{EachOf, GridTexts, MarketTexts}
 use Rattle.market_tables.proofs.EachLemmas.{Found, found-grid, found-tables}
+use Rattle.market_inputs.specs.declared.making.FactorInputs.{FactorInputs}
 use Rattle.edit_table.specs.EditTable.{header as edit_header}
-use Rattle.command_words.specs.Words.{CheckNames, MarketNames}
+use Rattle.factor_tables.specs.OutageNumbers.{outage_header}
+use Rattle.command_words.specs.Words.{CheckNames, FactorNames, MarketNames}
 use Rattle.command_answers.specs.Checking.{TellsCheck}
 use Rattle.command_answers.specs.Clearing.{TellsClear}
-use Rattle.command_answers.specs.Inputs.{AreEntitled, IsCertificate, IsCertified, IsCheck, IsLimited, IsPool, IsReplayed, MarketCertificate, MarketRights, MarketSteps}
+use Rattle.command_answers.specs.Inputs.{AreEntitled, IsCertificate, IsCertified, IsCheck, IsFactorWork, IsLimited, IsPool, IsReplayed, MarketCertificate, MarketRights, MarketSteps}
 use Rattle.command_answers.specs.Migrating.{TellsMigration}
 use Rattle.command_answers.specs.Replaying.{TellsReplay}
 use Rattle.command_answers.specs.Rights.{TellsRights}
 use Rattle.command_answers.specs.Tellings.{Telling, Tells}
 use Rattle.command_answers.specs.Verifying.{TellsVerdict}
 use Rattle.command_files.specs.Reading.{IsTable, ReadsGrid, ReadsMarket, ReadsTable, Source, grid_sources, header_alone, in_file, source_of, table_sources}
-use Rattle.command_files.specs.Standing.{AreCheckFiles, AreClearFiles, ArePoolFiles, AreReplayFiles, AreRightsFiles, AreVerifyFiles, IsMigratedFile, OfFiles}
+use Rattle.command_files.specs.Standing.{AreCheckFiles, AreClearFiles, AreFactorFiles, ArePoolFiles, AreReplayFiles, AreRightsFiles, AreVerifyFiles, IsMigratedFile, OfFiles, TellsFactorsOf}
 
 -- ---- a table
 -- the whole text of a table that was read
@@ -179,5 +182,30 @@ files-check (Some f) names bytes t read right =
     record {
       told = right.told;
       stands = record { texts = w.found; have = w.first; inputs = subst (λ grid. AreInputs names.places grid right.told) (alike-grid bytes w.found w.second) right.stands };
+      comes = right.comes;
+    }
+
+pub factor-work-same : (case case' outages outages' : List ℕ) (told : Result FactorInputs Refusal)
+    → sized (refusal.TooLong input.Case) case ≡ sized (refusal.TooLong input.Case) case'
+    → sized (refusal.TooLong input.Contingencies) outages ≡ sized (refusal.TooLong input.Contingencies) outages'
+    → IsFactorWork case (Some outages) told → IsFactorWork case' (Some outages') told
+factor-work-same case case' outages outages' told same_case same_outages h = record { made = h.made; is = ap matrices_in (sym same_case) ∙ h.is; rest = rw same_outages at h.rest }
+
+pub files-factors : (files : Option Files) (names : FactorNames) (case_read outages_read : List ℕ) (t : Telling) → Reads files names.case 33554432 case_read
+    → ReadsTable files (source_of outage_header names.contingencies) outages_read → Tells (IsFactorWork case_read (Some outages_read)) (TellsFactorsOf names) t
+    → OfFiles files (λ f. AreFactorFiles f names) (TellsFactorsOf names) t
+files-factors None names case_read outages_read t read read_outages right = tt
+files-factors (Some f) names case_read outages_read t read read_outages right =
+    let c = whole-table f (in_file names.case) case_read read in
+    let o = whole-table f (source_of outage_header names.contingencies) outages_read read_outages in
+    record {
+      told = right.told;
+      stands = record {
+        case = c.0;
+        outages = o.0;
+        case_is = c.1;
+        outages_are = o.1;
+        work = factor-work-same case_read c.0 outages_read o.0 right.told (c.2 (refusal.TooLong input.Case)) (o.2 (refusal.TooLong input.Contingencies)) right.stands;
+      };
       comes = right.comes;
     }

@@ -1,6 +1,6 @@
 -- Files that stay as they were, and what was read of them.
-use Rattle.std.proofs.Common.{◌≡◌, ℕ, List, Result, Ok, Err, Option, Some, None, refl, sym, subst, ◌∙◌}
-use Rattle.std.specs.Prelude.{IfOk, MatchResult}
+use Rattle.std.proofs.Common.{◌≡◌, ℕ, Bor, List, Result, Ok, Err, Option, Some, None, refl, sym, subst, ◌∙◌}
+use Rattle.std.specs.Prelude.{IfOk, MatchResult, is_some, option_map}
 use Rattle.outside_store.specs.Files.{Files, SameFiles, Reads}
 use Rattle.outside_store.specs.declared.Store.{Ghosts}
 use Rattle.command_files.specs.Reading.{ReadsTable, Source, header_alone, in_file}
@@ -50,3 +50,8 @@ if_ok-map P Q (Err e) f right = tt
 pub told-ok : {A E F : Type 0} (P : A → Type 0) (Q : F → Type 0) (r : Result A F) (m : Result A E) → MatchResult r (λ x. m ≡ Ok x) Q → IfOk m P → IfOk r P
 told-ok P Q (Ok x) m is right = subst (λ n. IfOk n P) is right
 told-ok P Q (Err f) m is right = tt
+
+-- the text of a name is there where the name is
+pub name-there : (o : Option (Bor (List ℕ))) → is_some (option_map (λ name. name.now) o) ≡ is_some o
+name-there None = refl
+name-there (Some name) = refl

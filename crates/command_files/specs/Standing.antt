@@ -1,15 +1,18 @@
 -- What the files that words name stand for, and what is right to tell of them.
-use Rattle.std.specs.Prelude.{◌≡◌, ℕ, List, Option, Some, None, Result}
+use Rattle.std.specs.Prelude.{◌≡◌, ℕ, List, Option, Some, None, Result, is_some}
 use Rattle.fraction_theory.specs.Fraction.{Fraction}
 use Rattle.outside_store.specs.Files.{Files}
 use Rattle.cert_format.specs.declared.certificate.Cert.{Cert}
 use Rattle.market_inputs.specs.declared.checking.Inputs.{Inputs}
+use Rattle.market_inputs.specs.declared.making.FactorInputs.{FactorInputs}
 use Rattle.market_model.specs.declared.participants.Parts.{Parts}
 use Rattle.market_tables.specs.Tables.{GridTexts, MarketTexts}
 use Rattle.refusal_text.specs.declared.refusals.Refusal.{Refusal}
 use Rattle.edit_table.specs.EditTable.{header as edit_header}
-use Rattle.command_words.specs.Words.{CheckNames, MarketNames}
-use Rattle.command_answers.specs.Inputs.{AreEntitled, IsCertificate, IsCertified, IsCheck, IsLimited, IsPool, IsReplayed, MarketCertificate, MarketRights, MarketSteps}
+use Rattle.factor_tables.specs.OutageNumbers.{outage_header}
+use Rattle.command_words.specs.Words.{CheckNames, FactorNames, MarketNames}
+use Rattle.command_answers.specs.Factors.{TellsFactors}
+use Rattle.command_answers.specs.Inputs.{AreEntitled, IsCertificate, IsCertified, IsCheck, IsFactorWork, IsLimited, IsPool, IsReplayed, MarketCertificate, MarketRights, MarketSteps}
 use Rattle.command_answers.specs.Tellings.{Telling, Tells}
 use Rattle.command_files.specs.Reading.{HaveGridTexts, HaveTexts, IsTable, source_of}
 
@@ -64,6 +67,18 @@ pub record AreCheckFiles (files : Files) (names : CheckNames) (told : Result Inp
   pub texts : GridTexts
   pub have : HaveGridTexts files names.tables texts
   pub inputs : IsCheck names.places texts told
+
+-- those of which tables of factors are made stand for this network, its reactances and these outages
+pub record AreFactorFiles (files : Files) (names : FactorNames) (told : Result FactorInputs Refusal) : Type 0 where
+  pub case : List ℕ
+  pub outages : List ℕ
+  pub case_is : files names.case ≡ Some case
+  pub outages_are : IsTable files (source_of outage_header names.contingencies) outages
+  pub work : IsFactorWork case (Some outages) told
+
+-- what these come to, with a table of outage factors where a file is named for it, and factors of so many places
+abbrev pub TellsFactorsOf : FactorNames → FactorInputs → Telling → Type 0
+TellsFactorsOf names = TellsFactors (is_some names.lodf_out) names.places
 
 -- ---- where the files are told
 -- what is told is right for what the files stand for

@@ -9,18 +9,21 @@ ghost use Rattle.command_answers.specs.Rights.{TellsRights};
 ghost use Rattle.command_answers.specs.Status.{IsOfWork};
 ghost use Rattle.command_answers.specs.Tellings.{telling_of};
 ghost use Rattle.command_answers.specs.Verifying.{TellsVerdict};
-ghost use Rattle.command_words.specs.Requests.{names_of_market, names_to_check};
-ghost use Rattle.command_words.specs.Words.{IsCheckFile, IsMarketFile, IsPoolFile, IsReplayFile, IsRightsFile, IsVerifyFile};
+ghost use Rattle.command_words.specs.Requests.{names_of_factors, names_of_market, names_to_check};
+ghost use Rattle.command_words.specs.Words.{IsCheckFile, IsFactorFile, IsMarketFile, IsPoolFile, IsReplayFile, IsRightsFile, IsVerifyFile};
 ghost use Rattle.command_files.specs.OnlyReads.{IsSilent, OnlyReads};
-ghost use Rattle.command_files.specs.Standing.{AreCheckFiles, AreClearFiles, ArePoolFiles, AreReplayFiles, AreRightsFiles, AreVerifyFiles, IsMigratedFile, OfFiles};
+ghost use Rattle.command_files.specs.Standing.{AreCheckFiles, AreClearFiles, AreFactorFiles, ArePoolFiles, AreReplayFiles, AreRightsFiles, AreVerifyFiles, IsMigratedFile, OfFiles, TellsFactorsOf};
 
 use crate::reading::{read_file, read_grid, read_market, read_table};
 use command_answers::{
-    Status, Told, check_told, clear_told, migrate_told, pool_told, replay_told, rights_told,
-    verify_told,
+    Status, Told, check_told, clear_told, factors_told, migrate_told, pool_told, replay_told,
+    rights_told, verify_told,
 };
-use command_words::{CheckNames, MarketNames, PoolFiles, ReplayFiles, RightsFiles, VerifyFiles};
+use command_words::{
+    CheckNames, FactorNames, MarketNames, PoolFiles, ReplayFiles, RightsFiles, VerifyFiles,
+};
 use edit_table::EDIT_HEADER;
+use factor_tables::OUTAGE_HEADER;
 use outside_store::Store;
 use plain_list::Memory;
 use std::alloc::Global;
@@ -157,4 +160,26 @@ pub fn check_files<S: Store>(
 {
     let grid = read_grid(alloc, &files.tables, store)?;
     or_memory(check_told(alloc, &grid.as_slices(), files.places))
+}
+
+/// What the case and the list of outages come to, of which tables of factors are made.
+#[tactic(auto, using(crate::proofs::ReadingLemmas::same_then))]
+pub fn factors_files<S: Store>(
+    alloc: Global,
+    files: &FactorNames<'_>,
+    store: &mut S,
+) -> Result<Told, Status>
+    ensures told { MatchResult result (λ told. IsOfWork told.status) IsSilent }
+    ensures right { IfOk result (λ told. OfFiles (S.files store.old) (λ f. AreFactorFiles f (names_of_factors files.now)) (TellsFactorsOf (names_of_factors files.now)) (telling_of told)) }
+    ensures reads { OnlyReads S.Store store.old store.new (IsFactorFile (names_of_factors files.now)) (result ≡ Err Status.ReadFailed) }
+{
+    let case = read_file(alloc, store, files.case)?;
+    let outages = read_table(alloc, store, files.contingencies, OUTAGE_HEADER)?;
+    or_memory(factors_told(
+        alloc,
+        case.as_slice(),
+        Some(outages.as_slice()),
+        files.lodf_out.is_some(),
+        files.places,
+    ))
 }

@@ -13,7 +13,7 @@ use Rattle.clap.specs.declared.builder.value_parser.ValueParser.TheVariants.{Nam
 use Rattle.clap.proofs.OnLiterals.{clap_on_literals}
 use Rattle.command_words.specs.Words.{AreGiven, Enters, choice_rule, file_rule, is_fault, place_words, rating_words, refuses, sced_app, sced_app_over, size_words, spelled, table_rule, value_rule}
 use Rattle.command_words.proofs.GivenLemmas.{Among, Each, IsGiven, TakesOne, both-none, each-in, found-in, required-given}
-use Rattle.command_words.proofs.WordsLemmas.{eight_built, subs-are}
+use Rattle.command_words.proofs.WordsLemmas.{nine_built, subs-are}
 
 -- ---- the subcommand that words enter
 
@@ -54,16 +54,16 @@ not-a-fault : (kinds : Kinds) → is_fault kinds ≡ false → kinds ≡ []
 not-a-fault [] none = refl
 not-a-fault (k ∷ ks) none = cc none
 
-enters-leaf : (words : List Text) (name : Text) (rows : List Row) → Enters words name rows → EntersLeaf eight_built name rows
+enters-leaf : (words : List Text) (name : Text) (rows : List Row) → Enters words name rows → EntersLeaf nine_built name rows
 unfolding refuses
 enters-leaf words name rows enters =
     let none : fault_of sced_app words ≡ [] = not-a-fault (fault_of sced_app words) enters.taken in
     subst (λ (subs : List Shape). EntersLeaf subs name rows) subs-are (entered-leaf (built sced_app) _ name rows enters.entered (fault-below (built sced_app) _ none))
 
 -- no subcommand has another name
-no-aliases : Each (λ s. s.aliases ≡ []) eight_built
+no-aliases : Each (λ s. s.aliases ≡ []) nine_built
 unfolding clap_on_literals sced_app sced_app_over
-no-aliases = (refl, (refl, (refl, (refl, (refl, (refl, (refl, (refl, tt))))))))
+no-aliases = (refl, (refl, (refl, (refl, (refl, (refl, (refl, (refl, (refl, tt)))))))))
 
 -- so a word that finds one is its name
 own-name : (s : Shape) (word : Text) → s.aliases ≡ [] → answers_to word (label_of s) ≡ true → word ≡ s.name
@@ -75,17 +75,17 @@ own-name s word none answers =
     go true is h = sym ((bytes_eq-Decides s.name word).0 is)
     go false is h = cc h
 
-found-by-name : (name : Text) (rows : List Row) (leaf : EntersLeaf eight_built name rows) → find (λ s. answers_to name (label_of s)) eight_built ≡ Some leaf.shape
+found-by-name : (name : Text) (rows : List Row) (leaf : EntersLeaf nine_built name rows) → find (λ s. answers_to name (label_of s)) nine_built ≡ Some leaf.shape
 found-by-name name rows leaf =
-    let here = found-in (λ s. answers_to leaf.word (label_of s)) eight_built leaf.shape leaf.found in
-    let word : leaf.word ≡ name = own-name leaf.shape leaf.word (each-in (λ s. s.aliases ≡ []) eight_built leaf.shape no-aliases here.0) here.1 ∙ leaf.named in
-    subst (λ (w : Text). find (λ s. answers_to w (label_of s)) eight_built ≡ Some leaf.shape) word leaf.found
+    let here = found-in (λ s. answers_to leaf.word (label_of s)) nine_built leaf.shape leaf.found in
+    let word : leaf.word ≡ name = own-name leaf.shape leaf.word (each-in (λ s. s.aliases ≡ []) nine_built leaf.shape no-aliases here.0) here.1 ∙ leaf.named in
+    subst (λ (w : Text). find (λ s. answers_to w (label_of s)) nine_built ≡ Some leaf.shape) word leaf.found
 
 -- ---- what a subcommand needs is given
 
 -- the subcommand of this name has these arguments
 abbrev HasRules : Text → List Rule → Type 0
-HasRules name rules = option_map (λ s. s.rules) (find (λ s. answers_to name (label_of s)) eight_built) ≡ Some rules
+HasRules name rules = option_map (λ s. s.rules) (find (λ s. answers_to name (label_of s)) nine_built) ≡ Some rules
 
 leaf-given : (words : List Text) (name : Text) (rows : List Row) (rules : List Rule) (a : Rule) → HasRules name rules → Each TakesOne rules → Enters words name rows
     → Among (λ b. b ≡ a) rules → a.required ≡ true → IsGiven rules a.id rows
@@ -134,6 +134,9 @@ rights_rules = market_rules (file (codes "rights") ∷ filled help_rule ∷ [])
 abbrev check_rules : List Rule
 check_rules = file (codes "case") ∷ file (codes "ptdf") ∷ table (codes "lodf") ∷ table (codes "contingencies") ∷ places_rule ∷ filled help_rule ∷ []
 
+abbrev factors_rules : List Rule
+factors_rules = file (codes "case") ∷ file (codes "ptdf-out") ∷ table (codes "lodf-out") ∷ table (codes "contingencies") ∷ places_rule ∷ filled help_rule ∷ []
+
 abbrev migrate_rules : List Rule
 migrate_rules = file (codes "certificate") ∷ file (codes "out") ∷ filled help_rule ∷ []
 
@@ -166,6 +169,10 @@ check-has : HasRules (codes "check") check_rules
 unfolding clap_on_literals sced_app sced_app_over
 check-has = refl
 
+factors-has : HasRules (codes "factors") factors_rules
+unfolding clap_on_literals sced_app sced_app_over
+factors-has = refl
+
 rights-has : HasRules (codes "rights") rights_rules
 unfolding clap_on_literals sced_app sced_app_over
 rights-has = refl
@@ -184,6 +191,9 @@ market-ones more ones =
 
 check-ones : Each TakesOne check_rules
 check-ones = (one-value, (one-value, (one-value, (one-value, (one-value, (one-help, tt))))))
+
+factors-ones : Each TakesOne factors_rules
+factors-ones = (one-value, (one-value, (one-value, (one-value, (one-value, (one-help, tt))))))
 
 make-ones : Each TakesOne make_rules
 make-ones = (one-value, (one-value, (one-help, tt)))
@@ -245,6 +255,12 @@ check-given words rows enters =
     let given : (a : Rule) → Among (λ b. b ≡ a) check_rules → a.required ≡ true → is_some (first_of a.id rows) ≡ true =
     λ a among required. is-some check_rules a.id rows (leaf-given words (codes "check") rows check_rules a check-has check-ones enters among required) in
     (given (file (codes "case")) (inl refl) refl, (given (file (codes "ptdf")) (inr (inl refl)) refl, tt))
+
+pub factors-given : (words : List Text) (rows : List Row) → Enters words (codes "factors") rows → AreGiven (codes "case" ∷ codes "ptdf-out" ∷ []) rows
+factors-given words rows enters =
+    let given : (a : Rule) → Among (λ b. b ≡ a) factors_rules → a.required ≡ true → is_some (first_of a.id rows) ≡ true =
+    λ a among required. is-some factors_rules a.id rows (leaf-given words (codes "factors") rows factors_rules a factors-has factors-ones enters among required) in
+    (given (file (codes "case")) (inl refl) refl, (given (file (codes "ptdf-out")) (inr (inl refl)) refl, tt))
 
 pub size-given : (words : List Text) (rows : List Row) → Enters words (codes "make") rows → IsGiven make_rules (codes "N") rows
 size-given words rows enters = leaf-given words (codes "make") rows make_rules size_rule make-has make-ones enters (inl refl) refl

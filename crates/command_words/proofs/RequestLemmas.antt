@@ -1,10 +1,11 @@
 -- What a request that was read asks for.
 use Rattle.std.proofs.Common.{◌≡◌, subst, Bor, List, Option}
 use Rattle.clap.specs.Words.{Text}
-use Rattle.command_words.specs.Requests.{Asks, names_of_market, names_to_check, text_of_name}
-use Rattle.command_words.specs.Words.{AsksCheck, AsksClear, AsksMake, AsksMigrate, AsksPool, AsksReplay, AsksRights, AsksVerify}
+use Rattle.command_words.specs.Requests.{Asks, names_of_factors, names_of_market, names_to_check, text_of_name}
+use Rattle.command_words.specs.Words.{AsksCheck, AsksClear, AsksFactors, AsksMake, AsksMigrate, AsksPool, AsksReplay, AsksRights, AsksVerify}
 use Rattle.command_words.specs.declared.words.CheckFiles.{CheckFiles}
 use Rattle.command_words.specs.declared.words.ClearFiles.{ClearFiles}
+use Rattle.command_words.specs.declared.words.FactorFiles.{FactorFiles}
 use Rattle.command_words.specs.declared.words.MigrateFiles.{MigrateFiles}
 use Rattle.command_words.specs.declared.words.PoolFiles.{PoolFiles}
 use Rattle.command_words.specs.declared.words.ReplayFiles.{ReplayFiles}
@@ -31,6 +32,9 @@ asks-verify words r files is asks = subst (Asks words) is asks
 
 pub asks-check : (words : List Text) (r : Request) (files : CheckFiles (Bor Text) (Option (Bor Text))) → r ≡ request.Check files → Asks words r → AsksCheck words (names_to_check files)
 asks-check words r files is asks = subst (Asks words) is asks
+
+pub asks-factors : (words : List Text) (r : Request) (files : FactorFiles (Bor Text) (Option (Bor Text))) → r ≡ request.Factors files → Asks words r → AsksFactors words (names_of_factors files)
+asks-factors words r files is asks = subst (Asks words) is asks
 
 pub asks-rights : (words : List Text) (r : Request) (files : RightsFiles) → r ≡ request.Rights files → Asks words r → AsksRights words (names_of_market files.market) files.rights.now
 asks-rights words r files is asks = subst (Asks words) is asks

@@ -3,7 +3,7 @@ use Rattle.std.proofs.Common.{◌≡◌, refl, true, false, codes, List, [], ◌
 use Rattle.std.proofs.Common.{ℕ}
 use Rattle.clap.specs.Words.{Row, Text, one_of, subcommand_of}
 use Rattle.clap.proofs.OnLiterals.{clap_on_literals}
-use Rattle.command_words.specs.Words.{MarketNames, market_names, refuses, sced_app, sced_app_over, size_of}
+use Rattle.command_words.specs.Words.{FactorNames, MarketNames, factor_names, market_names, refuses, sced_app, sced_app_over, size_of}
 use Rattle.market_data.specs.declared.scales.FactorPlaces.TheVariants as factor_places
 use Rattle.net_case.specs.declared.live_parts.PostRating.TheVariants as post
 
@@ -26,6 +26,13 @@ no_rights = codes "sced" ∷ codes "rights" ∷ codes "--case" ∷ codes "n.m" �
 abbrev no_out : List Text
 no_out = codes "sced" ∷ codes "migrate" ∷ codes "--certificate" ∷ codes "x" ∷ []
 
+-- the words of `factors` that name what they must, and those that name a case alone
+abbrev no_ptdf_out : List Text
+no_ptdf_out = codes "sced" ∷ codes "factors" ∷ codes "--case" ∷ codes "n.m" ∷ []
+
+abbrev made_tables : List Text
+made_tables = no_ptdf_out ++ codes "--ptdf-out" ∷ codes "p" ∷ []
+
 abbrev twice : List Text
 twice = least ++ codes "--offers" ∷ codes "o" ∷ []
 
@@ -41,6 +48,10 @@ no_edits = codes "sced" ∷ codes "replay" ∷ codes "--case" ∷ codes "n.m" �
 
 abbrev no_certificate : List Text
 no_certificate = codes "sced" ∷ codes "verify" ∷ codes "--case" ∷ codes "n.m" ∷ codes "--ptdf" ∷ codes "p" ∷ codes "--offers=o" ∷ codes "--edits" ∷ codes "e" ∷ []
+
+-- what the options of `factors` name
+abbrev factors_by : List Text → Option FactorNames
+factors_by words = option_map (λ (entry : Text × List Row). factor_names entry.1) (subcommand_of sced_app words)
 
 -- the words of a made ring
 abbrev of_size : Text → Text → List Text
@@ -103,6 +114,19 @@ no_out-refused = refl
 out-taken : refuses (no_out ++ codes "--out" ∷ codes "y" ∷ []) ≡ false
 unfolding clap_on_literals refuses sced_app sced_app_over
 out-taken = refl
+
+no_ptdf_out-refused : refuses no_ptdf_out ≡ true
+unfolding clap_on_literals refuses sced_app sced_app_over
+no_ptdf_out-refused = refl
+
+made_tables-taken : refuses made_tables ≡ false
+unfolding clap_on_literals refuses sced_app sced_app_over
+made_tables-taken = refl
+
+made_tables-named : factors_by (made_tables ++ codes "--lodf-out" ∷ codes "l" ∷ codes "--contingencies" ∷ codes "k" ∷ codes "--factor-places" ∷ codes "9" ∷ [])
+    ≡ Some (record { case = codes "n.m"; contingencies = Some (codes "k"); ptdf_out = codes "p"; lodf_out = Some (codes "l"); places = factor_places.Nine })
+unfolding clap_on_literals sced_app sced_app_over
+made_tables-named = refl
 
 twice-refused : refuses twice ≡ true
 unfolding clap_on_literals refuses sced_app sced_app_over

@@ -15,7 +15,7 @@ use Rattle.clap.specs.declared.error.Error.{Error}
 use Rattle.clap.specs.declared.error.kind.ErrorKind.{ErrorKind}
 use Rattle.clap.specs.declared.error.kind.ErrorKind.TheVariants as kind
 use Rattle.clap.proofs.OnLiterals.{clap_on_literals}
-use Rattle.command_words.specs.Words.{AsksCheck, AsksClear, AsksMake, AsksMigrate, AsksPool, AsksReplay, AsksRights, AsksVerify, CheckNames, Enters, MarketNames, NameList, Spells, Writes, check_app, check_names, clear_app, file_of, is_fault, make_app, market_names, migrate_app, place_words, pool_app, rating_words, refuses, replay_app, rights_app, sced_app, sced_app_over, size_words, spelled, verify_app}
+use Rattle.command_words.specs.Words.{AsksCheck, AsksClear, AsksFactors, AsksMake, AsksMigrate, AsksPool, AsksReplay, AsksRights, AsksVerify, CheckNames, Enters, FactorNames, MarketNames, NameList, Spells, Writes, check_app, check_names, clear_app, factor_names, factors_app, file_of, is_fault, make_app, market_names, migrate_app, place_words, pool_app, rating_words, refuses, replay_app, rights_app, sced_app, sced_app_over, size_words, spelled, verify_app}
 use Rattle.command_words.proofs.PlainLemmas.{entered-anywhere, fault-anywhere}
 
 free : (sizes ratings places : NameList) → is_simple_and_free (sced_app_over sizes ratings places) ≡ true
@@ -163,6 +163,10 @@ pub checks-once : (words : List Text) (names names' : CheckNames) → AsksCheck 
 checks-once words names names' asks asks' =
     asks.names_are ∙ ap check_names (enters-once words _ _ asks.rows asks'.rows asks.enters asks'.enters).1 ∙ sym asks'.names_are
 
+pub factors-once : (words : List Text) (names names' : FactorNames) → AsksFactors words names → AsksFactors words names' → names ≡ names'
+factors-once words names names' asks asks' =
+    asks.names_are ∙ ap factor_names (enters-once words _ _ asks.rows asks'.rows asks.enters asks'.enters).1 ∙ sym asks'.names_are
+
 -- a text writes one number, so the same text the same
 writes-once : (text text' : Text) (n n' : ℕ) → Some text ≡ Some text' → Writes text n → Writes text' n' → n ≡ n'
 writes-once text text' n n' same writes writes' =
@@ -208,20 +212,20 @@ entered-one app (Some (word, rest)) name rows is = go (find (λ s. answers_to wo
         let this : s.name ≡ name = ap (λ (o : Option (Text × List Row)). (unwrap_or o (s.name, rows)).0) same in
         subst (λ n. IsOneOf n app.subs) this (found-among (λ t. answers_to word (label_of t)) app.subs s found)
 
--- its eight subcommands, as they are built
+-- its nine subcommands, as they are built
 abbrev pub built_under : Shape → Shape
 built_under sub = built_leaf (inherited (on_top marked_built sced_app).top sub)
 
-abbrev pub eight_built : List Shape
-eight_built = map built_under (pool_app.top ∷ (clear_app (spelled rating_words) (spelled place_words)).top ∷ (replay_app (spelled rating_words) (spelled place_words)).top
-    ∷ (verify_app (spelled rating_words) (spelled place_words)).top ∷ (rights_app (spelled rating_words) (spelled place_words)).top ∷ (check_app (spelled place_words)).top ∷ migrate_app.top
+abbrev pub nine_built : List Shape
+nine_built = map built_under (pool_app.top ∷ (clear_app (spelled rating_words) (spelled place_words)).top ∷ (replay_app (spelled rating_words) (spelled place_words)).top
+    ∷ (verify_app (spelled rating_words) (spelled place_words)).top ∷ (rights_app (spelled rating_words) (spelled place_words)).top ∷ (check_app (spelled place_words)).top ∷ (factors_app (spelled place_words)).top ∷ migrate_app.top
     ∷ (make_app (spelled size_words)).top ∷ [])
 
-pub subs-are : (built sced_app).subs ≡ eight_built
+pub subs-are : (built sced_app).subs ≡ nine_built
 unfolding clap_on_literals sced_app sced_app_over
 subs-are = refl
 
--- the name is none of the seven others
+-- the name is none of the eight others
 pub record IsNoOther (name : Text) : Type 0 where
   pub pool : name ≢ codes "pool"
   pub clear : name ≢ codes "clear"
@@ -229,10 +233,11 @@ pub record IsNoOther (name : Text) : Type 0 where
   pub verify : name ≢ codes "verify"
   pub rights : name ≢ codes "rights"
   pub check : name ≢ codes "check"
+  pub factors : name ≢ codes "factors"
   pub migrate : name ≢ codes "migrate"
 
 -- so it is `make`
-left-make : (name : Text) → IsOneOf name eight_built → IsNoOther name → name ≡ codes "make"
+left-make : (name : Text) → IsOneOf name nine_built → IsNoOther name → name ≡ codes "make"
 unfolding IsOneOf
 left-make name (inl same) others = absurd (others.pool same)
 left-make name (inr (inl same)) others = absurd (others.clear same)
@@ -240,9 +245,10 @@ left-make name (inr (inr (inl same))) others = absurd (others.replay same)
 left-make name (inr (inr (inr (inl same)))) others = absurd (others.verify same)
 left-make name (inr (inr (inr (inr (inl same))))) others = absurd (others.rights same)
 left-make name (inr (inr (inr (inr (inr (inl same)))))) others = absurd (others.check same)
-left-make name (inr (inr (inr (inr (inr (inr (inl same))))))) others = absurd (others.migrate same)
-left-make name (inr (inr (inr (inr (inr (inr (inr (inl same)))))))) others = same
-left-make name (inr (inr (inr (inr (inr (inr (inr (inr none)))))))) others = absurd none
+left-make name (inr (inr (inr (inr (inr (inr (inl same))))))) others = absurd (others.factors same)
+left-make name (inr (inr (inr (inr (inr (inr (inr (inl same)))))))) others = absurd (others.migrate same)
+left-make name (inr (inr (inr (inr (inr (inr (inr (inr (inl same))))))))) others = same
+left-make name (inr (inr (inr (inr (inr (inr (inr (inr (inr none))))))))) others = absurd none
 
 pub entered-make : (words : List Text) (name : Text) (rows : List Row) → Enters words name rows → IsNoOther name → name ≡ codes "make"
 entered-make words name rows enters = left-make name (subst (IsOneOf name) subs-are (entered-one (built sced_app) _ name rows enters.entered))

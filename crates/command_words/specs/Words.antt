@@ -13,6 +13,7 @@ use Rattle.market_tables.specs.declared.GridTables.{GridTables}
 use Rattle.net_case.specs.declared.live_parts.PostRating.{PostRating}
 use Rattle.net_case.specs.declared.live_parts.PostRating.TheVariants as post
 use Rattle.command_words.specs.declared.words.CheckFiles.{CheckFiles}
+use Rattle.command_words.specs.declared.words.FactorFiles.{FactorFiles}
 use Rattle.command_words.specs.declared.words.MarketFiles.{MarketFiles}
 
 -- a list of names, as a command borrows it
@@ -101,6 +102,10 @@ rights_app ratings places = with_file (with_market (new_app (codes "rights")) ra
 abbrev pub check_app : NameList → App
 check_app places = with_places (with_table (with_table (with_file (with_file (new_app (codes "check")) (codes "case")) (codes "ptdf")) (codes "lodf")) (codes "contingencies")) places
 
+-- `factors --case FILE --ptdf-out FILE`, and where they are there `--lodf-out FILE`, `--contingencies FILE` and `--factor-places NUMBER`
+abbrev pub factors_app : NameList → App
+factors_app places = with_places (with_table (with_table (with_file (with_file (new_app (codes "factors")) (codes "case")) (codes "ptdf-out")) (codes "lodf-out")) (codes "contingencies")) places
+
 -- `migrate --certificate FILE --out FILE`
 abbrev pub migrate_app : App
 migrate_app = with_file (with_file (new_app (codes "migrate")) (codes "certificate")) (codes "out")
@@ -113,13 +118,13 @@ make_app sizes = with_rule (with_rule (new_app (codes "make")) (value_rule (code
 abbrev pub needs_subcommand : App → App
 needs_subcommand a = record a { top = record a.top { has_version = true; subcommand_required = true; disable_help_subcommand = true } }
 
--- the program's command over the lists of the sizes of rings, of the ratings and of the numbers of places; it has eight subcommands
+-- the program's command over the lists of the sizes of rings, of the ratings and of the numbers of places; it has nine subcommands
 unfoldable pub sced_app_over : NameList → NameList → NameList → App
 sced_app_over sizes ratings places =
-    with_subcommand (with_subcommand (with_subcommand (with_subcommand (with_subcommand (with_subcommand (with_subcommand (with_subcommand
+    with_subcommand (with_subcommand (with_subcommand (with_subcommand (with_subcommand (with_subcommand (with_subcommand (with_subcommand (with_subcommand
     (needs_subcommand (new_app (codes "sced")))
     pool_app.top) (clear_app ratings places).top) (replay_app ratings places).top) (verify_app ratings places).top) (rights_app ratings places).top) (check_app places).top)
-    migrate_app.top) (make_app sizes).top
+    (factors_app places).top) migrate_app.top) (make_app sizes).top
 
 -- the program's command
 unfoldable pub sced_app : App
@@ -265,6 +270,28 @@ pub record AsksCheck (words : List Text) (names : CheckNames) : Type 0 where
   pub given : AreGiven (codes "case" ∷ codes "ptdf" ∷ []) rows
   pub names_are : names ≡ check_names rows
 
+-- the names of the case and of the outages that `factors` reads, of which the latter may be left out; those of the tables of shift and of
+-- outage factors that it writes, of which the latter may be left out; and how many places their factors have
+abbrev pub FactorNames : Type 0
+FactorNames = FactorFiles Text (Option Text)
+
+-- those that options give
+abbrev pub factor_names : List Row → FactorNames
+factor_names rows = record {
+  case = file_of (codes "case") rows;
+  contingencies = first_of (codes "contingencies") rows;
+  ptdf_out = file_of (codes "ptdf-out") rows;
+  lodf_out = first_of (codes "lodf-out") rows;
+  places = places_of rows;
+}
+
+-- the words enter `factors`, and these are the names of its files
+pub record AsksFactors (words : List Text) (names : FactorNames) : Type 0 where
+  pub rows : List Row
+  pub enters : Enters words (codes "factors") rows
+  pub given : AreGiven (codes "case" ∷ codes "ptdf-out" ∷ []) rows
+  pub names_are : names ≡ factor_names rows
+
 -- a ring may have this many buses
 abbrev pub IsRingSize : ℕ → Type 0
 IsRingSize buses = (buses ≡ 4) ⊎ (buses ≡ 8) ⊎ (buses ≡ 16) ⊎ (buses ≡ 32) ⊎ (buses ≡ 64)
@@ -315,6 +342,14 @@ IsGridFile names file = (file ≡ names.case) ⊎ (file ≡ names.ptdf) ⊎ (nam
 abbrev pub IsCheckFile : CheckNames → Text → Type 0
 IsCheckFile names file = IsGridFile names.tables file
 
+-- `factors` reads this file, of those of these names
+abbrev pub IsFactorFile : FactorNames → Text → Type 0
+IsFactorFile names file = (file ≡ names.case) ⊎ (names.contingencies ≡ Some file)
+
+-- `factors` writes this file, of those of these names
+abbrev pub IsFactorTable : FactorNames → Text → Type 0
+IsFactorTable names file = (file ≡ names.ptdf_out) ⊎ (names.lodf_out ≡ Some file)
+
 -- this is a file of the market of these names
 abbrev pub IsMarketFile : MarketNames → Text → Type 0
 IsMarketFile names file = IsGridFile names.tables.grid file ⊎ (names.tables.unit_outages ≡ Some file) ⊎ (file ≡ names.tables.offers)
@@ -362,10 +397,14 @@ NamesForRights words file = (names : MarketNames) × (rights : Text) × AsksRigh
 abbrev pub NamesForMigrate : List Text → Text → Type 0
 NamesForMigrate words file = (certificate : Text) × (out : Text) × AsksMigrate words certificate out × (file ≡ certificate)
 
+-- the words name this file for `factors` to read
+abbrev pub NamesForFactors : List Text → Text → Type 0
+NamesForFactors words file = (names : FactorNames) × AsksFactors words names × IsFactorFile names file
+
 -- the words name this file for reading
 abbrev pub NamesFile : List Text → Text → Type 0
 NamesFile words file = NamesForPool words file ⊎ NamesForClear words file ⊎ NamesForReplay words file ⊎ NamesForVerify words file ⊎ NamesForCheck words file
-    ⊎ NamesForRights words file ⊎ NamesForMigrate words file
+    ⊎ NamesForRights words file ⊎ NamesForMigrate words file ⊎ NamesForFactors words file
 
 -- the words name this file as the certificate that `clear` writes
 abbrev pub ClearWrites : List Text → Text → Type 0
@@ -379,6 +418,10 @@ ReplayWrites words file = (names : MarketNames) × (edits : Text) × AsksReplay 
 abbrev pub MigrateWrites : List Text → Text → Type 0
 MigrateWrites words file = (certificate : Text) × AsksMigrate words certificate file
 
+-- the words name this file as a table of factors that `factors` writes
+abbrev pub FactorsWrite : List Text → Text → Type 0
+FactorsWrite words file = (names : FactorNames) × AsksFactors words names × IsFactorTable names file
+
 -- the words name this file for writing
 abbrev pub NamesToWrite : List Text → Text → Type 0
-NamesToWrite words file = ClearWrites words file ⊎ ReplayWrites words file ⊎ MigrateWrites words file
+NamesToWrite words file = ClearWrites words file ⊎ ReplayWrites words file ⊎ MigrateWrites words file ⊎ FactorsWrite words file

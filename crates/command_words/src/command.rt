@@ -4,7 +4,7 @@ ghost use Rattle.std.specs.Prelude.{◌≡◌, false, IfOk, codes, pos};
 ghost use Rattle.clap.specs.Words.{app_of, new_app, rule_of, with_subcommand};
 ghost use Rattle.clap.specs.declared.builder.command.Command.TheViews.{out-Command as fields_of};
 ghost use Rattle.clap.specs.declared.builder.value_parser.ValueParser.TheVariants.{Names, Signed};
-ghost use Rattle.command_words.specs.Words.{check_app, choice_rule, clear_app, file_rule, make_app, migrate_app, needs_subcommand, pool_app, replay_app, rights_app, sced_app_over, table_rule, value_rule, verify_app, with_file, with_market, with_places, with_table};
+ghost use Rattle.command_words.specs.Words.{check_app, choice_rule, clear_app, factors_app, file_rule, make_app, migrate_app, needs_subcommand, pool_app, replay_app, rights_app, sced_app_over, table_rule, value_rule, verify_app, with_file, with_market, with_places, with_table};
 
 use clap::{Arg, Command, value_parser};
 use std::alloc::{AllocError, Global};
@@ -34,6 +34,10 @@ const PLACES: &str = "How many decimal places factors may have; 6 where this is 
 const RIGHTS: &str = "The table of transmission rights";
 
 const EDITS: &str = "The table of edits of the market";
+
+const PTDF_OUT: &str = "The file that the table of shift factors is written to";
+
+const LODF_OUT: &str = "The file that the table of outage factors is written to";
 
 const WRITTEN: &str = "The file that the certificate of the last clear is written to";
 
@@ -288,6 +292,18 @@ fn check_command<'a>(alloc: Global, places: &'a [&'a str]) -> Result<Command<'a>
     with_places(alloc, command, places)
 }
 
+fn factors_command<'a>(alloc: Global, places: &'a [&'a str]) -> Result<Command<'a>, AllocError>
+    ensures app { IfOk result (λ made. app_of made ≡ factors_app places.entry) }
+    ensures local { IfOk result (λ made. (fields_of made).has_globals ≡ false) }
+{
+    let command = described(alloc, "factors", "Makes tables of shift and outage factors");
+    let command = with_file(alloc, command, "case", CASE)?;
+    let command = with_file(alloc, command, "ptdf-out", PTDF_OUT)?;
+    let command = with_table(alloc, command, "lodf-out", LODF_OUT)?;
+    let command = with_table(alloc, command, "contingencies", CONTINGENCIES)?;
+    with_places(alloc, command, places)
+}
+
 fn migrate_command<'a>(alloc: Global) -> Result<Command<'a>, AllocError>
     ensures app { IfOk result (λ made. app_of made ≡ migrate_app) }
     ensures local { IfOk result (λ made. (fields_of made).has_globals ≡ false) }
@@ -359,6 +375,7 @@ pub fn sced_command<'a>(
     let command = with_subcommand(command, verify_command(alloc, ratings, places)?)?;
     let command = with_subcommand(command, rights_command(alloc, ratings, places)?)?;
     let command = with_subcommand(command, check_command(alloc, places)?)?;
+    let command = with_subcommand(command, factors_command(alloc, places)?)?;
     let command = with_subcommand(command, migrate_command(alloc)?)?;
     with_subcommand(command, make_command(alloc, sizes)?)
 }

@@ -5,6 +5,7 @@ mod command;
 mod words;
 
 pub use words::{
-    CheckFiles, CheckNames, ClearFiles, GridNames, MarketFiles, MarketNames, MigrateFiles,
-    PoolFiles, ReplayFiles, Request, RightsFiles, RingWords, VerifyFiles, WordsStop, request_of,
+    CheckFiles, CheckNames, ClearFiles, FactorFiles, FactorNames, GridNames, MarketFiles,
+    MarketNames, MigrateFiles, PoolFiles, ReplayFiles, Request, RightsFiles, RingWords,
+    VerifyFiles, WordsStop, request_of,
 };

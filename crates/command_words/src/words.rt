@@ -2,8 +2,8 @@
 
 ghost use Rattle.std.specs.Prelude.{◌≡◌, ◌≢◌, ◌≤◌, codes, map, string_bytes, IfOk, IfErr};
 ghost use Rattle.clap.specs.Words.{first_of, found_of, rows_of};
-ghost use Rattle.command_words.specs.Words.{AsksNothing, IsRingSize, ReadsSeed, check_names, file_of, grid_names, market_names, places_of, rating_of, size_of};
-ghost use Rattle.command_words.specs.Requests.{Asks, names_of_grid, names_of_market, names_to_check, text_of_name};
+ghost use Rattle.command_words.specs.Words.{AsksNothing, IsRingSize, ReadsSeed, check_names, factor_names, file_of, grid_names, market_names, places_of, rating_of, size_of};
+ghost use Rattle.command_words.specs.Requests.{Asks, names_of_factors, names_of_grid, names_of_market, names_to_check, text_of_name};
 
 use crate::command::sced_command;
 use clap::ArgMatches;
@@ -41,6 +41,20 @@ pub struct CheckFiles<T, O> {
 
 /// The names of the files that `check` reads, where they are named, and the places of factors.
 pub type CheckNames<'a> = CheckFiles<&'a str, Option<&'a str>>;
+
+/// The files of `factors`: the case and the list of outages that it reads, the tables of shift and of outage factors that it writes, and how
+/// many places their factors have.
+#[derive(Clone, Copy, Debug)]
+pub struct FactorFiles<T, O> {
+    pub case: T,
+    pub contingencies: O,
+    pub ptdf_out: T,
+    pub lodf_out: O,
+    pub places: FactorPlaces,
+}
+
+/// The names of these files, where they are named, and the places of factors.
+pub type FactorNames<'a> = FactorFiles<&'a str, Option<&'a str>>;
 
 /// The files of a market with limits, the rating that limits a branch after an outage, and how many places factors may have.
 #[derive(Clone, Copy, Debug)]
@@ -109,6 +123,7 @@ pub enum Request<'a> {
     Verify(VerifyFiles<'a>),
     Rights(RightsFiles<'a>),
     Check(CheckNames<'a>),
+    Factors(FactorNames<'a>),
     Migrate(MigrateFiles<'a>),
     Make(RingWords),
 }
@@ -185,6 +200,19 @@ fn check_files<'a>(matches: &ArgMatches<'a>) -> CheckNames<'a>
 {
     CheckFiles {
         tables: grid_files(matches),
+        places: named_places(matches),
+    }
+}
+
+/// The files that `factors` is to read and to write.
+fn factor_files<'a>(matches: &ArgMatches<'a>) -> FactorNames<'a>
+    ensures { names_of_factors result ≡ factor_names (rows_of (found_of matches.now)) }
+{
+    FactorFiles {
+        case: named_file(matches, "case"),
+        contingencies: named_table(matches, "contingencies"),
+        ptdf_out: named_file(matches, "ptdf-out"),
+        lodf_out: named_table(matches, "lodf-out"),
         places: named_places(matches),
     }
 }
@@ -340,6 +368,7 @@ pub fn request_of<'a>(alloc: Global, words: &'a [String]) -> Result<Request<'a>,
                 "verify" => Ok(Request::Verify(verify_files(inner))),
                 "rights" => Ok(Request::Rights(rights_files(inner))),
                 "check" => Ok(Request::Check(check_files(inner))),
+                "factors" => Ok(Request::Factors(factor_files(inner))),
                 "migrate" => Ok(Request::Migrate(migrate_files(inner))),
                 _ => Ok(Request::Make(ring_words(inner))),
             }

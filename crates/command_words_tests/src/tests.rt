@@ -22,7 +22,7 @@ fn told(alloc: Global, line: &str) -> Result<String, Fail> {
     Ok(String::from_str(alloc, first)?)
 }
 
-const TABLE: [(&str, &str); 43] = [
+const TABLE: [(&str, &str); 48] = [
     (
         "sced pool --case n.m --offers o.csv",
         "Pool(PoolFiles { case: \"n.m\", offers: \"o.csv\" })",
@@ -66,6 +66,22 @@ const TABLE: [(&str, &str); 43] = [
     (
         "sced migrate --certificate a --out b",
         "Migrate(MigrateFiles { certificate: \"a\", out: \"b\" })",
+    ),
+    (
+        "sced factors --case n.m --ptdf-out p",
+        "Factors(FactorFiles { case: \"n.m\", contingencies: None, ptdf_out: \"p\", lodf_out: None, places: Six })",
+    ),
+    (
+        "sced factors --case n.m --contingencies k --lodf-out l --ptdf-out p --factor-places 9",
+        "Factors(FactorFiles { case: \"n.m\", contingencies: Some(\"k\"), ptdf_out: \"p\", lodf_out: Some(\"l\"), places: Nine })",
+    ),
+    (
+        "sced factors --case n.m --lodf-out l",
+        "error: the following required arguments were not provided:",
+    ),
+    (
+        "sced factors --case n.m --ptdf p",
+        "error: unexpected argument '--ptdf' found",
     ),
     (
         "sced migrate --certificate a",
@@ -178,6 +194,10 @@ const TABLE: [(&str, &str); 43] = [
     (
         "sced check --help",
         "Tells by how much the tables of factors miss the laws of the network",
+    ),
+    (
+        "sced factors --help",
+        "Makes tables of shift and outage factors",
     ),
     (
         "sced make --help",

@@ -1,12 +1,12 @@
 mod ColumnLemmas
 mod ColumnSteps
 mod ListSteps
-mod Lists
+pub mod Lists
 mod ListedOutages
-mod Made
+pub mod Made
 mod Networks
 mod OutageColumns
 mod Recips
 mod Records
 mod Scaling
-mod Sizes
+pub mod Sizes

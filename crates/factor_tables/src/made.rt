@@ -22,10 +22,10 @@ pub struct MadeFactor {
 }
 
 /// The pair of a record.
-fn made_pair(record: &MadeFactor) -> (u32, u32)
-    ensures { result ≡ made_pair record.now }
+fn made_pair(made: &MadeFactor) -> (u32, u32)
+    ensures { result ≡ made_pair made.now }
 {
-    (record.branch, record.of)
+    (made.branch, made.of)
 }
 
 /// The greatest row that a table of this kind has to mark for these records, 0 where there are none.

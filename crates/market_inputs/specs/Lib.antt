@@ -2,6 +2,7 @@ pub mod Cases
 pub mod Checking
 pub mod Clearing
 pub mod Files
+pub mod Making
 pub mod Pooling
 pub mod Replaying
 pub mod RightsInputs

@@ -1,8 +1,9 @@
 //! The network of a case.
 
-ghost use Rattle.std.specs.Prelude.{◌≡◌, IfOk};
+ghost use Rattle.std.specs.Prelude.{◌≡◌, IfOk, length};
 ghost use Rattle.factor_residuals.specs.Residuals.{AreReactances};
 ghost use Rattle.net_case.specs.Networks.{IsNetwork};
+ghost use Rattle.net_paths.specs.Connection.{JoinAll};
 ghost use Rattle.refusal_text.specs.declared.refusals.Input.TheVariants as input;
 ghost use Rattle.refusal_text.specs.declared.refusals.Refusal.TheVariants as refusal;
 ghost use Rattle.market_inputs.specs.Cases.{AreReadBuses, IsJoinedNetwork, IsReadNetwork, matrices_in, network_in, reactances_in};
@@ -46,6 +47,7 @@ pub(crate) fn joined_network(
 ) -> Result<Network, InputStop>
     ensures told { IsToldAs (IsJoinedNetwork rating raw.now) result }
     ensures kept { IfOk result IsNetwork }
+    ensures joined { IfOk result (λ network. JoinAll network.branches (length network.buses)) }
 {
     let network = case_network(alloc, raw, Branches::Read(rating))?;
     connected(alloc, &network)?;

@@ -1,5 +1,5 @@
-//! What the bytes of files stand for: the markets of `pool` and of `clear`, and what a check of tables works on. Each gives the first
-//! fault in the order of the work where they stand for none.
+//! What the bytes of files stand for: the markets of `pool` and of `clear`, what a check of tables works on, and what tables of factors are
+//! made of. Each gives the first fault in the order of the work where they stand for none.
 #![tactic(auto)]
 
 mod cases;
@@ -8,6 +8,7 @@ mod clearing;
 mod covering;
 mod lengths;
 mod limits;
+mod making;
 mod offers;
 mod pooling;
 mod replays;
@@ -18,6 +19,7 @@ mod tables;
 pub use checking::{Inputs, check_inputs};
 pub use clearing::clear_market;
 pub use lengths::MOST_BYTES;
+pub use making::{FactorInputs, factor_inputs};
 pub use pooling::pool_market;
 pub use replays::{edit_steps, read_certificate};
 pub use rights::read_rights;

@@ -76,7 +76,11 @@ fn numbers_table(alloc: Global, bytes: &[u8]) -> Result<OutageRows, InputStop>
 }
 
 /// The outages of a table.
-fn outage_table(alloc: Global, network: &Network, bytes: &[u8]) -> Result<Outages, InputStop>
+pub(crate) fn outage_table(
+    alloc: Global,
+    network: &Network,
+    bytes: &[u8],
+) -> Result<Outages, InputStop>
     ensures told { IsToldAs (AreOutagesIn network.now (sized (refusal.TooLong input.Contingencies) bytes.now)) result }
     ensures kept { IfOk result (MayBeLost network.now) }
 {

@@ -31,6 +31,8 @@ use Rattle.edit_table.specs.declared.StepFault.{StepFault}
 use Rattle.edit_table.specs.declared.StepFault.TheVariants as step_fault
 use Rattle.cert_format.specs.declared.certificate.Key.{Key}
 use Rattle.cert_format.specs.declared.certificate.Key.TheVariants as key
+use Rattle.refusal_text.specs.declared.refusals.FactorFault.{FactorFault}
+use Rattle.refusal_text.specs.declared.refusals.FactorFault.TheVariants as factor_fault
 use Rattle.refusal_text.specs.declared.refusals.Input.{Input}
 use Rattle.refusal_text.specs.declared.refusals.Input.TheVariants as input
 use Rattle.refusal_text.specs.declared.refusals.Refusal.{Refusal}
@@ -147,6 +149,11 @@ unfoldable pub lack_words : Uncovered → List ℕ
 lack_words (uncovered.NoShift branch) = codes "NoShift branch " ++ decimal branch
 lack_words (uncovered.NoLoss branch) = codes "NoLoss branch " ++ decimal branch
 
+-- what is against making tables of factors
+unfoldable pub factor_words : FactorFault → List ℕ
+factor_words (factor_fault.TooMany count) = codes "TooMany count " ++ decimal count
+factor_words (factor_fault.NotPositive branch) = codes "NotPositive branch " ++ decimal branch
+
 -- the first part of a certificate's text that is at fault
 abbrev pub key_name : Key → List ℕ
 key_name key.Json = codes "json"
@@ -183,6 +190,7 @@ file_name (refusal.Table i f) = input_name i
 file_name (refusal.Outages f) = codes "contingencies "
 file_name (refusal.UnitOutages f) = codes "unit-outages "
 file_name (refusal.Uncovered lack) = codes "factors "
+file_name (refusal.Factors f) = codes "factors "
 file_name (refusal.Offers f) = codes "offers "
 file_name (refusal.Reserves f) = codes "reserves "
 file_name (refusal.Rights f) = codes "rights "
@@ -199,6 +207,7 @@ fault_words (refusal.Table i f) = table_words f
 fault_words (refusal.Outages f) = outage_words f
 fault_words (refusal.UnitOutages f) = unit_outage_words f
 fault_words (refusal.Uncovered lack) = lack_words lack
+fault_words (refusal.Factors f) = factor_words f
 fault_words (refusal.Offers f) = offer_words f
 fault_words (refusal.Reserves f) = reserve_words f
 fault_words (refusal.Rights f) = rights_words f

@@ -3,4 +3,4 @@
 
 mod refusals;
 
-pub use refusals::{Input, Refusal, refusal_text};
+pub use refusals::{FactorFault, Input, Refusal, refusal_text};

@@ -2,7 +2,7 @@
 
 ghost use Rattle.std.specs.Prelude.{◌≡◌, ◌++◌, codes, decimal, IfOk};
 ghost use Rattle.line_text.specs.Decimals.{decimal_text};
-ghost use Rattle.refusal_text.specs.Refusals.{field_name, why_name, case_words, net_words, frame_words, table_words, side_text, outage_words, unit_outage_words, lack_words, offer_words, reserve_words, rights_words, step_words, key_name, input_name, file_name, fault_words, refusal_words, refusal_line};
+ghost use Rattle.refusal_text.specs.Refusals.{field_name, why_name, case_words, net_words, frame_words, table_words, side_text, outage_words, unit_outage_words, lack_words, factor_words, offer_words, reserve_words, rights_words, step_words, key_name, input_name, file_name, fault_words, refusal_words, refusal_line};
 
 use case_text::{CaseFault, Field};
 use cert_format::Key;
@@ -45,6 +45,15 @@ pub enum Input {
     Certificate,
 }
 
+/// Why no tables of factors are made of a case.
+#[derive(Clone, Copy, PartialEq, Eq, Debug)]
+pub enum FactorFault {
+    /// A table would have so many factors, which are too many.
+    TooMany { count: usize },
+    /// The reactance of the branch of this row, with its ratio, is not above 0.
+    NotPositive { branch: u32 },
+}
+
 /// Why a file stands for nothing that the program may work on.
 #[derive(Debug, Drop)]
 pub enum Refusal {
@@ -63,6 +72,8 @@ pub enum Refusal {
     UnitOutages(UnitOutageFault),
     /// What the two tables of factors lack together.
     Uncovered(Uncovered),
+    /// What is against making tables of factors.
+    Factors(FactorFault),
     Offers(OfferFault),
     /// What units offer of spinning reserve, and the need.
     Reserves(ReserveFault),
@@ -347,6 +358,20 @@ fn write_lack(text: &mut Text, lack: Uncovered) -> Result<(), Memory>
     }
 }
 
+#[tactic(auto, using(std::proofs::Common::append_assoc), unfolding(crate::specs::Refusals::factor_words))]
+fn write_factor_fault(text: &mut Text, fault: FactorFault) -> Result<(), Memory>
+    ensures { IfOk result (λ _. text.new ≡ text.old ++ factor_words fault) }
+{
+    match fault {
+        FactorFault::TooMany { count } => numbered(text, b"TooMany count ", count),
+        FactorFault::NotPositive { branch } => numbered(
+            text,
+            b"NotPositive branch ",
+            branch as usize,
+        ),
+    }
+}
+
 fn key_word(key: Key) -> &'static [u8]
     ensures { result.now ≡ key_name key }
 {
@@ -391,7 +416,7 @@ fn file_word(refusal: &Refusal) -> &'static [u8]
         Refusal::Case(_) | Refusal::Network(_) | Refusal::Split { bus: _ } => b"case ",
         Refusal::Outages(_) => b"contingencies ",
         Refusal::UnitOutages(_) => b"unit-outages ",
-        Refusal::Uncovered(_) => b"factors ",
+        Refusal::Uncovered(_) | Refusal::Factors(_) => b"factors ",
         Refusal::Offers(_) => b"offers ",
         Refusal::Reserves(_) => b"reserves ",
         Refusal::Rights(_) => b"rights ",
@@ -414,6 +439,7 @@ fn write_fault(text: &mut Text, refusal: &Refusal) -> Result<(), Memory>
         Refusal::Outages(fault) => write_outage_fault(text, fault),
         Refusal::UnitOutages(fault) => write_unit_outage_fault(text, *fault),
         Refusal::Uncovered(lack) => write_lack(text, *lack),
+        Refusal::Factors(fault) => write_factor_fault(text, *fault),
         Refusal::Offers(fault) => write_offer_fault(text, *fault),
         Refusal::Reserves(fault) => write_reserve_fault(text, *fault),
         Refusal::Rights(fault) => write_rights_fault(text, *fault),

@@ -8,4 +8,4 @@ mod outcome;
 mod reserve;
 
 pub use limits::row_words;
-pub use outcome::{report, report_with_need};
+pub use outcome::{range, report, report_with_need};

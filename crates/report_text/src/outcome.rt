@@ -61,7 +61,7 @@ fn op_word(op: Op) -> &'static [u8]
 }
 
 /// The report of an operation whose outcome would pass the bound of its numbers.
-fn range<N: Exact>(alloc: Global, passed: &Passed<N>) -> Result<Vec<u8>, Memory>
+pub fn range<N: Exact>(alloc: Global, passed: &Passed<N>) -> Result<Vec<u8>, Memory>
     ensures { IfOk result (λ bytes. bytes.items ≡ range_text (passed_at N.value passed.now)) }
 {
     let mut text = Text::new(alloc);

@@ -10,12 +10,13 @@ use Rattle.market_model.specs.declared.participants.Parts.{Parts}
 use Rattle.refusal_text.specs.declared.refusals.Refusal.{Refusal}
 use Rattle.market_inputs.specs.Files.{sized_grid}
 use Rattle.market_inputs.specs.declared.checking.Inputs.{Inputs}
-use Rattle.market_inputs.proofs.OnceLemmas.{OfOne, inputs-once, pool-once}
-use Rattle.command_words.specs.Words.{AsksClear, AsksMake, AsksPool, CheckNames, Enters, GridNames, MarketNames, refuses}
-use Rattle.command_words.proofs.WordsLemmas.{asks-once, checks-once, clears-once, enters-one, makes-once, migrates-once, names-apart, replays-once, rights-once, verifies-once}
+use Rattle.market_inputs.specs.declared.making.FactorInputs.{FactorInputs}
+use Rattle.market_inputs.proofs.OnceLemmas.{OfOne, factor-inputs-once, inputs-once, pool-once}
+use Rattle.command_words.specs.Words.{AsksClear, AsksMake, AsksPool, CheckNames, Enters, FactorNames, GridNames, MarketNames, refuses}
+use Rattle.command_words.proofs.WordsLemmas.{asks-once, checks-once, clears-once, enters-one, factors-once, makes-once, migrates-once, names-apart, replays-once, rights-once, verifies-once}
 use Rattle.command_answers.specs.Checking.{TellsCheck}
 use Rattle.command_answers.specs.Clearing.{TellsClear, most_size}
-use Rattle.command_answers.specs.Inputs.{AreEntitled, IsCertificate, IsCertified, IsCheck, IsLimited, IsReplayed, MarketCertificate, MarketRights, MarketSteps}
+use Rattle.command_answers.specs.Inputs.{AreEntitled, IsCertificate, IsCertified, IsCheck, IsFactorWork, IsLimited, IsReplayed, MarketCertificate, MarketRights, MarketSteps}
 use Rattle.command_answers.specs.Migrating.{TellsMigration}
 use Rattle.command_answers.specs.Replaying.{TellsReplay}
 use Rattle.command_answers.specs.Rights.{TellsRights}
@@ -23,19 +24,20 @@ use Rattle.command_answers.specs.Making.{MakesTo}
 use Rattle.command_answers.specs.Tellings.{ComesTo, Telling, Tells}
 use Rattle.command_answers.specs.Verifying.{TellsVerdict}
 use Rattle.command_answers.proofs.RoundTripLemmas.{certified-once, entitled-once, limited-once, replayed-once}
-use Rattle.sced.specs.Asked.{AsksForRights, AsksToCheck, AsksToClear, AsksToMigrate, AsksToReplay, AsksToVerify, as_clear, as_pool}
+use Rattle.sced.specs.Asked.{AsksForFactors, AsksForRights, AsksToCheck, AsksToClear, AsksToMigrate, AsksToReplay, AsksToVerify, as_clear, as_pool}
 use Rattle.edit_table.specs.EditTable.{header as edit_header}
+use Rattle.factor_tables.specs.OutageNumbers.{outage_header}
 use Rattle.market_tables.specs.Tables.{GridTexts, MarketTexts}
 use Rattle.market_tables.proofs.EachLemmas.{same-grid, same-tables}
 use Rattle.command_files.specs.Reading.{HaveGridTexts, HaveTexts, IsTable, Source, grid_sources, header_alone, in_file, source_of, table_sources}
-use Rattle.sced.specs.Told.{AnswersTo, checked, cleared, entitled, made, migrated, pooled, refused, replayed, verified}
-use Rattle.command_files.specs.Standing.{AreCheckFiles, AreClearFiles, ArePoolFiles, AreReplayFiles, AreRightsFiles, AreVerifyFiles, IsMigratedFile}
+use Rattle.sced.specs.Told.{AnswersTo, checked, cleared, entitled, factored, made, migrated, pooled, refused, replayed, verified}
+use Rattle.command_files.specs.Standing.{AreCheckFiles, AreClearFiles, AreFactorFiles, ArePoolFiles, AreReplayFiles, AreRightsFiles, AreVerifyFiles, IsMigratedFile, TellsFactorsOf}
 
 -- ---- files stand for one market, or have one first fault
-same-bytes : (a b : List ℕ) (o : Option (List ℕ)) → o ≡ Some a → o ≡ Some b → a ≡ b
+pub same-bytes : (a b : List ℕ) (o : Option (List ℕ)) → o ≡ Some a → o ≡ Some b → a ≡ b
 same-bytes a b o first second = Prim.cc
 
-same-table : (files : Files) (source : Source) (a b : List ℕ) → IsTable files source a → IsTable files source b → a ≡ b
+pub same-table : (files : Files) (source : Source) (a b : List ℕ) → IsTable files source a → IsTable files source b → a ≡ b
 same-table files (in_file name) a b first second = same-bytes a b (files name) first second
 same-table files (header_alone header) a b first second = first ∙ sym second
 
@@ -78,6 +80,15 @@ rights-files-once files names rights a b h k =
     let same_rights = same-bytes k.rights h.rights (files rights) k.rights_are h.rights_are in
     let entitled = subst (λ texts. AreEntitled names.rating names.places texts k.rights b) (same-texts files names k.texts h.texts k.have h.have) k.entitled in
     entitled-once names.rating names.places h.texts h.rights a b h.entitled (subst (λ table. AreEntitled names.rating names.places h.texts table b) same_rights entitled)
+
+factor-work-once : (case outages : List ℕ) → OfOne (IsFactorWork case (Some outages))
+factor-work-once case outages = factor-inputs-once case (Some outages)
+
+factor-files-once : (files : Files) (names : FactorNames) → OfOne (AreFactorFiles files names)
+factor-files-once files names a b h k =
+    let same_case = same-bytes k.case h.case (files names.case) k.case_is h.case_is in
+    let same_outages = same-table files (source_of outage_header names.contingencies) k.outages h.outages k.outages_are h.outages_are in
+    factor-work-once h.case h.outages a b h.work (subst (λ o. IsFactorWork h.case (Some o) b) same_outages (subst (λ c. IsFactorWork c (Some k.outages) b) same_case k.work))
 
 migrated-file-once : (files : Files) (certificate : List ℕ) → OfOne (IsMigratedFile files certificate)
 migrated-file-once files certificate a b h k =
@@ -136,6 +147,7 @@ module _ (files : Files) (words : List (List ℕ)) (t : Telling) where
   clear-told _ r (entitled names held asked told) asks = absurd (neither words (codes "rights") asked.rows refl refl asked.enters (entered files words r asks))
   clear-told _ r (migrated old out asked told) asks = absurd (neither words (codes "migrate") asked.rows refl refl asked.enters (entered files words r asks))
   clear-told _ r (checked names asked told) asks = absurd (neither words (codes "check") asked.rows refl refl asked.enters (entered files words r asks))
+  clear-told _ r (factored names asked told) asks = absurd (neither words (codes "factors") asked.rows refl refl asked.enters (entered files words r asks))
   clear-told _ r (made buses seed asked told) asks = absurd (neither words (codes "make") asked.rows refl refl asked.enters (entered files words r asks))
 
   pub replay-told : (w : List (List ℕ × List ℕ)) (r : Result MarketSteps Refusal) → AnswersTo (Some files) words t w → AsksToReplay files words r → ComesTo TellsReplay r t
@@ -146,6 +158,7 @@ module _ (files : Files) (words : List (List ℕ)) (t : Telling) where
   replay-told _ r (entitled names held asked told) asks = absurd (no-other words (codes "rights") (codes "replay") asked.rows asks.asks.rows refl asked.enters asks.asks.enters)
   replay-told _ r (migrated old out asked told) asks = absurd (no-other words (codes "migrate") (codes "replay") asked.rows asks.asks.rows refl asked.enters asks.asks.enters)
   replay-told _ r (checked names asked told) asks = absurd (no-other words (codes "check") (codes "replay") asked.rows asks.asks.rows refl asked.enters asks.asks.enters)
+  replay-told _ r (factored names asked told) asks = absurd (no-other words (codes "factors") (codes "replay") asked.rows asks.asks.rows refl asked.enters asks.asks.enters)
   replay-told _ r (made buses seed asked told) asks = absurd (no-other words (codes "make") (codes "replay") asked.rows asks.asks.rows refl asked.enters asks.asks.enters)
   replay-told _ r (replayed names edits file asked told) asks =
       let same = replays-once words asks.names names asks.edits edits asks.certificate file asks.asks asked in
@@ -161,6 +174,7 @@ module _ (files : Files) (words : List (List ℕ)) (t : Telling) where
   verify-told _ r (entitled names held asked told) asks = absurd (no-other words (codes "rights") (codes "verify") asked.rows asks.asks.rows refl asked.enters asks.asks.enters)
   verify-told _ r (migrated old out asked told) asks = absurd (no-other words (codes "migrate") (codes "verify") asked.rows asks.asks.rows refl asked.enters asks.asks.enters)
   verify-told _ r (checked names asked told) asks = absurd (no-other words (codes "check") (codes "verify") asked.rows asks.asks.rows refl asked.enters asks.asks.enters)
+  verify-told _ r (factored names asked told) asks = absurd (no-other words (codes "factors") (codes "verify") asked.rows asks.asks.rows refl asked.enters asks.asks.enters)
   verify-told _ r (made buses seed asked told) asks = absurd (no-other words (codes "make") (codes "verify") asked.rows asks.asks.rows refl asked.enters asks.asks.enters)
   verify-told _ r (verified names edits certificate asked told) asks =
       let same = verifies-once words asks.names names asks.edits edits asks.certificate certificate asks.asks asked in
@@ -178,6 +192,7 @@ module _ (files : Files) (words : List (List ℕ)) (t : Telling) where
   rights-told _ r (verified names edits certificate asked told) asks = absurd (no-other words (codes "verify") (codes "rights") asked.rows asks.asks.rows refl asked.enters asks.asks.enters)
   rights-told _ r (migrated old out asked told) asks = absurd (no-other words (codes "migrate") (codes "rights") asked.rows asks.asks.rows refl asked.enters asks.asks.enters)
   rights-told _ r (checked names asked told) asks = absurd (no-other words (codes "check") (codes "rights") asked.rows asks.asks.rows refl asked.enters asks.asks.enters)
+  rights-told _ r (factored names asked told) asks = absurd (no-other words (codes "factors") (codes "rights") asked.rows asks.asks.rows refl asked.enters asks.asks.enters)
   rights-told _ r (made buses seed asked told) asks = absurd (no-other words (codes "make") (codes "rights") asked.rows asks.asks.rows refl asked.enters asks.asks.enters)
   rights-told _ r (entitled names held asked told) asks =
       let same = rights-once words asks.names names asks.rights held asks.asks asked in
@@ -193,6 +208,7 @@ module _ (files : Files) (words : List (List ℕ)) (t : Telling) where
   migrate-told _ r (verified names edits certificate asked told) asks = absurd (no-other words (codes "verify") (codes "migrate") asked.rows asks.asks.rows refl asked.enters asks.asks.enters)
   migrate-told _ r (entitled names held asked told) asks = absurd (no-other words (codes "rights") (codes "migrate") asked.rows asks.asks.rows refl asked.enters asks.asks.enters)
   migrate-told _ r (checked names asked told) asks = absurd (no-other words (codes "check") (codes "migrate") asked.rows asks.asks.rows refl asked.enters asks.asks.enters)
+  migrate-told _ r (factored names asked told) asks = absurd (no-other words (codes "factors") (codes "migrate") asked.rows asks.asks.rows refl asked.enters asks.asks.enters)
   migrate-told _ r (made buses seed asked told) asks = absurd (no-other words (codes "make") (codes "migrate") asked.rows asks.asks.rows refl asked.enters asks.asks.enters)
   migrate-told _ r (migrated old out asked told) asks =
       let here : IsMigratedFile files old r = subst (λ (x : List ℕ). IsMigratedFile files x r) (migrates-once words asks.certificate old asks.out out asks.asks asked).0 asks.stand in
@@ -207,9 +223,25 @@ module _ (files : Files) (words : List (List ℕ)) (t : Telling) where
   check-told _ r (entitled names held asked told) asks = absurd (no-other words (codes "rights") (codes "check") asked.rows asks.asks.rows refl asked.enters asks.asks.enters)
   check-told _ r (migrated old out asked told) asks = absurd (no-other words (codes "migrate") (codes "check") asked.rows asks.asks.rows refl asked.enters asks.asks.enters)
   check-told _ r (made buses seed asked told) asks = absurd (no-other words (codes "make") (codes "check") asked.rows asks.asks.rows refl asked.enters asks.asks.enters)
+  check-told _ r (factored names asked told) asks = absurd (no-other words (codes "factors") (codes "check") asked.rows asks.asks.rows refl asked.enters asks.asks.enters)
   check-told _ r (checked names asked told) asks =
       let here : AreCheckFiles files names r = subst (λ (n : CheckNames). AreCheckFiles files n r) (checks-once words asks.names names asks.asks asked) asks.stand in
       told-of (AreCheckFiles files names) TellsCheck r t (check-files-once files names) here told
+
+  pub factors-told : (w : List (List ℕ × List ℕ)) (r : Result FactorInputs Refusal) → AnswersTo (Some files) words t w → (asks : AsksForFactors files words r) → ComesTo (TellsFactorsOf asks.names) r t
+  factors-told _ r (refused nothing usage) asks = absurd (not-refused words _ asks.asks.rows nothing asks.asks.enters)
+  factors-told _ r (pooled case offers asked told) asks = absurd (no-other words (codes "pool") (codes "factors") asked.rows asks.asks.rows refl asked.enters asks.asks.enters)
+  factors-told _ r (cleared names file asked told) asks = absurd (no-other words (codes "clear") (codes "factors") asked.rows asks.asks.rows refl asked.enters asks.asks.enters)
+  factors-told _ r (replayed names edits file asked told) asks = absurd (no-other words (codes "replay") (codes "factors") asked.rows asks.asks.rows refl asked.enters asks.asks.enters)
+  factors-told _ r (verified names edits certificate asked told) asks = absurd (no-other words (codes "verify") (codes "factors") asked.rows asks.asks.rows refl asked.enters asks.asks.enters)
+  factors-told _ r (entitled names held asked told) asks = absurd (no-other words (codes "rights") (codes "factors") asked.rows asks.asks.rows refl asked.enters asks.asks.enters)
+  factors-told _ r (migrated old out asked told) asks = absurd (no-other words (codes "migrate") (codes "factors") asked.rows asks.asks.rows refl asked.enters asks.asks.enters)
+  factors-told _ r (checked names asked told) asks = absurd (no-other words (codes "check") (codes "factors") asked.rows asks.asks.rows refl asked.enters asks.asks.enters)
+  factors-told _ r (made buses seed asked told) asks = absurd (no-other words (codes "make") (codes "factors") asked.rows asks.asks.rows refl asked.enters asks.asks.enters)
+  factors-told _ r (factored names asked told) asks =
+      let same = factors-once words asks.names names asks.asks asked in
+      let here : AreFactorFiles files names r = subst (λ (n : FactorNames). AreFactorFiles files n r) same asks.stand in
+      subst (λ (n : FactorNames). ComesTo (TellsFactorsOf n) r t) (sym same) (told-of (AreFactorFiles files names) (TellsFactorsOf names) r t (factor-files-once files names) here told)
 
 -- a ring is made of words alone
 module _ (files : Option Files) (words : List (List ℕ)) (t : Telling) (buses seed : ℕ) (asks : AsksMake words buses seed) where
@@ -225,6 +257,7 @@ module _ (files : Option Files) (words : List (List ℕ)) (t : Telling) (buses s
   make-told _ (entitled names held asked told) = other-made (codes "rights") asked.rows refl asked.enters
   make-told _ (migrated old out asked told) = other-made (codes "migrate") asked.rows refl asked.enters
   make-told _ (checked names asked told) = other-made (codes "check") asked.rows refl asked.enters
+  make-told _ (factored names asked told) = other-made (codes "factors") asked.rows refl asked.enters
   make-told _ (made n s asked told) =
       let same = makes-once words n buses s seed asked asks in
       subst (λ x. MakesTo most_size buses x t) same.1 (subst (λ x. MakesTo most_size x s t) same.0 told)

@@ -1,12 +1,15 @@
 -- How a run ends, from a store that was only read.
-use Rattle.std.proofs.Common.{◌≡◌, ◌∙◌, ℕ, List, [], ◌∷◌, Option, Some, None, Result, Ok, Err, inl, inr, refl}
+use Rattle.std.proofs.Common.{◌≡◌, ◌∙◌, ℕ, List, [], ◌∷◌, Option, Some, None, Result, Ok, Err, inl, inr, refl, subst}
 use Rattle.std.specs.Prelude.{◌⊎◌, IsErr, take}
+use Rattle.outside_store.specs.Causes.{Rose}
 use Rattle.outside_store.specs.Files.{Files, SameFiles, Wrote}
+use Rattle.outside_store.specs.declared.Store.{Ghosts}
 use Rattle.outside_store.specs.declared.Failed.{Failed}
 use Rattle.command_answers.specs.Tellings.{Telling}
 use Rattle.command_answers.specs.declared.status.Status.{Status}
 use Rattle.command_answers.specs.declared.status.Status.TheVariants as status
-use Rattle.sced.specs.Runs.{Ends, Keeps, told, unwritten}
+use Rattle.sced.specs.Runs.{Ends, Keeps, WritesFor, told, unwritten}
+use Rattle.sced.specs.Told.{named_bytes}
 use Rattle.command_files.proofs.ReadingLemmas.{same_files, same_then}
 
 -- a write that failed was of a file
@@ -67,3 +70,43 @@ whole failed name bytes (Some f) (Some h) fine wrote = record { done = λ _. wro
 pub keeps-one : (r : Result (Unit {0}) Failed) (name bytes : List ℕ) (before now : Option Files) → Wrote (IsErr r) name bytes before now → Keeps (IsErr r) ((name, bytes) ∷ []) before now
 keeps-one (Ok _) name bytes before now wrote = inr (now, whole _ name bytes before now (λ bad. cc bad) wrote, (λ bad. cc bad, same_files now))
 keeps-one (Err e) name bytes before now wrote = inl (refl, wrote)
+
+-- ---- outputs one behind another
+-- where an output is kept, those behind it are kept from there
+pub keeps-then : (first failed : Type 0) (name bytes : Option (List ℕ)) (rest : List (List ℕ × List ℕ)) (a b c : Option Files) → ¬ first
+    → Keeps first (named_bytes name bytes []) a b → Keeps failed rest b c → Keeps failed (named_bytes name bytes rest) a c
+keeps-then first failed (Some name) (Some bytes) rest a b c fine (inl (bad, wrote)) kept = absurd (fine bad)
+keeps-then first failed (Some name) (Some bytes) rest a b c fine (inr (between, wrote, (good, same))) kept = inr (between, wrote, keeps-from failed rest between b c same kept)
+keeps-then first failed (Some name) None rest a b c fine (good, same) kept = keeps-from failed rest a b c same kept
+keeps-then first failed None bytes rest a b c fine (good, same) kept = keeps-from failed rest a b c same kept
+
+-- a write that failed is one of a run that did
+wrote-cut : (first failed : Type 0) (name bytes : List ℕ) (a b : Option Files) → first → failed → Wrote first name bytes a b → Wrote failed name bytes a b
+wrote-cut first failed name bytes None None bad turned wrote = tt
+wrote-cut first failed name bytes None (Some h) bad turned wrote = elim wrote [ ]
+wrote-cut first failed name bytes (Some f) None bad turned wrote = elim wrote [ ]
+wrote-cut first failed name bytes (Some f) (Some h) bad turned wrote = record { done = λ fine. absurd (fine turned); cut = λ _. wrote.cut bad; others = wrote.others }
+
+-- where it is not, none behind it is written
+pub keeps-cut : (first failed : Type 0) (name bytes : Option (List ℕ)) (rest : List (List ℕ × List ℕ)) (a b : Option Files) → first → failed
+    → Keeps first (named_bytes name bytes []) a b → Keeps failed (named_bytes name bytes rest) a b
+keeps-cut first failed (Some name) (Some bytes) rest a b bad turned (inl (was, wrote)) = inl (turned, wrote-cut first failed name bytes a b bad turned wrote)
+keeps-cut first failed (Some name) (Some bytes) rest a b bad turned (inr (between, wrote, (good, same))) = absurd (good bad)
+keeps-cut first failed (Some name) None rest a b bad turned (good, same) = absurd (good bad)
+keeps-cut first failed None bytes rest a b bad turned (good, same) = absurd (good bad)
+
+-- ---- failed writes that are counted
+module _ {S : Type 0} (store : Ghosts S) (asked wider : List ℕ → Type 0) (within : (file : List ℕ) → asked file → wider file) (first failed : Type 0) where
+  -- a step that did not fail counts none, so what is counted is of the next
+  pub writes-then : (a b c : S) (others : List ℕ → Type 0) → ¬ first → WritesFor store a b others first → WritesFor store b c asked failed → WritesFor store a c wider failed
+  writes-then a b c others fine before after = record {
+    cause = λ bad. let (file, is, rose) = after.cause bad in (file, within file is, subst (λ n. Rose n (store.failed_writes c file)) (before.still fine file) rose);
+    still = λ good n. after.still good n ∙ before.still fine n;
+  }
+
+  -- and one that failed ends the work
+  pub writes-cut : (a b : S) → first → failed → WritesFor store a b asked first → WritesFor store a b wider failed
+  writes-cut a b bad turned counts = record {
+    cause = λ _. let (file, is, rose) = counts.cause bad in (file, within file is, rose);
+    still = λ good. absurd (good turned);
+  }

@@ -7,22 +7,23 @@ use Rattle.outside_store.specs.Files.{Files}
 use Rattle.outside_store.specs.Sinks.{Took}
 use Rattle.market_model.specs.declared.participants.Parts.{Parts}
 use Rattle.market_inputs.specs.declared.checking.Inputs.{Inputs}
+use Rattle.market_inputs.specs.declared.making.FactorInputs.{FactorInputs}
 use Rattle.market_tables.specs.Tables.{GridTexts, MarketTexts}
 use Rattle.record_reading.specs.Records.{Record}
 use Rattle.refusal_text.specs.declared.refusals.Refusal.{Refusal}
-use Rattle.command_words.specs.Words.{AsksCheck, AsksClear, AsksMigrate, AsksPool, AsksReplay, AsksRights, AsksVerify, CheckNames, GridNames, IsCheckFile, IsGridFile, IsMarketFile, IsPoolFile, IsReplayFile, IsRightsFile, IsVerifyFile, MarketNames, NamesFile, NamesToWrite}
-use Rattle.command_words.proofs.WordsLemmas.{asks-once, checks-once, clears-once, migrates-once, replays-once, rights-once, verifies-once}
+use Rattle.command_words.specs.Words.{AsksCheck, AsksClear, AsksFactors, AsksMigrate, AsksPool, AsksReplay, AsksRights, AsksVerify, CheckNames, FactorNames, GridNames, IsCheckFile, IsFactorFile, IsGridFile, IsMarketFile, IsPoolFile, IsReplayFile, IsRightsFile, IsVerifyFile, MarketNames, NamesFile, NamesToWrite}
+use Rattle.command_words.proofs.WordsLemmas.{asks-once, checks-once, clears-once, factors-once, migrates-once, replays-once, rights-once, verifies-once}
 use Rattle.command_answers.specs.Inputs.{MarketCertificate, MarketRights, MarketSteps}
 use Rattle.command_answers.specs.Tellings.{Telling}
 use Rattle.command_answers.specs.declared.status.Status.{Status}
 use Rattle.command_answers.specs.declared.status.Status.TheVariants as status
 use Rattle.command_files.specs.OnlyReads.{IsSilent}
 use Rattle.command_files.specs.Reading.{HaveGridTexts, HaveTexts, IsTable, source_of}
-use Rattle.command_files.specs.Standing.{AreCheckFiles, AreClearFiles, ArePoolFiles, AreReplayFiles, AreRightsFiles, AreVerifyFiles}
+use Rattle.command_files.specs.Standing.{AreCheckFiles, AreClearFiles, AreFactorFiles, ArePoolFiles, AreReplayFiles, AreRightsFiles, AreVerifyFiles}
 use Rattle.sced.specs.Headline.{LawOfAnswered, LawOfCauses, LawOfCutShort, LawOfMissing}
 use Rattle.sced.specs.Runs.{Ends, IsTold, Outside}
 use Rattle.sced.specs.Runs as ending
-use Rattle.sced.specs.Told.{Answers, AnswersTo, checked, cleared, entitled, made, migrated, pooled, refused, replayed, verified}
+use Rattle.sced.specs.Told.{Answers, AnswersTo, checked, cleared, entitled, factored, made, migrated, pooled, refused, replayed, verified}
 use Rattle.sced.proofs.AskedLemmas.{no-other, not-refused}
 
 pub silent-or : (s : Status) → IsSilent s ⊎ ¬ (IsSilent s)
@@ -160,6 +161,10 @@ module _ (files : Files) (name : List ℕ) where
   check-there : (names : CheckNames) {told : Result Inputs Refusal} → AreCheckFiles files names told → IsCheckFile names name → There files name
   check-there names h named = grid-there names.tables h.texts h.have named
 
+  factors-there : (names : FactorNames) {told : Result FactorInputs Refusal} → AreFactorFiles files names told → IsFactorFile names name → There files name
+  factors-there names h (inl same) = here-as names.case h.case same h.case_is
+  factors-there names h (inr same) = optional-there _ names.contingencies h.outages same h.outages_are
+
   rights-there : (names : MarketNames) (rights : List ℕ) {told : Result MarketRights Refusal} → AreRightsFiles files names rights told → IsRightsFile names rights name → There files name
   rights-there names rights h (inl market) = market-there names h.texts h.have market
   rights-there names rights h (inr same) = here-as rights h.rights same h.rights_are
@@ -174,6 +179,7 @@ module _ (files : Files) (name : List ℕ) where
     told-pool case' offers' _ (entitled names held asked tells) asks named = absurd (no-other words (codes "rights") (codes "pool") asked.rows asks.rows refl asked.enters asks.enters)
     told-pool case' offers' _ (migrated old out asked tells) asks named = absurd (no-other words (codes "migrate") (codes "pool") asked.rows asks.rows refl asked.enters asks.enters)
     told-pool case' offers' _ (checked names asked tells) asks named = absurd (no-other words (codes "check") (codes "pool") asked.rows asks.rows refl asked.enters asks.enters)
+    told-pool case' offers' _ (factored names asked tells) asks named = absurd (no-other words (codes "factors") (codes "pool") asked.rows asks.rows refl asked.enters asks.enters)
     told-pool case' offers' _ (made buses seed asked makes) asks named = absurd (no-other words (codes "make") (codes "pool") asked.rows asks.rows refl asked.enters asks.enters)
 
     told-clear : (names' : MarketNames) (file' : Option (List ℕ)) (w : List (List ℕ × List ℕ)) → AnswersTo (Some files) words t w → AsksClear words names' file' → IsMarketFile names' name → There files name
@@ -185,6 +191,7 @@ module _ (files : Files) (name : List ℕ) where
     told-clear names' file' _ (entitled names held asked tells) asks named = absurd (no-other words (codes "rights") (codes "clear") asked.rows asks.rows refl asked.enters asks.enters)
     told-clear names' file' _ (migrated old out asked tells) asks named = absurd (no-other words (codes "migrate") (codes "clear") asked.rows asks.rows refl asked.enters asks.enters)
     told-clear names' file' _ (checked names asked tells) asks named = absurd (no-other words (codes "check") (codes "clear") asked.rows asks.rows refl asked.enters asks.enters)
+    told-clear names' file' _ (factored names asked tells) asks named = absurd (no-other words (codes "factors") (codes "clear") asked.rows asks.rows refl asked.enters asks.enters)
     told-clear names' file' _ (made buses seed asked makes) asks named = absurd (no-other words (codes "make") (codes "clear") asked.rows asks.rows refl asked.enters asks.enters)
 
     told-replay : (names' : MarketNames) (edits' : List ℕ) (file' : Option (List ℕ)) (w : List (List ℕ × List ℕ)) → AnswersTo (Some files) words t w → AsksReplay words names' edits' file' → IsReplayFile names' edits' name → There files name
@@ -196,6 +203,7 @@ module _ (files : Files) (name : List ℕ) where
     told-replay names' edits' file' _ (entitled names held asked tells) asks named = absurd (no-other words (codes "rights") (codes "replay") asked.rows asks.rows refl asked.enters asks.enters)
     told-replay names' edits' file' _ (migrated old out asked tells) asks named = absurd (no-other words (codes "migrate") (codes "replay") asked.rows asks.rows refl asked.enters asks.enters)
     told-replay names' edits' file' _ (checked names asked tells) asks named = absurd (no-other words (codes "check") (codes "replay") asked.rows asks.rows refl asked.enters asks.enters)
+    told-replay names' edits' file' _ (factored names asked tells) asks named = absurd (no-other words (codes "factors") (codes "replay") asked.rows asks.rows refl asked.enters asks.enters)
     told-replay names' edits' file' _ (made buses seed asked makes) asks named = absurd (no-other words (codes "make") (codes "replay") asked.rows asks.rows refl asked.enters asks.enters)
 
     told-verify : (names' : MarketNames) (edits' : Option (List ℕ)) (certificate' : List ℕ) (w : List (List ℕ × List ℕ)) → AnswersTo (Some files) words t w → AsksVerify words names' edits' certificate' → IsVerifyFile names' edits' certificate' name → There files name
@@ -207,6 +215,7 @@ module _ (files : Files) (name : List ℕ) where
     told-verify names' edits' certificate' _ (entitled names held asked tells) asks named = absurd (no-other words (codes "rights") (codes "verify") asked.rows asks.rows refl asked.enters asks.enters)
     told-verify names' edits' certificate' _ (migrated old out asked tells) asks named = absurd (no-other words (codes "migrate") (codes "verify") asked.rows asks.rows refl asked.enters asks.enters)
     told-verify names' edits' certificate' _ (checked names asked tells) asks named = absurd (no-other words (codes "check") (codes "verify") asked.rows asks.rows refl asked.enters asks.enters)
+    told-verify names' edits' certificate' _ (factored names asked tells) asks named = absurd (no-other words (codes "factors") (codes "verify") asked.rows asks.rows refl asked.enters asks.enters)
     told-verify names' edits' certificate' _ (made buses seed asked makes) asks named = absurd (no-other words (codes "make") (codes "verify") asked.rows asks.rows refl asked.enters asks.enters)
 
     told-check : (names' : CheckNames) (w : List (List ℕ × List ℕ)) → AnswersTo (Some files) words t w → AsksCheck words names' → IsCheckFile names' name → There files name
@@ -217,6 +226,7 @@ module _ (files : Files) (name : List ℕ) where
     told-check names' _ (verified names edits certificate asked tells) asks named = absurd (no-other words (codes "verify") (codes "check") asked.rows asks.rows refl asked.enters asks.enters)
     told-check names' _ (entitled names held asked tells) asks named = absurd (no-other words (codes "rights") (codes "check") asked.rows asks.rows refl asked.enters asks.enters)
     told-check names' _ (migrated old out asked tells) asks named = absurd (no-other words (codes "migrate") (codes "check") asked.rows asks.rows refl asked.enters asks.enters)
+    told-check names' _ (factored names asked tells) asks named = absurd (no-other words (codes "factors") (codes "check") asked.rows asks.rows refl asked.enters asks.enters)
     told-check names' _ (checked names asked tells) asks named = check-there names tells.stands (subst (λ n. IsCheckFile n name) (sym (checks-once words names names' asked asks)) named)
     told-check names' _ (made buses seed asked makes) asks named = absurd (no-other words (codes "make") (codes "check") asked.rows asks.rows refl asked.enters asks.enters)
 
@@ -229,6 +239,7 @@ module _ (files : Files) (name : List ℕ) where
     told-rights names' rights' _ (entitled names held asked tells) asks named = let same = rights-once words names names' held rights' asked asks in rights-there names held tells.stands (subst₂ (λ n r. IsRightsFile n r name) (sym same.0) (sym same.1) named)
     told-rights names' rights' _ (migrated old out asked tells) asks named = absurd (no-other words (codes "migrate") (codes "rights") asked.rows asks.rows refl asked.enters asks.enters)
     told-rights names' rights' _ (checked names asked tells) asks named = absurd (no-other words (codes "check") (codes "rights") asked.rows asks.rows refl asked.enters asks.enters)
+    told-rights names' rights' _ (factored names asked tells) asks named = absurd (no-other words (codes "factors") (codes "rights") asked.rows asks.rows refl asked.enters asks.enters)
     told-rights names' rights' _ (made buses seed asked makes) asks named = absurd (no-other words (codes "make") (codes "rights") asked.rows asks.rows refl asked.enters asks.enters)
 
     told-migrate : (certificate' out' : List ℕ) (w : List (List ℕ × List ℕ)) → AnswersTo (Some files) words t w → AsksMigrate words certificate' out' → name ≡ certificate' → There files name
@@ -240,7 +251,20 @@ module _ (files : Files) (name : List ℕ) where
     told-migrate certificate' out' _ (entitled names held asked tells) asks named = absurd (no-other words (codes "rights") (codes "migrate") asked.rows asks.rows refl asked.enters asks.enters)
     told-migrate certificate' out' _ (migrated old out asked tells) asks named = here-as old tells.stands.certificate (named ∙ sym (migrates-once words old certificate' out out' asked asks).0) tells.stands.certificate_is
     told-migrate certificate' out' _ (checked names asked tells) asks named = absurd (no-other words (codes "check") (codes "migrate") asked.rows asks.rows refl asked.enters asks.enters)
+    told-migrate certificate' out' _ (factored names asked tells) asks named = absurd (no-other words (codes "factors") (codes "migrate") asked.rows asks.rows refl asked.enters asks.enters)
     told-migrate certificate' out' _ (made buses seed asked makes) asks named = absurd (no-other words (codes "make") (codes "migrate") asked.rows asks.rows refl asked.enters asks.enters)
+
+    told-factors : (names' : FactorNames) (w : List (List ℕ × List ℕ)) → AnswersTo (Some files) words t w → AsksFactors words names' → IsFactorFile names' name → There files name
+    told-factors names' _ (refused nothing usage) asks named = absurd (not-refused words _ asks.rows nothing asks.enters)
+    told-factors names' _ (pooled case offers asked tells) asks named = absurd (no-other words (codes "pool") (codes "factors") asked.rows asks.rows refl asked.enters asks.enters)
+    told-factors names' _ (cleared names file asked tells) asks named = absurd (no-other words (codes "clear") (codes "factors") asked.rows asks.rows refl asked.enters asks.enters)
+    told-factors names' _ (replayed names edits file asked tells) asks named = absurd (no-other words (codes "replay") (codes "factors") asked.rows asks.rows refl asked.enters asks.enters)
+    told-factors names' _ (verified names edits certificate asked tells) asks named = absurd (no-other words (codes "verify") (codes "factors") asked.rows asks.rows refl asked.enters asks.enters)
+    told-factors names' _ (entitled names held asked tells) asks named = absurd (no-other words (codes "rights") (codes "factors") asked.rows asks.rows refl asked.enters asks.enters)
+    told-factors names' _ (migrated old out asked tells) asks named = absurd (no-other words (codes "migrate") (codes "factors") asked.rows asks.rows refl asked.enters asks.enters)
+    told-factors names' _ (checked names asked tells) asks named = absurd (no-other words (codes "check") (codes "factors") asked.rows asks.rows refl asked.enters asks.enters)
+    told-factors names' _ (factored names asked tells) asks named = factors-there names tells.stands (subst (λ n. IsFactorFile n name) (sym (factors-once words names names' asked asks)) named)
+    told-factors names' _ (made buses seed asked makes) asks named = absurd (no-other words (codes "make") (codes "factors") asked.rows asks.rows refl asked.enters asks.enters)
 
     named-there : (w : List (List ℕ × List ℕ)) → AnswersTo (Some files) words t w → NamesFile words name → There files name
     named-there w a (inl (case, offers, asks, named)) = told-pool case offers w a asks named
@@ -249,7 +273,8 @@ module _ (files : Files) (name : List ℕ) where
     named-there w a (inr (inr (inr (inl (names, edits, certificate, asks, named))))) = told-verify names edits certificate w a asks named
     named-there w a (inr (inr (inr (inr (inl (names, asks, named)))))) = told-check names w a asks named
     named-there w a (inr (inr (inr (inr (inr (inl (names, held, asks, named))))))) = told-rights names held w a asks named
-    named-there w a (inr (inr (inr (inr (inr (inr (old, out, asks, named))))))) = told-migrate old out w a asks named
+    named-there w a (inr (inr (inr (inr (inr (inr (inl (old, out, asks, named)))))))) = told-migrate old out w a asks named
+    named-there w a (inr (inr (inr (inr (inr (inr (inr (names, asks, named)))))))) = told-factors names w a asks named
 
 pub law_of_missing : LawOfMissing
 law_of_missing words before after s files name runs are named missing = elim (silent-or s) [

@@ -1,5 +1,5 @@
 -- The laws of every run.
-use Rattle.std.specs.Prelude.{◌≡◌, ◌≢◌, ◌⊎◌, ℕ, Bool, true, false, if◌then◌else◌, List, [], ◌∷◌, ◌++◌, Option, Some, None, Ok, Err, Result, codes, length, map, nat_lt, option_and_then, option_map, unwrap_or}
+use Rattle.std.specs.Prelude.{◌≡◌, ◌≢◌, ◌⊎◌, ℕ, Bool, true, false, if◌then◌else◌, List, [], ◌∷◌, ◌++◌, Option, Some, None, Ok, Err, Result, codes, is_some, length, map, nat_lt, option_and_then, option_map, unwrap_or}
 use Rattle.std.proofs.Common.{inl, inr, refl, sym, subst, ap, ◌∙◌}
 use Rattle.fraction_theory.specs.Fraction.{Fraction, ◌+ℚ◌}
 use Rattle.fraction_theory.specs.Sums.{sum_by}
@@ -24,6 +24,8 @@ use Rattle.market_system.proofs.Completeness.{law_of_completeness, law_of_the_nu
 use Rattle.market_data.specs.declared.scales.FactorPlaces.{FactorPlaces}
 use Rattle.net_case.specs.declared.live_parts.PostRating.{PostRating}
 use Rattle.case_maker.specs.Rings.{ring_of}
+use Rattle.factor_maker.specs.declared.stops.MakeStop.{MakeStop}
+use Rattle.factor_maker.specs.declared.stops.MakeStop.TheVariants as make_stop
 use Rattle.record_reading.specs.Steps.{or_as}
 use Rattle.cert_format.specs.Certificates.{RowsAreDistinct, cert_of_outcome}
 use Rattle.cert_format.specs.Grammar.{cert_read}
@@ -41,6 +43,8 @@ use Rattle.report_text.specs.Reports.{range_text}
 use Rattle.report_text.proofs.OutcomeReading.{outcome_fits, reports_apart}
 use Rattle.replay_text.proofs.ReplayReading.{replay_fits, replays_read_apart}
 use Rattle.refusal_text.specs.Refusals.{refusal_line}
+use Rattle.refusal_text.specs.declared.refusals.FactorFault.{FactorFault}
+use Rattle.refusal_text.specs.declared.refusals.FactorFault.TheVariants as factor_fault
 use Rattle.refusal_text.specs.declared.refusals.Input.TheVariants as input
 use Rattle.refusal_text.specs.declared.refusals.Refusal.{Refusal}
 use Rattle.refusal_text.specs.declared.refusals.Refusal.TheVariants as refusal
@@ -48,7 +52,8 @@ use Rattle.market_inputs.specs.Files.{most_file, sized}
 use Rattle.market_inputs.specs.Replaying.{certificate_in}
 use Rattle.market_inputs.specs.Steps.{Is, Onward, Then}
 use Rattle.market_inputs.specs.declared.checking.Inputs.{Inputs}
-use Rattle.command_words.specs.Words.{AsksClear, AsksMigrate, AsksReplay, MarketNames, NamesToWrite}
+use Rattle.market_inputs.specs.declared.making.FactorInputs.{FactorInputs}
+use Rattle.command_words.specs.Words.{AsksClear, AsksFactors, AsksMigrate, AsksReplay, FactorNames, MarketNames, NamesToWrite}
 use Rattle.command_words.proofs.WordsLemmas.{clears-once, replays-once}
 use Rattle.command_answers.specs.Clearing.{ArePassedWithin, TellsClear, most_size, status_of}
 use Rattle.residual_text.specs.ResidualLines.{residuals_text}
@@ -62,21 +67,23 @@ use Rattle.command_answers.specs.Migrating.{TellsMigration}
 use Rattle.command_answers.specs.Replaying.{TellsReplay, last_clear}
 use Rattle.command_answers.specs.Rights.{TellsFit, TellsOutcome, TellsRights, fitted}
 use Rattle.command_answers.specs.Rights as answers
-use Rattle.command_answers.specs.Tellings.{ComesTo, Telling, Tells, certified, refusal_of, uncertified}
+use Rattle.command_answers.specs.Tellings.{ComesTo, Telling, Tells, certified, refusal_of, tabled, uncertified}
 use Rattle.command_answers.specs.declared.told.Outputs.{Outputs}
+use Rattle.command_answers.specs.Factors.{MakesFactors}
+use Rattle.command_answers.specs.Factors as making_factors
 use Rattle.command_answers.specs.Verdicts.{verdict_line}
 use Rattle.command_answers.specs.Verifying.{TellsVerdict, VerifiesTo, judged, passed, verdict_status}
 use Rattle.command_answers.specs.declared.status.Status.{Status}
 use Rattle.command_answers.specs.declared.status.Status.TheVariants as status
-use Rattle.sced.specs.Asked.{AsksSteps, AsksVerdict, as_clear, as_pool}
-use Rattle.sced.specs.Headline.{HasCertificate, IsAsked, HasGreatestWelfare, IsFirstFault, IsMade, IsPriced, IsReplayed, IsReported, IsVerdict, LawOfAsked, LawOfCertificate, LawOfCheck, LawOfCleared, LawOfComplete, LawOfFaults, LawOfInfeasible, LawOfLastCertificate, LawOfMake, LawOfOutside, LawOfRange, LawOfReplay, LawOfRoundTrip, LawOfVerify, RefusesEdit, cleared_ring, for_check, for_clear, for_holders, for_migration, for_nothing, for_rights, for_ring, for_steps, for_verdict, no, passes, range_ring, to_check, to_clear, to_migrate, to_replay, to_verify, with_fault, yes}
+use Rattle.sced.specs.Asked.{AsksForFactors, AsksSteps, AsksVerdict, as_clear, as_pool}
+use Rattle.sced.specs.Headline.{HasCertificate, IsAsked, HasGreatestWelfare, IsFirstFault, IsMade, IsPriced, IsReplayed, IsReported, IsVerdict, LawOfAsked, LawOfCertificate, LawOfCheck, LawOfCleared, LawOfComplete, LawOfFaults, LawOfInfeasible, LawOfLastCertificate, LawOfMake, LawOfOutside, LawOfRange, LawOfReplay, LawOfRoundTrip, LawOfVerify, RefusesEdit, RefusesFactors, cleared_ring, for_check, for_clear, for_factors, for_holders, for_migration, for_nothing, for_rights, for_ring, for_steps, for_tables, for_verdict, no, passes, range_ring, to_check, to_clear, to_migrate, to_replay, to_verify, with_fault, yes}
 use Rattle.sced.specs.Runs.{Keeps, Outside}
 use Rattle.sced.specs.Runs as ending
-use Rattle.sced.specs.Told.{Answers, AnswersTo, checked, cleared, entitled, made, migrated, named_bytes, named_outputs, pooled, refused, replayed, verified}
-use Rattle.command_files.specs.Standing.{AreCheckFiles, AreClearFiles, ArePoolFiles, AreReplayFiles, AreRightsFiles, AreVerifyFiles, IsMigratedFile}
+use Rattle.sced.specs.Told.{Answers, AnswersTo, checked, cleared, entitled, factored, made, migrated, named_bytes, named_outputs, pooled, refused, replayed, verified}
+use Rattle.command_files.specs.Standing.{AreCheckFiles, AreClearFiles, AreFactorFiles, ArePoolFiles, AreReplayFiles, AreRightsFiles, AreVerifyFiles, IsMigratedFile, TellsFactorsOf}
 use Rattle.command_answers.specs.Laws.{Certifies, CertifiesLast, IsYesOrRange}
 use Rattle.command_answers.proofs.RoundTripLemmas.{law_of_the_replay, law_of_the_round_trip, law_of_yes}
-use Rattle.sced.proofs.AskedLemmas.{check-told, clear-told, make-told, migrate-told, no-other, not-refused, replay-told, rights-told, verify-told}
+use Rattle.sced.proofs.AskedLemmas.{check-told, clear-told, factors-told, make-told, migrate-told, no-other, not-refused, replay-told, rights-told, verify-told}
 use Rattle.sced.proofs.FailureLemmas.{silent-or}
 use Rattle.sced.proofs.RunLemmas.{IsPrinted, cleared-at, edit-at, printed, refused-at, refused-status, reported}
 
@@ -201,6 +208,9 @@ asked-told words files s t _ ends (migrated old out asked tells) =
 asked-told words files s t _ ends (checked names asked tells) =
     asked-of words files s t (AreCheckFiles files names) TellsCheck (λ inputs stands. for_check s inputs (record { names = names; asks = asked; stand = stands }))
     (λ r stands. to_check (record { names = names; asks = asked; stand = stands })) tells
+asked-told words files s t _ ends (factored names asked tells) =
+    asked-of words files s t (AreFactorFiles files names) (TellsFactorsOf names) (λ inputs stands. for_tables s inputs (record { names = names; asks = asked; stand = stands }))
+    (λ r stands. for_factors (record { names = names; asks = asked; stand = stands })) tells
 asked-told words files s t _ ends (made buses seed asked makes) = for_ring s buses seed asked
 
 pub law_of_asked : LawOfAsked
@@ -279,6 +289,7 @@ clear-written files words t _ names file asks (verified names' edits certificate
 clear-written files words t _ names file asks (entitled names' held asked told) = absurd (no-other words (codes "rights") (codes "clear") asked.rows asks.rows refl asked.enters asks.enters)
 clear-written files words t _ names file asks (migrated old out asked told) = absurd (no-other words (codes "migrate") (codes "clear") asked.rows asks.rows refl asked.enters asks.enters)
 clear-written files words t _ names file asks (checked names' asked told) = absurd (no-other words (codes "check") (codes "clear") asked.rows asks.rows refl asked.enters asks.enters)
+clear-written files words t _ names file asks (factored names' asked told) = absurd (no-other words (codes "factors") (codes "clear") asked.rows asks.rows refl asked.enters asks.enters)
 clear-written files words t _ names file asks (made buses seed asked told) = absurd (no-other words (codes "make") (codes "clear") asked.rows asks.rows refl asked.enters asks.enters)
 
 has-certificate : (places : FactorPlaces) (listed : Bool) (o : Outcome Fraction) → (status_of o ≡ status.Done) ⊎ (status_of o ≡ status.Infeasible) → (bytes : List ℕ) × (certificate_of places listed o ≡ Some bytes)
@@ -298,7 +309,7 @@ abbrev HasText : Option (List ℕ) → Option (List ℕ) → Option (List ℕ) �
 HasText (Some text) had has = has ≡ Some text
 HasText None had has = has ≡ had
 
-kept-one : (files later : Files) (file bytes : List ℕ) → Keeps ⊥ ((file, bytes) ∷ []) (Some files) (Some later) → later file ≡ Some bytes
+pub kept-one : (files later : Files) (file bytes : List ℕ) → Keeps ⊥ ((file, bytes) ∷ []) (Some files) (Some later) → later file ≡ Some bytes
 kept-one files later file bytes (inl (never, wrote)) = absurd never
 kept-one files later file bytes (inr (Some between, wrote, (fine, same))) = same file ∙ wrote.done (λ never. never)
 kept-one files later file bytes (inr (None, wrote, (fine, same))) = elim wrote [ ]
@@ -360,6 +371,7 @@ replay-written files words t _ names edits file asks (verified names' edits' cer
 replay-written files words t _ names edits file asks (entitled names' held asked told) = absurd (no-other words (codes "rights") (codes "replay") asked.rows asks.rows refl asked.enters asks.enters)
 replay-written files words t _ names edits file asks (migrated old out asked told) = absurd (no-other words (codes "migrate") (codes "replay") asked.rows asks.rows refl asked.enters asks.enters)
 replay-written files words t _ names edits file asks (checked names' asked told) = absurd (no-other words (codes "check") (codes "replay") asked.rows asks.rows refl asked.enters asks.enters)
+replay-written files words t _ names edits file asks (factored names' asked told) = absurd (no-other words (codes "factors") (codes "replay") asked.rows asks.rows refl asked.enters asks.enters)
 replay-written files words t _ names edits file asks (made buses seed asked told) = absurd (no-other words (codes "make") (codes "replay") asked.rows asks.rows refl asked.enters asks.enters)
 
 -- the text of the certificate of an outcome that there may be
@@ -411,20 +423,24 @@ law_of_check words files text s inputs prints asks =
     check-of inputs p.telling text s p.text_is p.status_is (check-told files words p.telling p.written (Ok inputs) p.answers asks)
 
 -- ---- faults
--- nothing is written where there is no certificate
-no-outputs : (file : Option (List ℕ)) (o : Outputs (List ℕ)) → o.certificate ≡ None → named_outputs (certified file) o ≡ []
-no-outputs (Some name) o none = ap (λ c. named_bytes (Some name) c []) none
-no-outputs None o none = refl
+-- nothing is written where there are no outputs
+no-bytes : (file : Option (List ℕ)) (others : List (List ℕ × List ℕ)) → named_bytes file None others ≡ others
+no-bytes (Some name) others = refl
+no-bytes None others = refl
 
-none-written : (files : Files) (words : List (List ℕ)) (t : Telling) (w : List (List ℕ × List ℕ)) → t.outputs.certificate ≡ None → AnswersTo (Some files) words t w → w ≡ []
+pub no-outputs : (names o : Outputs (List ℕ)) → o ≡ certified None → named_outputs names o ≡ []
+no-outputs names o none = ap (named_outputs names) none ∙ no-bytes names.ptdf _ ∙ no-bytes names.lodf _ ∙ no-bytes names.certificate []
+
+none-written : (files : Files) (words : List (List ℕ)) (t : Telling) (w : List (List ℕ × List ℕ)) → t.outputs ≡ certified None → AnswersTo (Some files) words t w → w ≡ []
 none-written files words t _ none (refused nothing usage) = refl
 none-written files words t _ none (pooled case offers asked tells) = refl
-none-written files words t _ none (cleared names file asked tells) = no-outputs file t.outputs none
-none-written files words t _ none (replayed names edits file asked tells) = no-outputs file t.outputs none
+none-written files words t _ none (cleared names file asked tells) = no-outputs (certified file) t.outputs none
+none-written files words t _ none (replayed names edits file asked tells) = no-outputs (certified file) t.outputs none
 none-written files words t _ none (verified names edits certificate asked tells) = refl
 none-written files words t _ none (entitled names held asked tells) = refl
-none-written files words t _ none (migrated old out asked tells) = no-outputs (Some out) t.outputs none
+none-written files words t _ none (migrated old out asked tells) = no-outputs (certified (Some out)) t.outputs none
 none-written files words t _ none (checked names asked tells) = refl
+none-written files words t _ none (factored names asked tells) = no-outputs (tabled names.ptdf_out names.lodf_out) t.outputs none
 none-written files words t _ none (made buses seed asked makes) = refl
 
 module _ (words : List (List ℕ)) (files : Files) (text : List ℕ) (s : Status) (after : Option Files) (p : IsPrinted words files after text s) where
@@ -435,7 +451,7 @@ module _ (words : List (List ℕ)) (files : Files) (text : List ℕ) (s : Status
   refusal-alone : (r : Refusal) → p.telling ≡ refusal_of r → (s ≡ status.Refused) × (text ≡ refusal_line r) × SameFiles (Some files) after
   refusal-alone r is =
       let here = refusal-put r is in
-      (here.0, here.1, kept-none p.written after (none-written files words p.telling p.written (ap (λ (t : Telling). t.outputs.certificate) is) p.answers) p.kept)
+      (here.0, here.1, kept-none p.written after (none-written files words p.telling p.written (ap (λ (t : Telling). t.outputs) is) p.answers) p.kept)
     where
       kept-none : (w : List (List ℕ × List ℕ)) (now : Option Files) → w ≡ [] → Keeps ⊥ w (Some files) now → SameFiles (Some files) now
       kept-none w now is kept = (subst (λ x. Keeps ⊥ x (Some files) now) is kept).1
@@ -446,10 +462,11 @@ module _ (words : List (List ℕ)) (files : Files) (text : List ℕ) (s : Status
   fault-told r (to_verify asks) = refusal-alone r (verify-told files words p.telling p.written (Err r) p.answers asks)
   fault-told r (for_rights asks) = refusal-alone r (rights-told files words p.telling p.written (Err r) p.answers asks)
   fault-told r (to_migrate asks) = refusal-alone r (migrate-told files words p.telling p.written (Err r) p.answers asks)
+  fault-told r (for_factors asks) = refusal-alone r (factors-told files words p.telling p.written (Err r) p.answers asks)
   fault-told r (to_check asks) = refusal-alone r (check-told files words p.telling p.written (Err r) p.answers asks)
 
   abbrev Why : Type 0
-  Why = ((r : Refusal) × IsFirstFault words files r × (text ≡ refusal_line r)) ⊎ RefusesEdit words files
+  Why = ((r : Refusal) × IsFirstFault words files r × (text ≡ refusal_line r)) ⊎ RefusesEdit words files ⊎ RefusesFactors words files text
 
   -- what is told of files with a fault is told of one
   by-fault : {A : Type 0} (stand : Result A Refusal → Type 0) (right : A → Telling → Type 0) → ((r : Refusal) → stand (Err r) → IsFirstFault words files r) → ((x : A) → stand (Ok x) → right x p.telling → Why)
@@ -473,7 +490,7 @@ module _ (words : List (List ℕ)) (files : Files) (text : List ℕ) (s : Status
     of-steps r asks (market, replays) =
         let here = refused-status replays.outcomes (sym replays.status_is ∙ bad) in
         let edit = refused-at most_size r.market [] replays.taken r.steps replays.outcomes here.0 here.1 replays.right here.2 in
-        inr (record { market = r.market; steps = r.steps; asks = asks; place = here.0; edit = edit.0; stands = edit.1; fault = here.1; refused = edit.2 })
+        inr (inl (record { market = r.market; steps = r.steps; asks = asks; place = here.0; edit = edit.0; stands = edit.1; fault = here.1; refused = edit.2 }))
 
     of-verdict : (v : MarketCertificate) → TellsVerdict v p.telling → Why
     of-verdict v (market, judged is) = verdict-status (first_reason v.market v.certificate) (sym (ap (λ (t : Telling). t.status) is) ∙ bad)
@@ -509,6 +526,22 @@ module _ (words : List (List ℕ)) (files : Files) (text : List ℕ) (s : Status
         check-status true wrong = cc wrong
         check-status false wrong = cc wrong
 
+    of-factors : (inputs : FactorInputs) (asks : AsksForFactors files words (Ok inputs)) → TellsFactorsOf asks.names inputs p.telling → Why
+    of-factors inputs asks (fit, makes) = by makes
+      where
+        line : (fault : FactorFault) → p.telling ≡ refusal_of (refusal.Factors fault) → text ≡ refusal_line (refusal.Factors fault)
+        line fault is = (refusal-put (refusal.Factors fault) is).1
+
+        none : (why : MakeStop Fraction) → making_factors.IsFactorsStop most_size inputs (is_some asks.names.lodf_out) asks.names.places why → making_factors.TellsStop most_size why p.telling → Why
+        none (make_stop.TooMany count) stops is = inr (inr (record { inputs = inputs; asks = asks; fault = factor_fault.TooMany count; why = stops; told = line (factor_fault.TooMany count) is }))
+        none (make_stop.NotPositive branch) stops is = inr (inr (record { inputs = inputs; asks = asks; fault = factor_fault.NotPositive branch; why = stops; told = line (factor_fault.NotPositive branch) is }))
+        none (make_stop.Passed q) stops (within, is) = let wrong : status.Range ≡ status.Refused = sym (ap (λ (t : Telling). t.status) is) ∙ bad in cc wrong
+        none make_stop.Memory stops never = absurd never
+
+        by : MakesFactors most_size inputs (is_some asks.names.lodf_out) asks.names.places p.telling → Why
+        by (making_factors.made tables are is) = let wrong : status.Done ≡ status.Refused = sym (ap (λ (t : Telling). t.status) is) ∙ bad in cc wrong
+        by (making_factors.stopped why stops tells) = none why stops tells
+
     of-ring : (buses seed : ℕ) → MakesTo most_size buses seed p.telling → Why
     of-ring buses seed (making.cleared a market right is) = let wrong : status.Done ≡ status.Refused = sym (ap (λ (t : Telling). t.status) is) ∙ bad in cc wrong
     of-ring buses seed (making.passed q pair within is) = let wrong : status.Range ≡ status.Refused = sym (ap (λ (t : Telling). t.status) is) ∙ bad in cc wrong
@@ -528,6 +561,8 @@ module _ (words : List (List ℕ)) (files : Files) (text : List ℕ) (s : Status
     why-refused _ (migrated old out asked tells) =
         by-fault (IsMigratedFile files old) TellsMigration (λ r stands. to_migrate (record { certificate = old; out = out; asks = asked; stand = stands })) (λ c stands right. of-migration c right) tells
     why-refused _ (checked names asked tells) = by-fault (AreCheckFiles files names) TellsCheck (λ r stands. to_check (record { names = names; asks = asked; stand = stands })) (λ inputs stands right. of-check inputs right) tells
+    why-refused _ (factored names asked tells) =
+        by-fault (AreFactorFiles files names) (TellsFactorsOf names) (λ r stands. for_factors (record { names = names; asks = asked; stand = stands })) (λ inputs stands right. of-factors inputs (record { names = names; asks = asked; stand = stands }) right) tells
     why-refused _ (made buses seed asked makes) = of-ring buses seed makes
 
 pub law_of_faults : LawOfFaults
@@ -558,25 +593,28 @@ law_of_make law_of_reserve words files text s buses seed prints asks =
 
 -- ---- outside
 -- each file that is written is one of these
-abbrev AllNamed : (List ℕ → Type 0) → List (List ℕ × List ℕ) → Type 0
+abbrev pub AllNamed : (List ℕ → Type 0) → List (List ℕ × List ℕ) → Type 0
 AllNamed P [] = Unit {0}
 AllNamed P ((name, bytes) ∷ rest) = P name × AllNamed P rest
 
-bytes-named : (P : List ℕ → Type 0) (file certificate : Option (List ℕ)) → ((name : List ℕ) → file ≡ Some name → P name) → AllNamed P (named_bytes file certificate [])
-bytes-named P (Some name) (Some bytes) named = (named name refl, tt)
-bytes-named P (Some name) None named = tt
-bytes-named P None bytes named = tt
+pub bytes-named : (P : List ℕ → Type 0) (file bytes : Option (List ℕ)) (others : List (List ℕ × List ℕ)) → ((name : List ℕ) → file ≡ Some name → P name) → AllNamed P others → AllNamed P (named_bytes file bytes others)
+bytes-named P (Some name) (Some bytes) others named rest = (named name refl, rest)
+bytes-named P (Some name) None others named rest = rest
+bytes-named P None bytes others named rest = rest
 
 -- what is written is named for it
 written-named : (files : Option Files) (words : List (List ℕ)) (t : Telling) (w : List (List ℕ × List ℕ)) → AnswersTo files words t w → AllNamed (NamesToWrite words) w
 written-named files words t _ (refused nothing usage) = tt
 written-named files words t _ (pooled case offers asked told) = tt
-written-named files words t _ (cleared names file asked told) = bytes-named (NamesToWrite words) file t.outputs.certificate (λ name is. inl (names, subst (AsksClear words names) is asked))
-written-named files words t _ (replayed names edits file asked told) = bytes-named (NamesToWrite words) file t.outputs.certificate (λ name is. inr (inl (names, edits, subst (AsksReplay words names edits) is asked)))
+written-named files words t _ (cleared names file asked told) = bytes-named (NamesToWrite words) file t.outputs.certificate [] (λ name is. inl (names, subst (AsksClear words names) is asked)) tt
+written-named files words t _ (replayed names edits file asked told) = bytes-named (NamesToWrite words) file t.outputs.certificate [] (λ name is. inr (inl (names, edits, subst (AsksReplay words names edits) is asked))) tt
 written-named files words t _ (verified names edits certificate asked told) = tt
 written-named files words t _ (entitled names held asked told) = tt
-written-named files words t _ (migrated old out asked told) = bytes-named (NamesToWrite words) (Some out) t.outputs.certificate (λ name is. inr (inr (old, subst (λ o. AsksMigrate words old (unwrap_or o out)) is asked)))
+written-named files words t _ (migrated old out asked told) = bytes-named (NamesToWrite words) (Some out) t.outputs.certificate [] (λ name is. inr (inr (inl (old, subst (λ o. AsksMigrate words old (unwrap_or o out)) is asked)))) tt
 written-named files words t _ (checked names asked told) = tt
+written-named files words t _ (factored names asked told) =
+    bytes-named (NamesToWrite words) (Some names.ptdf_out) t.outputs.ptdf _ (λ name is. inr (inr (inr (names, asked, inl (sym (ap (λ o. unwrap_or o names.ptdf_out) is))))))
+    (bytes-named (NamesToWrite words) names.lodf_out t.outputs.lodf [] (λ name is. inr (inr (inr (names, asked, inr is)))) tt)
 written-named files words t _ (made buses seed asked told) = tt
 
 -- a file that is none of those that are written has what it had
@@ -584,7 +622,7 @@ module _ (P : List ℕ → Type 0) (n : List ℕ) (free : ¬ (P n)) (failed : Ty
   apart : (name : List ℕ) → P name → n ≢ name
   apart name is same = free (subst P (sym same) is)
 
-  kept-at : (w : List (List ℕ × List ℕ)) (f h : Files) → AllNamed P w → Keeps failed w (Some f) (Some h) → h n ≡ f n
+  pub kept-at : (w : List (List ℕ × List ℕ)) (f h : Files) → AllNamed P w → Keeps failed w (Some f) (Some h) → h n ≡ f n
   kept-at [] f h named (fine, same) = same n
   kept-at ((name, bytes) ∷ rest) f h named (inl (bad, wrote)) = wrote.others n (apart name named.0)
   kept-at ((name, bytes) ∷ rest) f h named (inr (Some g, wrote, kept)) = kept-at rest g h named.1 kept ∙ wrote.others n (apart name named.0)

@@ -1,6 +1,8 @@
 pub mod AnswerLemmas
 pub mod AskedLemmas
 pub mod EndLemmas
+mod FactorCheckLemmas
+mod FactorLemmas
 mod FailureLemmas
 mod HeadlineLemmas
 mod PromiseLemmas

@@ -39,7 +39,7 @@ use Rattle.command_answers.specs.Rights.{TellsFit, TellsOutcome, fitted, passed}
 use Rattle.command_answers.specs.Tellings.{Telling, certified}
 use Rattle.command_answers.specs.declared.status.Status.{Status}
 use Rattle.sced.specs.Headline.{IsEntitled, LawOfMigrate, LawOfRights, clear_passes, nothing_qualifies, rights_break, rights_fit, rights_pass}
-use Rattle.sced.specs.Told.{AnswersTo, checked, cleared, entitled, made, migrated, named_bytes, named_outputs, pooled, refused, replayed, verified}
+use Rattle.sced.specs.Told.{AnswersTo, checked, cleared, entitled, factored, made, migrated, named_bytes, named_outputs, pooled, refused, replayed, verified}
 use Rattle.sced.proofs.AskedLemmas.{migrate-told, no-other, not-refused, rights-told}
 use Rattle.sced.proofs.HeadlineLemmas.{kept-as, read-in, right-best}
 use Rattle.sced.proofs.RunLemmas.{printed}
@@ -105,6 +105,7 @@ migrate-written files words t _ old out asks (replayed names edits file asked to
 migrate-written files words t _ old out asks (verified names edits certificate asked told) = absurd (no-other words (codes "verify") (codes "migrate") asked.rows asks.rows refl asked.enters asks.enters)
 migrate-written files words t _ old out asks (entitled names held asked told) = absurd (no-other words (codes "rights") (codes "migrate") asked.rows asks.rows refl asked.enters asks.enters)
 migrate-written files words t _ old out asks (checked names asked told) = absurd (no-other words (codes "check") (codes "migrate") asked.rows asks.rows refl asked.enters asks.enters)
+migrate-written files words t _ old out asks (factored names asked told) = absurd (no-other words (codes "factors") (codes "migrate") asked.rows asks.rows refl asked.enters asks.enters)
 migrate-written files words t _ old out asks (made buses seed asked told) = absurd (no-other words (codes "make") (codes "migrate") asked.rows asks.rows refl asked.enters asks.enters)
 
 pub law_of_migrate : LawOfMigrate

@@ -6,11 +6,12 @@ use Rattle.market_model.specs.declared.participants.Parts.{Parts}
 use Rattle.market_model.specs.declared.participants.TransmissionRight.{TransmissionRight}
 use Rattle.cert_format.specs.declared.certificate.Cert.{Cert}
 use Rattle.edit_table.specs.declared.Step.{Step}
-use Rattle.command_words.specs.Words.{AsksCheck, AsksClear, AsksMigrate, AsksPool, AsksReplay, AsksRights, AsksVerify, CheckNames, MarketNames}
+use Rattle.command_words.specs.Words.{AsksCheck, AsksClear, AsksFactors, AsksMigrate, AsksPool, AsksReplay, AsksRights, AsksVerify, CheckNames, FactorNames, MarketNames}
 use Rattle.market_inputs.specs.declared.checking.Inputs.{Inputs}
+use Rattle.market_inputs.specs.declared.making.FactorInputs.{FactorInputs}
 use Rattle.refusal_text.specs.declared.refusals.Refusal.{Refusal}
 use Rattle.command_answers.specs.Inputs.{MarketCertificate, MarketRights, MarketSteps}
-use Rattle.command_files.specs.Standing.{AreCheckFiles, AreClearFiles, ArePoolFiles, AreReplayFiles, AreRightsFiles, AreVerifyFiles, IsMigratedFile}
+use Rattle.command_files.specs.Standing.{AreCheckFiles, AreClearFiles, AreFactorFiles, ArePoolFiles, AreReplayFiles, AreRightsFiles, AreVerifyFiles, IsMigratedFile}
 
 -- to clear a market, as if no branch had a limit or within the limits
 pub data AsksToClear (files : Files) (words : List (List ℕ)) (told : Result Parts Refusal) : Type 0 where
@@ -52,6 +53,12 @@ pub record AsksToCheck (files : Files) (words : List (List ℕ)) (told : Result 
   pub names : CheckNames
   pub asks : AsksCheck words names
   pub stand : AreCheckFiles files names told
+
+-- tables of the shift factors and the outage factors of a network
+pub record AsksForFactors (files : Files) (words : List (List ℕ)) (told : Result FactorInputs Refusal) : Type 0 where
+  pub names : FactorNames
+  pub asks : AsksFactors words names
+  pub stand : AreFactorFiles files names told
 
 -- this market, these steps of this market, this certificate of this market, and these rights to what its limits earn
 abbrev pub AsksMarket : Files → List (List ℕ) → Parts → Type 0

@@ -1,7 +1,7 @@
 -- The promise of a run in the words of its users: laws of every run of the program, each from what `run` promises alone.
 -- Wood and Wollenberg, Power Generation, Operation and Control: dispatch within limits of the base and after outages. Schweppe and others, Spot
 -- Pricing of Electricity: prices and the surplus. Farkas: why no dispatch qualifies.
-use Rattle.std.specs.Prelude.{◌≡◌, ◌⊎◌, ℕ, List, [], ◌++◌, length, map, take, Contains, codes, slice_get, Option, Some, None, option_and_then, Ok, Err}
+use Rattle.std.specs.Prelude.{◌≡◌, ◌≢◌, ◌⊎◌, ℕ, List, [], ◌++◌, length, map, take, Contains, codes, is_some, slice_get, Option, Some, None, option_and_then, Ok, Err}
 use Rattle.std.specs.Option.{option_map_or}
 use Rattle.fraction_theory.specs.Fraction.{Fraction, ◌*ℚ◌}
 use Rattle.fraction_theory.specs.Order.{◌≤ℚ◌}
@@ -28,6 +28,14 @@ use Rattle.market_model.specs.Settlement.{rent}
 use Rattle.market_model.specs.Valued.{total_at}
 use Rattle.market_system.specs.Outcomes.{IsDecided}
 use Rattle.market_system.specs.WorkingPairs.{AllNumbersFit, IsRangeOf, NoPairPasses}
+use Rattle.net_case.specs.Networks.{LiveNetwork}
+use Rattle.market_data.specs.declared.scales.FactorPlaces.{FactorPlaces}
+use Rattle.factor_tables.specs.declared.by_pair.Column.TheVariants as column
+use Rattle.factor_tables.specs.Factors.{FactorRecords}
+use Rattle.factor_tables.specs.Tables.{loss_of, shift_of}
+use Rattle.factor_text.specs.Texts.{table_text}
+use Rattle.factor_maker.specs.declared.stops.MakeStop.{MakeStop}
+use Rattle.factor_maker.specs.declared.stops.MakeStop.TheVariants as make_stop
 use Rattle.case_maker.specs.Rings.{ring_of}
 use Rattle.cert_format.specs.Certificates.{cert_of_outcome}
 use Rattle.cert_format.specs.Grammar.{cert_read}
@@ -50,13 +58,19 @@ use Rattle.rights_test.specs.Fits.{IsFit}
 use Rattle.rights_test.specs.Paid.{payments_of}
 use Rattle.rights_test.specs.declared.right_parts.Fit.TheVariants.{Fits, Breaks}
 use Rattle.refusal_text.specs.Refusals.{refusal_line}
+use Rattle.refusal_text.specs.declared.refusals.FactorFault.{FactorFault}
+use Rattle.refusal_text.specs.declared.refusals.FactorFault.TheVariants as factor_fault
 use Rattle.refusal_text.specs.declared.refusals.Refusal.{Refusal}
-use Rattle.command_words.specs.Words.{AsksClear, AsksMake, AsksNothing, AsksReplay, MarketNames, NamesFile, NamesToWrite}
+use Rattle.refusal_text.specs.declared.refusals.Refusal.TheVariants as refusal
+use Rattle.command_words.specs.Words.{AsksClear, AsksMake, AsksNothing, AsksReplay, CheckNames, FactorNames, IsFactorFile, IsFactorTable, MarketNames, NamesFile, NamesToWrite}
 use Rattle.residual_text.specs.ResidualLines.{residuals_text}
 use Rattle.market_inputs.specs.declared.checking.Inputs.{Inputs}
+use Rattle.market_inputs.specs.declared.making.FactorInputs.{FactorInputs}
 use Rattle.command_answers.specs.Checking.{AreResiduals, check_status_of}
 use Rattle.command_answers.specs.declared.checking.Residuals.{Residuals}
 use Rattle.command_answers.specs.Clearing.{ArePassedWithin, most_size, status_of}
+use Rattle.command_answers.specs.Factors.{AreTables, IsFactorsStop, tables_text}
+use Rattle.command_answers.specs.declared.factors.MadeTables.{MadeTables}
 use Rattle.command_answers.specs.Inputs.{MarketSteps}
 use Rattle.command_answers.specs.Laws.{Certifies, CertifiesLast}
 use Rattle.command_answers.specs.Making.{ring_line, summary}
@@ -67,7 +81,7 @@ use Rattle.cert_verify.specs.Stops.{IsCertificateStop}
 use Rattle.command_answers.specs.Verdicts.{verdict_line}
 use Rattle.command_answers.specs.declared.status.Status.{Status}
 use Rattle.command_answers.specs.declared.status.Status.TheVariants as status
-use Rattle.sced.specs.Asked.{AsksForRights, AsksHeld, AsksMarket, AsksSteps, AsksVerdict, AsksToCheck, AsksToClear, AsksToMigrate, AsksToReplay, AsksToVerify}
+use Rattle.sced.specs.Asked.{AsksForFactors, AsksForRights, AsksHeld, AsksMarket, AsksSteps, AsksVerdict, AsksToCheck, AsksToClear, AsksToMigrate, AsksToReplay, AsksToVerify}
 use Rattle.sced.specs.Promise.{Runs}
 use Rattle.command_files.specs.OnlyReads.{IsSilent}
 use Rattle.sced.specs.Runs.{CountsReads, CountsWrites, IsTold, LeavesAll, Outside}
@@ -94,6 +108,7 @@ pub data IsFirstFault (words : List (List ℕ)) (files : Files) (r : Refusal) : 
   for_rights : AsksForRights files words (Err r) → IsFirstFault words files r
   to_check : AsksToCheck files words (Err r) → IsFirstFault words files r
   to_migrate : AsksToMigrate files words (Err r) → IsFirstFault words files r
+  for_factors : AsksForFactors files words (Err r) → IsFirstFault words files r
 
 -- a run that puts a text was asked for one of these: for nothing that the program does, for work on what the files stand for, for a ring, or on
 -- files with a first fault
@@ -105,6 +120,7 @@ pub data IsAsked (words : List (List ℕ)) (files : Files) : Status → Type 0 w
   for_holders : (s : Status) (m : Parts) (rights : List TransmissionRight) → AsksHeld files words m rights → IsAsked words files s
   for_migration : (s : Status) (c : Cert Fraction) → AsksToMigrate files words (Ok c) → IsAsked words files s
   for_check : (s : Status) (inputs : Inputs) → AsksToCheck files words (Ok inputs) → IsAsked words files s
+  for_tables : (s : Status) (inputs : FactorInputs) → AsksForFactors files words (Ok inputs) → IsAsked words files s
   for_ring : (s : Status) (buses seed : ℕ) → AsksMake words buses seed → IsAsked words files s
   with_fault : (s : Status) (r : Refusal) → IsFirstFault words files r → IsAsked words files s
 
@@ -301,6 +317,56 @@ LawOfCheck = (words : List (List ℕ)) (files : Files) (text : List ℕ) (s : St
     → Prints words files text s → AsksToCheck files words (Ok inputs)
     → (r : Residuals) × AreResiduals inputs r × (s ≡ check_status_of r) × (text ≡ residuals_text r.bus r.round r.outage_bus r.outage_round)
 
+-- ---- factors
+-- The file that is named for the outage factors has the text of their table, and so has that for the shift factors, where it is another one: of
+-- one name, the outage factors stand there at the end. Each text is read, over the network, as the table.
+pub record HaveTables (names : FactorNames) (network : LiveNetwork) (tables : MadeTables) (files : Files) : Type 0 where
+  pub shift : names.lodf_out ≢ Some names.ptdf_out → files names.ptdf_out ≡ Some (table_text column.Bus tables.shift.entries)
+  pub loss : (file : List ℕ) (loss : FactorRecords) → names.lodf_out ≡ Some file → tables.loss ≡ Some loss → files file ≡ Some (table_text column.Outage loss.entries)
+  pub shift_read : shift_of network (table_text column.Bus tables.shift.entries) names.places ≡ Ok tables.shift
+  pub loss_read : (loss : FactorRecords) → tables.loss ≡ Some loss → loss_of network (table_text column.Outage loss.entries) names.places ≡ Ok loss
+
+-- why no tables are made where that is refused
+abbrev pub stop_refused : FactorFault → MakeStop Fraction
+stop_refused (factor_fault.TooMany count) = make_stop.TooMany count
+stop_refused (factor_fault.NotPositive branch) = make_stop.NotPositive branch
+
+-- Each factor of the tables is the nearest to the exact one at the places that were asked for, and it is told how many there are; outage factors
+-- are there where a file is named for them. Or no file is touched: there are too many factors or a reactance is not above 0, or two numbers of
+-- the exact factors, each within 127 bits, pass these together.
+pub data IsFactored (names : FactorNames) (inputs : FactorInputs) (files later : Files) (text : List ℕ) : Status → Type 0 where
+  made_tables : (tables : MadeTables) → AreTables inputs (is_some names.lodf_out) names.places tables → text ≡ tables_text tables
+      → HaveTables names inputs.network tables later → IsFactored names inputs files later text status.Done
+  refused_tables : (fault : FactorFault) → IsFactorsStop most_size inputs (is_some names.lodf_out) names.places (stop_refused fault)
+      → text ≡ refusal_line (refusal.Factors fault) → SameFiles (Some files) (Some later) → IsFactored names inputs files later text status.Refused
+  passed_tables : (p : Passed Fraction) → IsFactorsStop most_size inputs (is_some names.lodf_out) names.places (make_stop.Passed p) → ArePassedWithin most_size p
+      → text ≡ range_text p → SameFiles (Some files) (Some later) → IsFactored names inputs files later text status.Range
+
+abbrev pub LawOfFactors : Type 0
+LawOfFactors = (words : List (List ℕ)) (files later : Files) (text : List ℕ) (s : Status) (inputs : FactorInputs)
+    → (run : Prints words files text s) → run.after.files ≡ Some later → (asks : AsksForFactors files words (Ok inputs))
+    → IsFactored asks.names inputs files later text s
+
+-- ---- check of factors
+-- each table has a file of its own, which is none that was read
+pub record AreFilesApart (names : FactorNames) : Type 0 where
+  pub outputs : names.lodf_out ≢ Some names.ptdf_out
+  pub inputs : (file : List ℕ) → IsFactorFile names file → ¬ (IsFactorTable names file)
+
+-- the files of a check of the tables, whose factors have the places that were asked for
+abbrev pub check_of : FactorNames → CheckNames
+check_of names = record {
+  tables = record { case = names.case; ptdf = names.ptdf_out; lodf = names.lodf_out; contingencies = names.contingencies };
+  places = names.places;
+}
+
+-- of both tables that were made, with the case and the outages of which they were, `check` says that all is within what rounding explains
+abbrev pub LawOfFactorCheck : Type 0
+LawOfFactorCheck = (words again : List (List ℕ)) (files later : Files) (text answer : List ℕ) (s t : Status) (inputs : FactorInputs) (checked : Inputs)
+    (file : List ℕ) → (run : Prints words files text s) → run.after.files ≡ Some later → (asks : AsksForFactors files words (Ok inputs)) → s ≡ status.Done
+    → asks.names.lodf_out ≡ Some file → AreFilesApart asks.names → Prints again later answer t → (check : AsksToCheck later again (Ok checked))
+    → check.names ≡ check_of asks.names → t ≡ status.Done
+
 -- ---- faults
 -- an edit among the steps that the words ask for is refused
 pub record RefusesEdit (words : List (List ℕ)) (files : Files) : Type 0 where
@@ -313,11 +379,20 @@ pub record RefusesEdit (words : List (List ℕ)) (files : Files) : Type 0 where
   pub fault : EditFault
   pub refused : judge (edited_by market (take place steps)) edit ≡ Some fault
 
--- a fault of the files is told wherever there is one, and no file is touched then; and its status comes only there or for an edit that is refused
+-- tables of factors are asked for, and none are made for this reason, which is told
+pub record RefusesFactors (words : List (List ℕ)) (files : Files) (text : List ℕ) : Type 0 where
+  pub inputs : FactorInputs
+  pub asks : AsksForFactors files words (Ok inputs)
+  pub fault : FactorFault
+  pub why : IsFactorsStop most_size inputs (is_some asks.names.lodf_out) asks.names.places (stop_refused fault)
+  pub told : text ≡ refusal_line (refusal.Factors fault)
+
+-- a fault of the files is told wherever there is one, and no file is touched then; and its status comes only there, for an edit that is refused,
+-- or where tables of factors are asked for that are too large or have a reactance not above 0
 abbrev pub LawOfFaults : Type 0
 LawOfFaults = (words : List (List ℕ)) (files : Files) (text : List ℕ) (s : Status) → (run : Prints words files text s)
     → ((r : Refusal) → IsFirstFault words files r → (s ≡ status.Refused) × (text ≡ refusal_line r) × SameFiles (Some files) run.after.files)
-    × (s ≡ status.Refused → ((r : Refusal) × IsFirstFault words files r × (text ≡ refusal_line r)) ⊎ RefusesEdit words files)
+    × (s ≡ status.Refused → ((r : Refusal) × IsFirstFault words files r × (text ≡ refusal_line r)) ⊎ RefusesEdit words files ⊎ RefusesFactors words files text)
 
 -- ---- make
 -- the worth and the surplus of an answer that is best and priced, or two numbers of the ring as above; where no pair passes it is cleared

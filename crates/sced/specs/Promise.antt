@@ -18,6 +18,6 @@ pub record Runs (words : List (List ℕ)) (before after : Outside) (s : Status) 
   pub cut : ¬ (Still before.failed_writes after.failed_writes) → after.taken ≡ before.taken
   -- Where a read failed or memory was refused, no text is put and no file is written.
   pub silent : IsSilent s → LeavesAll before after
-  -- Else a certificate is written where the words name a file for it and there is one, and one text is put, once. They and the status are right for the whole
-  -- bytes of the files that the words name, where the store tells its files.
+  -- Else what there is for the files that the words name for it is written, a certificate or tables of factors, and one text is put, once. They and the status are
+  -- right for the whole bytes of the files that the words name, where the store tells its files.
   pub told : ¬ (IsSilent s) → Answers words before after s

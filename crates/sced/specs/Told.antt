@@ -1,19 +1,19 @@
 -- What is right to tell of the words of a run and of the files that they name.
-use Rattle.std.specs.Prelude.{◌≡◌, ℕ, List, [], ◌∷◌, Option, Some, None}
+use Rattle.std.specs.Prelude.{◌≡◌, ◌⊎◌, ℕ, List, [], ◌∷◌, Option, Some, None}
 use Rattle.outside_store.specs.Files.{Files}
-use Rattle.command_words.specs.Words.{AsksCheck, AsksClear, AsksMake, AsksMigrate, AsksNothing, AsksPool, AsksReplay, AsksRights, AsksVerify, CheckNames, MarketNames}
+use Rattle.command_words.specs.Words.{AsksCheck, AsksClear, AsksFactors, AsksMake, AsksMigrate, AsksNothing, AsksPool, AsksReplay, AsksRights, AsksVerify, CheckNames, FactorNames, MarketNames}
 use Rattle.command_answers.specs.Checking.{TellsCheck}
 use Rattle.command_answers.specs.Clearing.{TellsClear, most_size}
 use Rattle.command_answers.specs.Making.{MakesTo}
 use Rattle.command_answers.specs.Migrating.{TellsMigration}
 use Rattle.command_answers.specs.Replaying.{TellsReplay}
 use Rattle.command_answers.specs.Rights.{TellsRights}
-use Rattle.command_answers.specs.Tellings.{Telling, certified, map_outputs, telling_of}
+use Rattle.command_answers.specs.Tellings.{Telling, certified, map_outputs, tabled, telling_of}
 use Rattle.command_answers.specs.Verifying.{TellsVerdict}
 use Rattle.command_answers.specs.declared.told.Outputs.{Outputs}
 use Rattle.command_answers.specs.declared.status.Status.{Status}
 use Rattle.command_answers.specs.declared.status.Status.TheVariants as status
-use Rattle.command_files.specs.Standing.{AreCheckFiles, AreClearFiles, ArePoolFiles, AreReplayFiles, AreRightsFiles, AreVerifyFiles, IsMigratedFile, OfFiles}
+use Rattle.command_files.specs.Standing.{AreCheckFiles, AreClearFiles, AreFactorFiles, ArePoolFiles, AreReplayFiles, AreRightsFiles, AreVerifyFiles, IsMigratedFile, OfFiles, TellsFactorsOf}
 use Rattle.sced.specs.Runs.{Ends, Outside}
 use Rattle.sced.specs.declared.run.Work.{Work}
 
@@ -24,13 +24,13 @@ named_bytes (Some name) (Some bytes) others = (name, bytes) ∷ others
 named_bytes (Some name) None others = others
 named_bytes None bytes others = others
 
--- the files that are named for outputs, with the bytes that there are for them
+-- the files that are named for outputs, with the bytes that there are for them, in the order in which they are written
 abbrev pub named_outputs : Outputs (List ℕ) → Outputs (List ℕ) → List (List ℕ × List ℕ)
-named_outputs names outputs = named_bytes names.certificate outputs.certificate []
+named_outputs names outputs = named_bytes names.ptdf outputs.ptdf (named_bytes names.lodf outputs.lodf (named_bytes names.certificate outputs.certificate []))
 
 -- a file of this name is named for an output
 abbrev pub IsOutputFile : Outputs (List ℕ) → List ℕ → Type 0
-IsOutputFile names file = names.certificate ≡ Some file
+IsOutputFile names file = (names.ptdf ≡ Some file) ⊎ (names.lodf ≡ Some file) ⊎ (names.certificate ≡ Some file)
 
 -- the files that are named for what is told, and those with the bytes that there are for them
 abbrev pub names_for : Work → Outputs (List ℕ)
@@ -39,8 +39,9 @@ names_for work = map_outputs (λ name. name.now) work.files
 abbrev pub written_by : Work → List (List ℕ × List ℕ)
 written_by work = named_outputs (names_for work) (telling_of work.told).outputs
 
--- The words are refused, or what is told is right for the files that they name. The one file that there is to write is a certificate:
--- that which a clear or a replay has, where the words name a file for it, or one that is written anew.
+-- The words are refused, or what is told is right for the files that they name. The files that there are to write are a certificate: that
+-- which a clear or a replay has, where the words name a file for it, or one that is written anew; or tables of factors that are made, that of
+-- shift factors first.
 pub data AnswersTo (files : Option Files) (words : List (List ℕ)) (t : Telling) : List (List ℕ × List ℕ) → Type 0 where
   refused : AsksNothing words → t.status ≡ status.Usage → AnswersTo files words t []
   pooled : (case offers : List ℕ) → AsksPool words case offers → OfFiles files (λ f. ArePoolFiles f case offers) TellsClear t → AnswersTo files words t []
@@ -54,6 +55,8 @@ pub data AnswersTo (files : Option Files) (words : List (List ℕ)) (t : Telling
   migrated : (certificate out : List ℕ) → AsksMigrate words certificate out → OfFiles files (λ f. IsMigratedFile f certificate) TellsMigration t
       → AnswersTo files words t (named_outputs (certified (Some out)) t.outputs)
   checked : (names : CheckNames) → AsksCheck words names → OfFiles files (λ f. AreCheckFiles f names) TellsCheck t → AnswersTo files words t []
+  factored : (names : FactorNames) → AsksFactors words names → OfFiles files (λ f. AreFactorFiles f names) (TellsFactorsOf names) t
+      → AnswersTo files words t (named_outputs (tabled names.ptdf_out names.lodf_out) t.outputs)
   made : (buses seed : ℕ) → AsksMake words buses seed → MakesTo most_size buses seed t → AnswersTo files words t []
 
 -- what is told is right for the words and for the files that these name, and so is the file that is written

@@ -145,7 +145,17 @@ pub fn answers<R: Abort + AllocGlobal>(
         assert!(rt; sink.bytes().starts_with(want.start.as_bytes()));
         assert!(rt; sink.bytes().ends_with(want.end.as_bytes()));
     }
-    match (store.bytes("out.json"), want.written) {
+    holds(rt, store, "out.json", want.written)
+}
+
+/// Compares what a file of a store has, where it is there.
+pub fn holds<R: Abort + AllocGlobal>(
+    rt: &R,
+    store: &MemoryStore,
+    name: &str,
+    want: Option<&str>,
+) -> Result<(), Fail> {
+    match (store.bytes(name), want) {
         (Some(bytes), Some(text)) => assert_eq!(rt; bytes, text.as_bytes()),
         (told, None) => assert!(rt; told.is_none()),
         (None, Some(_)) => assert!(rt; false),

@@ -1,8 +1,12 @@
 //! What every run of the program means for those who read what it prints: laws that follow from what `run` promises, each the contract of a
 //! function that does nothing.
 
-ghost use Rattle.sced.specs.Headline.{LawOfAnswered, LawOfAsked, LawOfCauses, LawOfCertificate, LawOfCheck, LawOfCleared, LawOfComplete, LawOfCutShort, LawOfFaults, LawOfInfeasible, LawOfLastCertificate, LawOfMake, LawOfMigrate, LawOfMissing, LawOfOutside, LawOfRange, LawOfReplay, LawOfRights, LawOfRoundTrip, LawOfVerify};
+ghost use Rattle.sced.specs.Headline.{LawOfAnswered, LawOfAsked, LawOfCauses, LawOfCertificate, LawOfCheck, LawOfCleared, LawOfComplete, LawOfCutShort, LawOfFactorCheck, LawOfFactors, LawOfFaults, LawOfInfeasible, LawOfLastCertificate, LawOfMake, LawOfMigrate, LawOfMissing, LawOfOutside, LawOfRange, LawOfReplay, LawOfRights, LawOfRoundTrip, LawOfVerify};
 
+use factor_laws::laws::{
+    loss_tables_are_explained, loss_tables_are_read_back, shift_tables_are_explained,
+    shift_tables_are_read_back,
+};
 use market_model::laws::reserve_is_paid_for_the_need;
 use rights_test::laws::payments_are_covered;
 
@@ -84,8 +88,26 @@ pub fn check()
     ensures { LawOfCheck }
 {}
 
+/// Tables of factors that are made have the factors nearest to the exact ones, and the files that are named for them have their texts, which
+/// are read as the same tables; or the reason why none are made is told, and no file is touched.
+pub fn factors()
+    ensures { LawOfFactors }
+{
+    shift_tables_are_read_back();
+    loss_tables_are_read_back();
+}
+
+/// `check` says of both tables that were made, with the case and the outages of which they were, that all is within what rounding explains.
+pub fn factor_check()
+    ensures { LawOfFactorCheck }
+{
+    factors();
+    shift_tables_are_explained();
+    loss_tables_are_explained();
+}
+
 /// The first fault of the files is told exactly where there is one, and no file is touched then; its status comes else only for an edit
-/// that is refused.
+/// that is refused, and for tables of factors that are not made.
 pub fn faults()
     ensures { LawOfFaults }
 {}

@@ -57,6 +57,8 @@ mod check_tests;
 #[cfg(test)]
 mod clear_tests;
 #[cfg(test)]
+mod factor_tests;
+#[cfg(test)]
 mod fixture;
 #[cfg(test)]
 mod reserve_tests;

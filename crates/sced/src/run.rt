@@ -12,8 +12,8 @@ ghost use Rattle.sced.specs.Told.{AnswersTo, IsOutputFile, named_bytes, names_fo
 
 use command_answers::{Outputs, Status, Told, make_told};
 use command_files::{
-    check_files, clear_files, migrate_file, or_memory, pool_files, replay_files, rights_files,
-    verify_files,
+    check_files, clear_files, factors_files, migrate_file, or_memory, pool_files, replay_files,
+    rights_files, verify_files,
 };
 use command_words::{Request, WordsStop, request_of};
 use outside_store::{Failed, Sink, Store};
@@ -50,29 +50,27 @@ fn asked_work<'a, S: Store>(
     ensures named { IfOk result (λ work. (file : List ℕ) → IsOutputFile (names_for work) file → NamesToWrite (map string_bytes words.entry.now) file) }
     ensures reads { OnlyReads S.Store store.old store.new (NamesFile (map string_bytes words.entry.now)) (result ≡ Err Status.ReadFailed) }
 {
-    let none = Outputs { certificate: None };
+    let none = Outputs::certified(None);
     match request_of(alloc, words) {
         Ok(Request::Pool(files)) => with_files(pool_files(alloc, &files, store), none),
         Ok(Request::Clear(files)) => with_files(
             clear_files(alloc, &files.market, store),
-            Outputs {
-                certificate: files.certificate,
-            },
+            Outputs::certified(files.certificate),
         ),
         Ok(Request::Replay(files)) => with_files(
             replay_files(alloc, &files, store),
-            Outputs {
-                certificate: files.certificate,
-            },
+            Outputs::certified(files.certificate),
         ),
         Ok(Request::Verify(files)) => with_files(verify_files(alloc, &files, store), none),
         Ok(Request::Rights(files)) => with_files(rights_files(alloc, &files, store), none),
         Ok(Request::Check(files)) => with_files(check_files(alloc, &files, store), none),
+        Ok(Request::Factors(files)) => with_files(
+            factors_files(alloc, &files, store),
+            Outputs::tabled(files.ptdf_out, files.lodf_out),
+        ),
         Ok(Request::Migrate(files)) => with_files(
             migrate_file(alloc, files.certificate, store),
-            Outputs {
-                certificate: Some(files.out),
-            },
+            Outputs::certified(Some(files.out)),
         ),
         Ok(Request::Make(ring)) => with_files(
             or_memory(make_told(alloc, ring.buses, ring.seed)),
@@ -82,7 +80,7 @@ fn asked_work<'a, S: Store>(
             told: Told {
                 status: Status::Usage,
                 text: text.into_bytes(),
-                outputs: Outputs { certificate: None },
+                outputs: Outputs::certified(None),
             },
             files: none,
         }),
@@ -113,12 +111,13 @@ fn keep<S: Store>(store: &mut S, work: &Work<'_>) -> Result<(), Failed>
     ensures reads { Still (S.failed_reads store.old) (S.failed_reads store.new) }
 {
     let outputs = &work.told.outputs;
+    keep_output(store, work.files.ptdf, outputs.ptdf.as_deref())?;
+    keep_output(store, work.files.lodf, outputs.lodf.as_deref())?;
     keep_output(
         store,
         work.files.certificate,
         outputs.certificate.as_deref(),
-    )?;
-    Ok(())
+    )
 }
 
 /// Puts the text.

@@ -16,5 +16,6 @@ returns-clause-app c =
     let verify = c.in_ok-command-4.ensures.app ∙ ap₂ joined replay c.in_ok-verify_command.ensures.app in
     let rights = c.in_ok-command-5.ensures.app ∙ ap₂ joined verify c.in_ok-rights_command.ensures.app in
     let check = c.in_ok-command-6.ensures.app ∙ ap₂ joined rights c.in_ok-check_command.ensures.app in
-    let migrate = c.in_ok-command-7.ensures.app ∙ ap₂ joined check c.in_ok-migrate_command.ensures.app in
-    IfOk-weaker c.with_subcommand-8.result _ _ (λ r h. h ∙ ap₂ joined migrate c.in_ok-make_command.ensures.app) c.with_subcommand-8.ensures.app
+    let factors = c.in_ok-command-7.ensures.app ∙ ap₂ joined check c.in_ok-factors_command.ensures.app in
+    let migrate = c.in_ok-command-8.ensures.app ∙ ap₂ joined factors c.in_ok-migrate_command.ensures.app in
+    IfOk-weaker c.with_subcommand-9.result _ _ (λ r h. h ∙ ap₂ joined migrate c.in_ok-make_command.ensures.app) c.with_subcommand-9.ensures.app

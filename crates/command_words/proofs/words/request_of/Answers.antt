@@ -3,7 +3,7 @@ use Rattle.clap.specs.Words.{App, app_of, found_of, rows_of}
 use Rattle.clap.specs.declared.builder.command.Command.TheViews.{out-Command}
 use Rattle.clap.proofs.CallerLemmas.{subcommand_required}
 use Rattle.command_words.specs.Words.{Spells, place_words, rating_words, size_words}
-use Rattle.command_words.proofs.EnteredLemmas.{check-given, clear-given, migrate-given, pool-given, replay-given, rights-given, verify-given}
+use Rattle.command_words.proofs.EnteredLemmas.{check-given, clear-given, factors-given, migrate-given, pool-given, replay-given, rights-given, verify-given}
 use Rattle.command_words.proofs.RingLemmas.{asks-ring}
 use Rattle.command_words.proofs.WordsLemmas.{entered-make, enters-named, enters_by, is_free, is_needed, is_plain, refused_by}
 use Rattle.command_words.proofs.words.request_of.Goals as goal
@@ -141,6 +141,23 @@ returns-in-check-clause-asked c =
       names_are = c.check_files.ensures;
     }
 
+pub returns-in-factors-clause-asked : goal.returns-in-factors-clause-asked
+returns-in-factors-clause-asked c =
+    let sizes : Spells c.as_slice.result size_words = search rules in
+    let ratings : Spells c.as_slice-2.result rating_words = search rules in
+    let places : Spells c.as_slice-3.result place_words = search rules in
+    let same = (c.in-Ok.ensures).app in
+    let enters = enters_by c.try_get_matches_from.result c.in-Ok-try_get_matches_from.matches c.in-Ok-try_get_matches_from.matches (app_of c.in-Ok.command) c.as_slice.result c.as_slice-2.result c.as_slice-3.result _
+    c.unwrap.result.0.now (rows_of (found_of c.unwrap.result.1.now)) c.in-Ok-try_get_matches_from.is same sizes ratings places
+    (c.try_get_matches_from.ensures.kinds (is_free _ _ _ _ same)) ((c.in-Ok-try_get_matches_from.ensures).matches (is_plain _ _ _ _ same)).1
+    (rw c.unwrap.ensures at c.subcommand.ensures.name) (rw c.unwrap.ensures at c.subcommand.ensures.rows) in
+    record {
+      rows = rows_of (found_of c.unwrap.result.1.now);
+      enters = enters-named _ _ _ _ c.in-factors.is enters;
+      given = factors-given _ _ (enters-named _ _ _ _ c.in-factors.is enters);
+      names_are = c.factor_files.ensures;
+    }
+
 pub returns-in-Ok-try_get_matches_from-clause-asked : goal.returns-in-Ok-try_get_matches_from-clause-asked
 returns-in-Ok-try_get_matches_from-clause-asked c =
     let sizes : Spells c.as_slice.result size_words = search rules in
@@ -158,6 +175,7 @@ returns-in-Ok-try_get_matches_from-clause-asked c =
       verify = c.in_default.not-verify;
       rights = c.in_default.not-rights;
       check = c.in_default.not-check;
+      factors = c.in_default.not-factors;
       migrate = c.in_default.not-migrate;
     }) in
     asks-ring _ _ c.ring_words.result.buses c.ring_words.result.seed (enters-named _ _ _ _ name enters) c.ring_words.ensures.buses c.ring_words.ensures.seed c.ring_words.ensures.ring

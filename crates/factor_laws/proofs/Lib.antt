@@ -1,0 +1,4 @@
+mod Lists
+mod Names
+pub mod ShiftTables
+pub mod LossTables

@@ -1,0 +1,203 @@
+-- A check of tables that were made says that all is within what rounding explains.
+use Rattle.std.specs.Prelude.{◌≡◌, ◌≢◌, ℕ, ℤ, Bool, true, false, nat_lt, if◌then◌else◌, List, [], length, is_some, Option, Some, None, Result, Ok, Err}
+use Rattle.std.proofs.Common.{inl, inr, refl, sym, subst, ap, ◌∙◌}
+use Rattle.outside_store.specs.Files.{Files}
+use Rattle.record_reading.specs.Records.{Record}
+use Rattle.record_reading.specs.Steps.{and_then, or_as}
+use Rattle.factor_laws.specs.Laws.{LossTablesAreExplained, ShiftTablesAreExplained}
+use Rattle.factor_tables.specs.declared.by_pair.Column.TheVariants as column
+use Rattle.factor_tables.specs.declared.table_fault.TableFault.{TableFault}
+use Rattle.factor_tables.specs.Factors.{FactorRecords}
+use Rattle.factor_tables.specs.OutageNumbers.{outage_header}
+use Rattle.factor_tables.specs.Tables.{loss_header, loss_of, shift_of}
+use Rattle.factor_text.specs.Texts.{table_text}
+use Rattle.market_data.specs.declared.scales.FactorPlaces.{FactorPlaces}
+use Rattle.market_inputs.specs.Checking.{AreInputs}
+use Rattle.market_inputs.specs.Files.{most_file, sized, sized_grid}
+use Rattle.market_inputs.specs.Making.{AreFactorInputs, AreFitToMake}
+use Rattle.market_inputs.specs.Steps.{Is, Onward, Then}
+use Rattle.market_inputs.specs.Tables.{loss_in, shift_in}
+use Rattle.market_inputs.specs.declared.checking.Inputs.{Inputs}
+use Rattle.market_inputs.specs.declared.making.FactorInputs.{FactorInputs}
+use Rattle.market_inputs.specs.declared.tables.Tables.{Tables}
+use Rattle.market_inputs.proofs.OnceLemmas.{factor-inputs-once}
+use Rattle.market_tables.specs.Tables.{GridTexts}
+use Rattle.net_case.specs.Networks.{LiveNetwork}
+use Rattle.refusal_text.specs.declared.refusals.Input.TheVariants as input
+use Rattle.refusal_text.specs.declared.refusals.Refusal.{Refusal}
+use Rattle.refusal_text.specs.declared.refusals.Refusal.TheVariants as refusal
+use Rattle.command_words.specs.Words.{FactorNames, IsFactorFile, IsFactorTable}
+use Rattle.command_answers.specs.Checking.{AreResiduals, are_within, check_status_of}
+use Rattle.command_answers.specs.Factors.{AreTables, IsLossIfWanted, IsLossTable}
+use Rattle.command_answers.specs.Tellings.{Telling, tabled}
+use Rattle.command_answers.specs.declared.checking.Residuals.{Residuals}
+use Rattle.command_answers.specs.declared.factors.MadeTables.{MadeTables}
+use Rattle.command_answers.specs.declared.status.Status.{Status}
+use Rattle.command_answers.specs.declared.status.Status.TheVariants as status
+use Rattle.command_files.specs.Reading.{IsTable, Source, header_alone, in_file, source_of}
+use Rattle.command_files.specs.Standing.{AreCheckFiles, AreFactorFiles}
+use Rattle.sced.specs.Headline.{AreFilesApart, HaveTables, IsFactored, LawOfFactorCheck, LawOfFactors, check_of, made_tables, passed_tables, refused_tables}
+use Rattle.sced.specs.Runs.{Keeps}
+use Rattle.sced.specs.Told.{named_outputs}
+use Rattle.sced.proofs.AskedLemmas.{check-told, factors-told, same-bytes, same-table}
+use Rattle.sced.proofs.FactorLemmas.{factors-kept, loss-made, sound}
+use Rattle.sced.proofs.HeadlineLemmas.{AllNamed, bytes-named, kept-at}
+use Rattle.sced.proofs.RunLemmas.{printed}
+
+-- ---- what a check works on
+-- a step whose next one came to something made something
+then-made : {A B : Type 0} (P : Result A Refusal → Type 0) (Q : A → Result B Refusal → Type 0) (b : B) → Then P Q (Ok b) → (a : A) × P (Ok a) × Q a (Ok b)
+then-made {A} {B} P Q b h = by h.made h.is h.rest
+  where
+    by : (made : Result A Refusal) → P made → Onward made Q (Ok b) → (a : A) × P (Ok a) × Q a (Ok b)
+    by (Ok a) is rest = (a, is, rest)
+    by (Err r) is rest = cc rest
+
+abbrev no_name : Option (List ℕ)
+no_name = None
+
+abbrev made_or : {A : Type 0} → A → Result A Refusal → A
+made_or a (Ok b) = b
+made_or a (Err r) = a
+
+one-made : {A : Type 0} (a b : A) → ◌≡◌ {A = Result A Refusal} (Ok a) (Ok b) → a ≡ b
+one-made a b same = ap (made_or a) same
+
+-- of it, what tables may be made of
+abbrev makings : Inputs → FactorInputs
+makings checked = record { network = checked.network; reactances = checked.reactances; outages = checked.outages }
+
+record AreCheckParts (places : FactorPlaces) (texts : GridTexts) (checked : Inputs) : Type 0 where
+  work : AreFactorInputs texts.case (Some texts.contingencies) (Ok (makings checked))
+  shift : shift_in places checked.network (sized (refusal.TooLong input.Ptdf) texts.ptdf) ≡ Ok checked.shift
+  loss : loss_in places checked.network (sized (refusal.TooLong input.Lodf) texts.lodf) ≡ Ok checked.loss
+
+check-parts : (places : FactorPlaces) (texts : GridTexts) (checked : Inputs) → AreInputs places (sized_grid texts) (Ok checked) → AreCheckParts places texts checked
+check-parts places texts checked h =
+    let (matrices, m, in-case) = then-made _ _ checked h in
+    let (network, n, in-network) = then-made _ _ checked in-case in
+    let (reactances, x, in-reactances) = then-made _ _ checked in-network in
+    let (tables, ts, all) = then-made _ _ checked in-reactances in
+    let (shift, sh, in-shift) = then-made _ _ tables ts in
+    let (loss, l, in-loss) = then-made _ _ tables in-shift in
+    let (outages, o, of-tables) = then-made _ _ tables in-loss in
+    let parts = one-made _ tables of-tables in
+    let whole = one-made _ checked all in
+    subst (AreCheckParts places texts) whole (subst (λ (t : Tables). AreCheckParts places texts (record { network = network; reactances = reactances; shift = t.shift; loss = t.loss; outages = t.outages })) parts (record {
+      work = record { made = Ok matrices; is = m; rest = record { made = Ok network; is = n; rest = record { made = Ok reactances; is = x; rest = record { made = Ok outages; is = o; rest = refl } } } };
+      shift = sh;
+      loss = l;
+    }))
+
+-- a table that was read of bytes
+seen-table : (which : TableFault → Refusal) (read : Result FactorRecords TableFault) (table : FactorRecords) → or_as which read ≡ Ok table → read ≡ Ok table
+seen-table which (Ok x) table is = cc is
+seen-table which (Err e) table is = cc is
+
+sized-table : (long : Bool) (too_long : Refusal) (which : TableFault → Refusal) (read : List ℕ → Result FactorRecords TableFault) (bytes : List ℕ) (table : FactorRecords)
+    → and_then (if long then Err too_long else Ok bytes) (λ text. or_as which (read text)) ≡ Ok table → read bytes ≡ Ok table
+sized-table true too_long which read bytes table is = cc is
+sized-table false too_long which read bytes table is = seen-table which (read bytes) table is
+
+table-read : (too_long : Refusal) (which : TableFault → Refusal) (read : List ℕ → Result FactorRecords TableFault) (bytes : List ℕ) (table : FactorRecords)
+    → and_then (sized too_long bytes) (λ text. or_as which (read text)) ≡ Ok table → read bytes ≡ Ok table
+unfolding sized
+table-read too_long which read bytes table is = sized-table (nat_lt most_file (length bytes)) too_long which read bytes table is
+
+abbrev records_or : FactorRecords → Result FactorRecords TableFault → FactorRecords
+records_or r (Ok x) = x
+records_or r (Err e) = r
+
+one-table : (a b : FactorRecords) (read : Result FactorRecords TableFault) → read ≡ Ok a → read ≡ Ok b → a ≡ b
+one-table a b read first second = sym (ap (records_or a) first) ∙ ap (records_or a) second
+
+-- ---- files that were read are as they were
+module _ (names : FactorNames) (files later : Files) (t : Telling) (kept : Keeps ⊥ (named_outputs (tabled names.ptdf_out names.lodf_out) t.outputs) (Some files) (Some later)) (apart : AreFilesApart names) where
+  tables-are-named : AllNamed (IsFactorTable names) (named_outputs (tabled names.ptdf_out names.lodf_out) t.outputs)
+  tables-are-named =
+      bytes-named (IsFactorTable names) (Some names.ptdf_out) t.outputs.ptdf _ (λ name is. inl (let same : names.ptdf_out ≡ name = cc is in sym same))
+      (bytes-named (IsFactorTable names) names.lodf_out t.outputs.lodf [] (λ name is. inr is) tt)
+
+  stays : (file : List ℕ) → IsFactorFile names file → later file ≡ files file
+  stays file is = kept-at (IsFactorTable names) file (apart.inputs file is) ⊥ (named_outputs (tabled names.ptdf_out names.lodf_out) t.outputs) files later tables-are-named kept
+
+  table-stays : (o : Option (List ℕ)) (header : Record) (text : List ℕ) → ((file : List ℕ) → o ≡ Some file → IsFactorFile names file) → IsTable later (source_of header o) text → IsTable files (source_of header o) text
+  table-stays (Some file) header text read is = sym (stays file (read file refl)) ∙ is
+  table-stays None header text read is = is
+
+-- ---- within rounding
+module _ (shift_explained : ShiftTablesAreExplained) (loss_explained : LossTablesAreExplained) (names : FactorNames) (inputs : FactorInputs) (fit : AreFitToMake inputs) (tables : MadeTables) (loss : FactorRecords)
+    (wanted : Bool) (are : AreTables inputs wanted names.places tables) (is-loss : IsLossTable inputs names.places loss) where
+  explained : (checked : Inputs) (r : Residuals) → makings checked ≡ inputs → checked.shift ≡ tables.shift → checked.loss ≡ loss → AreResiduals checked r → check_status_of r ≡ status.Done
+  explained checked r same same_shift same_loss residuals =
+      let network = ap (λ (x : FactorInputs). x.network) same in
+      let reactances = ap (λ (x : FactorInputs). x.reactances) same in
+      let outages = ap (λ (x : FactorInputs). x.outages) same in
+      let is-sound = sound inputs fit are.shift.positive in
+      let of-shift = shift_explained inputs.network inputs.reactances names.places tables.shift is-sound are.shift.made in
+      let of-loss = loss_explained inputs.network inputs.reactances inputs.outages names.places loss is-sound fit.outages is-loss.made in
+      let bus = of-shift.0 r.bus (rw (network, same_shift) at residuals.bus) in
+      let round = of-shift.1 r.round (rw (network, reactances, same_shift) at residuals.round) in
+      let outage_bus = of-loss.0 r.outage_bus (rw (network, outages, same_loss) at residuals.outage_bus) in
+      let outage_round = of-loss.1 r.outage_round (rw (network, reactances, outages, same_loss) at residuals.outage_round) in
+      rw (bus, round, outage_bus, outage_round) refl
+
+-- outage factors are there where a file is named for them
+loss-there : (inputs : FactorInputs) (places : FactorPlaces) (file : List ℕ) (o : Option (List ℕ)) (made : Option FactorRecords) → o ≡ Some file → IsLossIfWanted inputs (is_some o) places made
+    → (loss : FactorRecords) × (made ≡ Some loss) × IsLossTable inputs places loss
+loss-there inputs places file (Some f) (Some loss) named is = (loss, refl, is)
+loss-there inputs places file (Some f) None named is = absurd is
+loss-there inputs places file None made named is = let wrong : no_name ≡ Some file = named in cc wrong
+
+module _ (shift_explained : ShiftTablesAreExplained) (loss_explained : LossTablesAreExplained) (names : FactorNames) (inputs : FactorInputs) (checked : Inputs) (files later : Files) (t : Telling)
+    (kept : Keeps ⊥ (named_outputs (tabled names.ptdf_out names.lodf_out) t.outputs) (Some files) (Some later)) (apart : AreFilesApart names) (file : List ℕ) (named : names.lodf_out ≡ Some file)
+    (fit : AreFitToMake inputs) (stand : AreFactorFiles files names (Ok inputs)) (again : AreCheckFiles later (check_of names) (Ok checked)) where
+  same-inputs : makings checked ≡ inputs
+  same-inputs =
+      let case : again.texts.case ≡ stand.case =
+      same-bytes again.texts.case stand.case (files names.case) (sym (stays names files later t kept apart names.case (inl refl)) ∙ again.have.case) stand.case_is in
+      let outages : again.texts.contingencies ≡ stand.outages =
+      same-table files (source_of outage_header names.contingencies) again.texts.contingencies stand.outages
+      (table-stays names files later t kept apart names.contingencies outage_header again.texts.contingencies (λ name is. inr is) again.have.contingencies) stand.outages_are in
+      let work : AreFactorInputs stand.case (Some stand.outages) (Ok (makings checked)) =
+      subst (λ o. AreFactorInputs stand.case (Some o) (Ok (makings checked))) outages
+      (subst (λ c. AreFactorInputs c (Some again.texts.contingencies) (Ok (makings checked))) case (check-parts names.places again.texts checked again.inputs).work) in
+      one-made (makings checked) inputs (factor-inputs-once stand.case (Some stand.outages) (Ok (makings checked)) (Ok inputs) work stand.work)
+
+  same-network : checked.network ≡ inputs.network
+  same-network = ap (λ (x : FactorInputs). x.network) same-inputs
+
+  same-shift : (tables : MadeTables) → HaveTables names inputs.network tables later → checked.shift ≡ tables.shift
+  same-shift tables have =
+      let text : again.texts.ptdf ≡ table_text column.Bus tables.shift.entries = same-bytes again.texts.ptdf (table_text column.Bus tables.shift.entries) (later names.ptdf_out) again.have.ptdf (have.shift apart.outputs) in
+      let read = table-read (refusal.TooLong input.Ptdf) (refusal.Table input.Ptdf) (λ bytes. shift_of checked.network bytes names.places) again.texts.ptdf checked.shift (check-parts names.places again.texts checked again.inputs).shift in
+      let here : shift_of inputs.network (table_text column.Bus tables.shift.entries) names.places ≡ Ok checked.shift =
+      subst (λ bytes. shift_of inputs.network bytes names.places ≡ Ok checked.shift) text (subst (λ n. shift_of n again.texts.ptdf names.places ≡ Ok checked.shift) same-network read) in
+      one-table checked.shift tables.shift (shift_of inputs.network (table_text column.Bus tables.shift.entries) names.places) here have.shift_read
+
+  same-loss : (tables : MadeTables) (loss : FactorRecords) → tables.loss ≡ Some loss → HaveTables names inputs.network tables later → checked.loss ≡ loss
+  same-loss tables loss there have =
+      let was : IsTable later (in_file file) again.texts.lodf = subst (λ o. IsTable later (source_of loss_header o) again.texts.lodf) named again.have.lodf in
+      let text : again.texts.lodf ≡ table_text column.Outage loss.entries = same-bytes again.texts.lodf (table_text column.Outage loss.entries) (later file) was (have.loss file loss named there) in
+      let read = table-read (refusal.TooLong input.Lodf) (refusal.Table input.Lodf) (λ bytes. loss_of checked.network bytes names.places) again.texts.lodf checked.loss (check-parts names.places again.texts checked again.inputs).loss in
+      let here : loss_of inputs.network (table_text column.Outage loss.entries) names.places ≡ Ok checked.loss =
+      subst (λ bytes. loss_of inputs.network bytes names.places ≡ Ok checked.loss) text (subst (λ n. loss_of n again.texts.lodf names.places ≡ Ok checked.loss) same-network read) in
+      one-table checked.loss loss (loss_of inputs.network (table_text column.Outage loss.entries) names.places) here (have.loss_read loss there)
+
+  within : (r : Residuals) → AreResiduals checked r → (text : List ℕ) (s : Status) → s ≡ status.Done → IsFactored names inputs files later text s → check_status_of r ≡ status.Done
+  within r residuals text _ done (made_tables tables are is have) =
+      let (loss, there, is-loss) = loss-there inputs names.places file names.lodf_out tables.loss named are.loss in
+      explained shift_explained loss_explained names inputs fit tables loss (is_some names.lodf_out) are is-loss checked r same-inputs (same-shift tables have) (same-loss tables loss there have) residuals
+  within r residuals text _ done (refused_tables fault stops is same) = let wrong : status.Refused ≡ status.Done = done in cc wrong
+  within r residuals text _ done (passed_tables p stops sides is same) = let wrong : status.Range ≡ status.Done = done in cc wrong
+
+pub law_of_factor_check : LawOfFactors → ShiftTablesAreExplained → LossTablesAreExplained → LawOfFactorCheck
+law_of_factor_check law_of_factors shift_explained loss_explained words again files later text answer s t inputs checked file run now asks done named apart verify check same_names =
+    let p = printed words files text s run in
+    let q = printed again later answer t verify in
+    let tells = factors-told files words p.telling p.written (Ok inputs) p.answers asks in
+    let stand : AreCheckFiles later (check_of asks.names) (Ok checked) = subst (λ n. AreCheckFiles later n (Ok checked)) same_names check.stand in
+    let (r, residuals, is) = check-told later again q.telling q.written (Ok checked) q.answers check in
+    sym q.status_is ∙ ap (λ (x : Telling). x.status) is
+    ∙ within shift_explained loss_explained asks.names inputs checked files later p.telling (factors-kept words files later text s run now asks.names asks.asks) apart file named tells.0 asks.stand stand
+    r residuals text s done (law_of_factors words files later text s inputs run now asks)
