@@ -21,12 +21,12 @@ use Rattle.market_model.specs.declared.limits.Row.{Row}
 use Rattle.market_model.specs.declared.participants.Parts.{Parts}
 use Rattle.market_model.specs.Dispatch.{places, zero, balance, empty, quantity, reserve_quantity, unit_at}
 use Rattle.market_model.specs.Infeasibility.{block_most, block_weight, farkas_bound, farkas_terms, limit_terms, nothing_terms, offer_most, offer_weight, reserve_left_terms}
-use Rattle.market_model.specs.LimitRows.{flow, loses, most_flow, row_id, row_pickup, rows}
+use Rattle.market_model.specs.LimitRows.{factor_terms, flow, loses, most_flow, row_id, row_pickup, rows}
 use Rattle.market_model.specs.Market.{IsMarket}
 use Rattle.market_model.specs.NamedSums.{IsRefusal, IsRefusedIn, IsShareRefusal}
 use Rattle.market_model.specs.Optimality.{bus_price, down_of, named_rows, names_row, net_shadow_price, own_price, own_terms, reserve_worth_terms, room_price, room_price_in, unit_price, up_of, worth_terms}
 use Rattle.market_model.specs.Reserves.{offer_places, offers_reserve, reserve_need, reserve_units, room}
-use Rattle.market_model.specs.SumTables.{balance_from_bus, carried_by_unit, carried_from_bus, carried_on_line, flow_in_balance, limited_line, limited_unit, IsFactorRefusal, IsRefusedAmong, IsRefusedInPrices, OwnPriceSum, energy_of_unit, factor_of_pickup, farkas_bound_of_all, flow_in_limits, limited_row, own_price_of_unit, price_of_unit, reserve_of_unit}
+use Rattle.market_model.specs.SumTables.{balance_from_bus, carried_by_unit, carried_from_bus, carried_on_line, flow_in_balance, limited_line, limited_unit, IsPickupRefusal, IsRefusedAmong, IsRefusedInBusPrices, IsRefusedInPrices, OwnPriceSum, energy_of_unit, factor_at_bus, factor_of_pickup, farkas_bound_of_all, flow_in_limits, limited_row, own_price_of_unit, price_of_bus, price_of_unit, reserve_of_unit}
 use Rattle.settlement.specs.Paying.{ArePricesOf}
 use Rattle.market_model.proofs.FarkasLaw.{total-flat_map}
 use Rattle.market_model.proofs.MorePlaces.{sum_by_more, total-filter_more, total-places_more}
@@ -81,6 +81,11 @@ no_room_price m d u x none_ =
 pub no_room : (m : Parts) (u : ℕ) (x more : Fraction) → offers_reserve m u ≡ false → x ≡ x +ℚ (if offers_reserve m u then more else zero)
 no_room m u x more none_ = sym (+ℚ_nil x) ∙ ap (λ (b : Bool). x +ℚ (if b then more else zero)) (sym none_)
 
+-- what is refused in the prices at buses is refused in prices
+pub bus_prices_refused : (m : Parts) (d : Duals Fraction) (bound : ℕ) (p : Passed Fraction) → IsRefusedInBusPrices m d bound p → IsRefusedInPrices m d bound p
+bus_prices_refused m d bound p (inl (i, lt, terms, sum, why)) = inl (terms, price_of_bus i terms lt sum, why)
+bus_prices_refused m d bound p (inr (r, named, i, lt, why)) = inr (r, named, factor_terms m r i, factor_at_bus i lt, why)
+
 -- own prices at the bus prices of duals
 module _ (m : Parts) (d : Duals Fraction) (price : ℕ → Fraction) (are : ArePricesOf m d price) (market : IsMarket m) where
   terms_same : (u : ℕ) → u < length m.units → own_terms m d price u ≡ own_terms m d (bus_price m d) u
@@ -92,9 +97,9 @@ module _ (m : Parts) (d : Duals Fraction) (price : ℕ → Fraction) (are : AreP
   unfolding unit_price
   own_same u lt = ap total (terms_same u lt)
 
-  pub own_refused : (bound : ℕ) (p : Passed Fraction) → IsRefusedAmong (OwnPriceSum m d price) bound p ⊎ IsFactorRefusal m (named_rows m d) bound p → IsRefusedInPrices m d bound p
+  pub own_refused : (bound : ℕ) (p : Passed Fraction) → IsRefusedAmong (OwnPriceSum m d price) bound p ⊎ IsPickupRefusal m (named_rows m d) bound p → IsRefusedInPrices m d bound p
   own_refused bound p (inl (_, own_price_of_unit u lt, why)) = inl (_, price_of_unit _ (own_price_of_unit u lt), subst (λ (ts : List Term). IsRefusedIn ts bound p) (terms_same u lt) why)
-  own_refused bound p (inr why) = inr why
+  own_refused bound p (inr (r, named, terms, sum, why)) = inr (r, named, terms, factor_of_pickup terms sum, why)
 
 module _ (m : Parts) (d : Duals Fraction) where
   abbrev energy_term : Term

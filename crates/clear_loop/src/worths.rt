@@ -11,7 +11,7 @@ ghost use Rattle.market_model.specs.NamedSums.{IsRefusal, IsShareRefusal};
 ghost use Rattle.market_model.specs.Optimality.{ProperDuals, named_rows, own_price, room_price, room_price_in, unit_price};
 ghost use Rattle.market_model.specs.Reserves.{offers_among, offers_reserve};
 ghost use Rattle.market_model.specs.Stops.{StopsBy};
-ghost use Rattle.market_model.specs.SumTables.{IsFactorRefusal, IsRefusedAmong, IsRefusedInPrices, OwnPriceSum};
+ghost use Rattle.market_model.specs.SumTables.{IsPickupRefusal, IsRefusedAmong, IsRefusedInPrices, OwnPriceSum};
 ghost use Rattle.market_model.specs.Valued.{duals_at, passed_at, room_dual_at, total_at};
 ghost use Rattle.clear_loop.specs.Bounding.{IsBoundRefusal};
 
@@ -77,7 +77,7 @@ fn own_at<N: Exact>(
     requires duals { ProperDuals market.now (duals_at N.value duals.now) }
     requires prices { length prices.now ≡ length market.now.buses }
     ensures own { IfOk result (λ own. map N.value own.items ≡ map (own_price market.now (duals_at N.value duals.now) (total_at N.value prices.now)) (places (length market.now.units))) }
-    ensures cause { let d = duals_at N.value duals.now in IfErr result (StopsBy N.value (λ p. IsRefusedAmong (OwnPriceSum market.now d (total_at N.value prices.now)) N.bound p ⊎ IsFactorRefusal market.now (named_rows market.now d) N.bound p)) }
+    ensures cause { let d = duals_at N.value duals.now in IfErr result (StopsBy N.value (λ p. IsRefusedAmong (OwnPriceSum market.now d (total_at N.value prices.now)) N.bound p ⊎ IsPickupRefusal market.now (named_rows market.now d) N.bound p)) }
 {
     let mut by_unit = zeros(alloc, market.units().len())?;
     own(market, duals, prices, &mut by_unit)?;
