@@ -13,8 +13,9 @@ ghost use Rattle.market_model.specs.Valued.{passed_at};
 
 use crate::causes::lost_unit;
 use crate::factors::{loss_of, pickup_factor, shift_of, with_product};
+use crate::wholes::{flow_by_wholes, put_wholes};
 use exact_fraction::{Exact, Passed};
-use market_data::FACTOR_ONE;
+use market_data::{FACTOR_ONE, MOST_BUSES};
 use market_model::{Cause, Market, Row, datum, output};
 
 /// A sum plus a number times a factor, of shift or outage, in 10^-9. A factor of 0 adds nothing.
@@ -31,7 +32,7 @@ pub(crate) fn with_share<N: Exact>(sum: N, share: i64, number: N) -> Result<N, P
 }
 
 /// The offset of a line, in 10^-9 MW.
-fn offset_of<N: Exact>(market: &Market, line: usize) -> N
+pub(crate) fn offset_of<N: Exact>(market: &Market, line: usize) -> N
     requires { line < length market.now.lines }
     ensures { N.value result ≡ line_offset market.now line }
 {
@@ -64,8 +65,15 @@ pub fn put_line_flows<N: Exact>(
     ensures flows { IfOk result (λ _. map N.value out.new ≡ map (line_flow market.now (put_in (map N.value injections.now))) (places (length market.now.lines))) }
     ensures cause { IfErr result (λ passed. IsRefusedAmong (LineFlowSum market.now (put_in (map N.value injections.now))) N.bound (passed_at N.value passed)) }
 {
+    let _buses = market.buses();
+    let mut room = [None; MOST_BUSES];
+    let wholes = &mut room[..injections.len()];
+    put_wholes(injections, wholes);
     for (line, mw) in out.iter_mut().enumerate() {
-        *mw = line_flow(market, line, injections)?;
+        *mw = match flow_by_wholes(market, line, injections, wholes) {
+            Some(mw) => mw,
+            None => line_flow(market, line, injections)?,
+        };
     }
     Ok(())
 }
