@@ -1,30 +1,11 @@
 //! Checks of tables, with texts worked by hand.
 
+use crate::triangle::TRIANGLE;
 use command_answers::{Status, check_told};
 use market_data::FactorPlaces;
 use market_tables::GridTables;
 use std::process::Abort;
 use std::test::Fail;
-
-/// Three buses that are joined in a triangle.
-const TRIANGLE: &str = "function mpc = t3
-mpc.version = '2';
-mpc.baseMVA = 100;
-mpc.bus = [
-1 3 0 0 0 0 1 1 0 230 1 1.1 0.9;
-2 1 0 0 0 0 1 1 0 230 1 1.1 0.9;
-3 1 60 0 0 0 1 1 0 230 1 1.1 0.9;
-];
-mpc.gen = [
-1 0 0 0 0 1 100 1 100 0;
-2 0 0 0 0 1 100 1 100 0;
-];
-mpc.branch = [
-1 2 0 0.2 0 0 0 0 0 0 1 -360 360;
-1 3 0 0.1 0 0 0 0 0 0 1 -360 360;
-2 3 0 0.1 0 0 0 0 0 0 1 -360 360;
-];
-";
 
 /// Three buses in a line.
 const LINE: &str = "function mpc = l3
