@@ -1,13 +1,12 @@
 -- What whole numbers among injections add to the flow of a line, in parts of 10^-9.
-use Rattle.std.specs.Prelude.{◌≡◌, ◌⊎◌, ℕ, ◌+◌, ◌*◌, ◌<◌, ◌≤◌, ◌^◌, ℤ, pos, ◌+ℤ◌, ◌*ℤ◌, unsigned_abs, FitsSigned, List, [], ◌∷◌, length, Option, Some, None, IfSome, OkIff, Result, Ok, Err, int_div, int_rem, refl}
+use Rattle.std.specs.Prelude.{◌≡◌, ◌⊎◌, ℕ, ◌+◌, ◌*◌, ◌<◌, ◌≤◌, ◌^◌, ℤ, pos, ◌+ℤ◌, ◌*ℤ◌, unsigned_abs, FitsSigned, List, [], ◌∷◌, length, Option, Some, None, IfSome, IfOk, OkIff, Result, Ok, Err, int_div, int_rem, refl}
 use Rattle.std.specs.Int.{w128}
 use Rattle.std.specs.Result.{result_ok}
 use Rattle.std.proofs.Common.{arith, w64, ap, ap₂, sym, inl, inr, subst, ◌∙◌, get_or, set}
 use Rattle.std.proofs.Math.Nat.{lt_of_le_of_lt, mul-le-mul}
-use Rattle.std.specs.Int.Signed.{nat_abs-le}
 use Rattle.std.proofs.lemmas.Bool.{cases_lt}
+use Rattle.std.proofs.lemmas.List.{get_or_past}
 use Rattle.std.proofs.lemmas.Int.{ints, to_z-of_z, fits_signed_from_abs, unsigned_abs-mul, quot_fits, quot_rem_is, rem_below, rem_is}
-use Rattle.std.proofs.lemmas.List.{get_or-set_same, get_or-set_other}
 use Rattle.std.proofs.lemmas.Option.{same_Some}
 use mir.Val.{to_z, of_z}
 use Rattle.fraction_theory.specs.Fraction.{Fraction, over, whole, ◌+ℚ◌, ◌*ℚ◌}
@@ -19,7 +18,6 @@ use Rattle.exact_fraction.specs.declared.Op.TheVariants.{Plus}
 use Rattle.exact_fraction.specs.declared.Passed.{Passed}
 use Rattle.exact_fraction.specs.Passes.{IsExact}
 use Rattle.market_data.specs.Scales.{factor_one, most_buses, most_factor}
-use Rattle.limit_rows.specs.Wholes.{AreWholes}
 
 -- ---- so many parts of 1
 part_of : (n : ℤ) (d : ℕ) → 0 < d → over n d ≡ whole n *ℚ over (pos 1) d
@@ -62,20 +60,12 @@ by_quotient flow parts q r e =
     ∙ ap (λ t. flow +ℚ t *ℚ part) (sym (whole-+ℚ (q *ℤ pos factor_one) r) ∙ ap whole e)
     ∙ ap (λ t. flow +ℚ t) (sym (parts_of parts))
 
--- ---- whole numbers by place, with one more
-pub wholes_more : (number : ℕ → Fraction) (out : List (Option ℤ)) (i : ℕ) (o : Option ℤ) → i < length out → ((k : ℕ) (n : ℤ) → k < i → get_or out k None ≡ Some n → number k ≡ whole n)
-    → IfSome o (λ n. number i ≡ whole n) → (k : ℕ) (n : ℤ) → k < i + 1 → get_or (set out i o) k None ≡ Some n → number k ≡ whole n
-wholes_more number out i o inside before here k n h found_at = by (cases_lt k i)
-  where
-    found : (p : Option ℤ) → IfSome p (λ m. number i ≡ whole m) → p ≡ Some n → number i ≡ whole n
-    found None is e = Prim.cc
-    found (Some m) is e = is ∙ ap whole (same_Some m n e)
-
-    by : (k < i) ⊎ (i ≤ k) → number k ≡ whole n
-    by (inl lt) = let other : k ≡ i → ⊥ = Prim.omega (arith, lt) in before k n lt (sym (get_or-set_other out i k o None other) ∙ found_at)
-    by (inr ge) =
-        let same : k ≡ i = Prim.omega (arith, h, ge) in
-        ap number same ∙ found o here (sym (get_or-set_same out i o None inside) ∙ ap (λ (j : ℕ). get_or (set out i o) j None) (sym same) ∙ found_at)
+-- ---- a place where something stands
+pub some_inside : {X : Type 0} (xs : List (Option X)) (k : ℕ) (x : X) → get_or xs k None ≡ Some x → k < length xs
+some_inside xs k x found = elim (cases_lt k (length xs)) [
+  | inl below ↦ below
+  | inr past ↦ let none = get_or_past xs k None past in Prim.cc
+]
 
 -- ---- sizes
 abbrev pub narrow : ℤ → ℤ
@@ -94,9 +84,9 @@ wide_is z h = to_z-of_z w128 z (fits_signed_from_abs w128 z h)
 abbrev pub most_product : ℕ
 most_product = most_factor * 2 ^ 63
 
-module _ (share n f g : ℤ) (few : unsigned_abs share ≤ most_factor) (fits : FitsSigned w64 n) (ef : f ≡ narrow share) (eg : g ≡ narrow n) where
+module _ (share n f g : ℤ) (few : unsigned_abs share ≤ most_factor) (small_number : unsigned_abs n < 2 ^ 63) (ef : f ≡ narrow share) (eg : g ≡ narrow n) where
   whole_size : unsigned_abs n ≤ 2 ^ 63
-  whole_size = nat_abs-le n fits.sfits
+  whole_size = Prim.omega (arith, small_number)
 
   product_size : unsigned_abs (share *ℤ n) ≤ most_product
   product_size = subst (λ t. t ≤ most_product) (sym (unsigned_abs-mul share n)) (mul-le-mul few whole_size)
@@ -105,7 +95,7 @@ module _ (share n f g : ℤ) (few : unsigned_abs share ≤ most_factor) (fits : 
   share_is = ap wide (ef ∙ narrow_is share (fits_signed_from_abs w64 share (lt_of_le_of_lt few (Prim.omega arith)))) ∙ wide_is share (lt_of_le_of_lt few (Prim.omega arith))
 
   number_is : wide g ≡ n
-  number_is = ap wide (eg ∙ narrow_is n fits) ∙ wide_is n (lt_of_le_of_lt whole_size (Prim.omega arith))
+  number_is = ap wide (eg ∙ narrow_is n (fits_signed_from_abs w64 n small_number)) ∙ wide_is n (lt_of_le_of_lt whole_size (Prim.omega arith))
 
   pub product_is : wide (wide f *ℤ wide g) ≡ share *ℤ n
   product_is = ap₂ (λ s t. wide (s *ℤ t)) share_is number_is ∙ wide_is (share *ℤ n) (lt_of_le_of_lt product_size (Prim.omega arith))
@@ -121,7 +111,17 @@ module _ (share n f g : ℤ) (few : unsigned_abs share ≤ most_factor) (fits : 
     pub sum_is : wide (sum +ℤ wide (wide f *ℤ wide g)) ≡ sum +ℤ share *ℤ n
     sum_is = ap (λ z. wide (sum +ℤ z)) product_is ∙ wide_is (sum +ℤ share *ℤ n) (Prim.omega (arith, ints, small, product_size, most))
 
+    pub sum_fits : FitsSigned w128 (sum +ℤ wide (wide f *ℤ wide g))
+    sum_fits = subst (λ z. FitsSigned w128 (sum +ℤ z)) (sym product_is) (fits_signed_from_abs w128 (sum +ℤ share *ℤ n) (Prim.omega (arith, ints, small, product_size, most)))
+
+pub size_kept : (a i : ℕ) → a ≤ i * most_product → a ≤ (i + 1) * most_product
+size_kept a i h = Prim.omega (arith, h)
+
 -- ---- what code gives
+pub of_ok : {T E : Type 0} (p : T → Type 0) (r : Result T E) (x : T) → IfOk r p → Some x ≡ result_ok r → p x
+of_ok p (Ok y) x h e = subst p (sym (same_Some x y e)) h
+of_ok p (Err f) x h e = Prim.cc
+
 -- a sum that is not refused
 pub sum_made : {N : Type 0} (value : N → Fraction) (bound : ℕ) (x y : N) (r : Result N (Passed N)) (s : N) → IsExact value bound Plus x y r → Some s ≡ result_ok r → value s ≡ value x +ℚ value y
 sum_made value bound x y (Ok t) s is e = ap value (same_Some s t e) ∙ is.exact

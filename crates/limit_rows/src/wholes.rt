@@ -1,11 +1,11 @@
 //! The flow of a line where most buses put in whole numbers: what these add is summed up in whole numbers.
 
-ghost use Rattle.std.specs.Prelude.{◌≡◌, ◌<◌, ◌≤◌, length, map, IfSome};
+ghost use Rattle.std.specs.Prelude.{◌≡◌, ◌<◌, ◌^◌, unsigned_abs, length, map, IfSome};
 ghost use Rattle.fraction_theory.specs.Fraction.{over, whole, ◌+ℚ◌};
 ghost use Rattle.market_data.specs.Scales.{factor_one};
 ghost use Rattle.market_model.specs.LimitRows.{line_flow};
 ghost use Rattle.market_model.specs.PutIn.{put_in};
-ghost use Rattle.limit_rows.specs.Wholes.{AreWholes};
+ghost use Rattle.limit_rows.specs.Wholes.{AreWholes, IsWhole};
 
 use crate::factors::shift_of;
 use crate::flowing::{offset_of, with_share};
@@ -16,7 +16,8 @@ use std::cmp::Ordering;
 
 /// A whole number as an exact one. Nothing where 63 bits do not hold its size.
 fn exact_whole<N: Exact>(number: i64) -> Option<N>
-    ensures { IfSome result (λ n. N.value n ≡ whole number) }
+    ensures value { IfSome result (λ n. N.value n ≡ whole number) }
+    ensures small { IfSome result (λ _. unsigned_abs number < 2 ^ 63) }
 {
     if number == i64::MIN {
         None
@@ -27,7 +28,7 @@ fn exact_whole<N: Exact>(number: i64) -> Option<N>
 
 /// The whole number that a number is. Nothing where it is none, or 63 bits do not hold its size.
 fn whole_of<N: Exact>(number: N) -> Option<i64>
-    ensures { IfSome result (λ n. N.value number ≡ whole n) }
+    ensures { IfSome result (IsWhole (N.value number)) }
 {
     let below = number.floor()?;
     let same: N = exact_whole(below)?;
@@ -72,6 +73,7 @@ pub(crate) fn flow_by_wholes<N: Exact>(
     requires wholes { AreWholes (put_in (map N.value injections.now)) wholes.now }
     ensures { IfSome result (λ mw. N.value mw ≡ line_flow market.now (put_in (map N.value injections.now)) line) }
 {
+    let _buses = market.buses();
     let mut flow: N = offset_of(market, line);
     let mut parts: i128 = 0;
     for (bus, mw) in injections.iter().enumerate() {
