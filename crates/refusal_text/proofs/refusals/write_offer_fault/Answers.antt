@@ -1,4 +1,4 @@
-use Rattle.std.proofs.Common.{◌++◌, ◌∙◌, ap, sym, codes, decimal, append_assoc}
+use Rattle.std.proofs.Common.{◌++◌, ◌∙◌, ap, sym, codes, decimal}
 use Rattle.std.proofs.lemmas.Result.{IfOk-weaker}
 use Rattle.refusal_text.specs.Refusals.{offer_words}
 use Rattle.refusal_text.proofs.RefusalLemmas.{four}
