@@ -6,6 +6,7 @@ mod forms;
 mod fractions;
 pub mod laws;
 mod members;
+mod object;
 mod reading;
 mod reading_reserve;
 mod writing;

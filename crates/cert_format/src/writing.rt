@@ -1,8 +1,9 @@
 //! The text of a certificate.
 
-ghost use Rattle.std.specs.Prelude.{◌≡◌, ℕ, ◌≤◌, List, Option, Some, IfOk, IfSome, IsOk, OnOk, Ok, All, map, option_map};
+ghost use Rattle.std.specs.Prelude.{◌≡◌, ℕ, ◌≤◌, List, [], codes, Option, Some, IfOk, IfSome, IsOk, OnOk, Ok, All, map, option_map};
 ghost use Rattle.fraction_theory.specs.Fraction.{Fraction};
-ghost use Rattle.serde_json.specs.View.{view};
+ghost use Rattle.serde_json.specs.Data.{member, object, string};
+ghost use Rattle.serde_json.specs.View.{members_view, view};
 ghost use Rattle.market_model.specs.Valued.{dual_at, outcome_at};
 ghost use Rattle.cert_format.specs.declared.certificate.Cert.{Cert};
 ghost use Rattle.cert_format.specs.declared.certificate.Cert.TheVariants as cert;
@@ -10,14 +11,15 @@ ghost use Rattle.cert_format.specs.declared.certificate.ClearedReserve.{ClearedR
 ghost use Rattle.cert_format.specs.declared.certificate.ReserveDuals.{ReserveDuals};
 ghost use Rattle.cert_format.specs.Certificates.{NamesFit, NumbersFit, RowFits, RowsAreDistinct, cert_against, cert_at, cert_of, cert_of_outcome, most_part};
 ghost use Rattle.cert_format.specs.Grammar.{cert_read};
-ghost use Rattle.cert_format.specs.Written.{cert_text, certificate_of, cleared_reserve_data, farkas_data, fraction_data, fractions_data, limit_data, limits_data, optimal_data, reserve_duals_data};
+ghost use Rattle.cert_format.specs.Written.{cert_text, certificate_of, cleared_reserve_data, ending, farkas_data, fraction_data, fractions_data, limit_data, limits_data, optimal_data, reserve_duals_data, with_version};
 
 use crate::Cert;
+use crate::object::{Members, put_fraction, put_number};
 use crate::writing_reserve::{answer_part, cleared_part, duals_part, farkas_part};
 use exact_fraction::Exact;
 use market_data::FactorPlaces;
 use market_model::{Answer, Dual, Farkas, List, Memory, Outcome};
-use serde_json::{Value, json};
+use serde_json::{Value, json, put};
 use std::alloc::{AllocError, Global};
 use std::str;
 
@@ -31,21 +33,34 @@ pub(crate) fn fraction_value<N: Exact>(alloc: Global, number: N) -> Result<Value
     json!(in alloc; text)
 }
 
-/// The duals of a limit.
+/// Puts the duals of a limit into an object that has no members.
+fn put_limit<N: Exact>(
+    alloc: Global,
+    members: &mut Members,
+    dual: &Dual<N>,
+) -> Result<(), AllocError>
+    requires { members.old.entries ≡ [] }
+    ensures value { OnOk result (object (members_view members.new.entries) ≡ limit_data (dual_at N.value dual.now)) }
+    ensures row { OnOk result (RowFits dual.now.row) }
+{
+    let row = dual.row;
+    put_number(alloc, members, "branch", row.branch)?;
+    put_fraction(alloc, members, "down", dual.down)?;
+    put_number(alloc, members, "outage", row.outage)?;
+    put_fraction(alloc, members, "up", dual.up)?;
+    if row.unit != 0 {
+        put_number(alloc, members, "unit", row.unit)?;
+    }
+    Ok(())
+}
+
 fn limit_value<N: Exact>(alloc: Global, dual: &Dual<N>) -> Result<Value, AllocError>
     ensures value { IfOk result (λ v. view v ≡ limit_data (dual_at N.value dual.now)) }
     ensures row { OnOk result (RowFits dual.now.row) }
 {
-    let up = fraction_value(alloc, dual.up)?;
-    let down = fraction_value(alloc, dual.down)?;
-    let branch = dual.row.branch;
-    let outage = dual.row.outage;
-    let unit = dual.row.unit;
-    if unit == 0 {
-        json!(in alloc; {"branch": branch, "down": down, "outage": outage, "up": up})
-    } else {
-        json!(in alloc; {"branch": branch, "down": down, "outage": outage, "unit": unit, "up": up})
-    }
+    let mut members = Members::new(alloc);
+    put_limit(alloc, &mut members, dual)?;
+    Ok(Value::Object(members))
 }
 
 pub(crate) fn fractions_value<N: Exact>(
@@ -72,6 +87,63 @@ fn limits_value<N: Exact>(alloc: Global, limits: &List<Dual<N>>) -> Result<Value
     Ok(Value::Array(values))
 }
 
+/// Puts the members that both kinds have, into an object that has none.
+fn put_common<N: Exact>(
+    alloc: Global,
+    members: &mut Members,
+    kind: &str,
+    energy: N,
+    limits: &List<Dual<N>>,
+    places: FactorPlaces,
+    reserve: Option<Value>,
+) -> Result<(), AllocError>
+    requires { members.old.entries ≡ [] }
+    ensures value { OnOk result (members_view members.new.entries
+        ≡ member (codes "energy") (fraction_data (N.value energy)) (member (codes "kind") (string kind.now) (member (codes "limits") (limits_data (map (dual_at N.value) limits.now)) (ending places (option_map view reserve))))) }
+    ensures rows { OnOk result (All (λ d. RowFits d.row) limits.now) }
+{
+    put_version(alloc, members, reserve)?;
+    put_number(alloc, members, "places", u32::from(places.count()))?;
+    put_fraction(alloc, members, "energy", energy)?;
+    put(members, alloc, "kind", Value::try_from_str(alloc, kind)?)?;
+    put(members, alloc, "limits", limits_value(alloc, limits)?)
+}
+
+/// Puts the part on reserve, where there is one, and the version.
+fn put_version(
+    alloc: Global,
+    members: &mut Members,
+    reserve: Option<Value>,
+) -> Result<(), AllocError>
+    requires { members.old.entries ≡ [] }
+    ensures { OnOk result (members_view members.new.entries ≡ with_version (option_map view reserve)) }
+{
+    match reserve {
+        None => put_number(alloc, members, "version", 2),
+        Some(reserve) => {
+            put(members, alloc, "reserve", reserve)?;
+            put_number(alloc, members, "version", 3)
+        }
+    }
+}
+
+fn put_optimal<N: Exact>(
+    alloc: Global,
+    members: &mut Members,
+    blocks: &List<N>,
+    energy: N,
+    limits: &List<Dual<N>>,
+    places: FactorPlaces,
+    reserve: Option<Value>,
+) -> Result<(), AllocError>
+    requires { members.old.entries ≡ [] }
+    ensures value { OnOk result (object (members_view members.new.entries) ≡ optimal_data (map N.value blocks.now) (N.value energy) (map (dual_at N.value) limits.now) places (option_map view reserve)) }
+    ensures rows { OnOk result (All (λ d. RowFits d.row) limits.now) }
+{
+    put_common(alloc, members, "optimal", energy, limits, places, reserve)?;
+    put(members, alloc, "blocks", fractions_value(alloc, blocks)?)
+}
+
 /// A dispatch with the prices that support it, and the part on reserve where there is one.
 fn optimal_value<N: Exact>(
     alloc: Global,
@@ -84,18 +156,9 @@ fn optimal_value<N: Exact>(
     ensures value { IfOk result (λ v. view v ≡ optimal_data (map N.value blocks.now) (N.value energy) (map (dual_at N.value) limits.now) places (option_map view reserve)) }
     ensures rows { OnOk result (All (λ d. RowFits d.row) limits.now) }
 {
-    let blocks = fractions_value(alloc, blocks)?;
-    let energy = fraction_value(alloc, energy)?;
-    let limits = limits_value(alloc, limits)?;
-    let count = u64::from(places.count());
-    match reserve {
-        None => {
-            json!(in alloc; {"blocks": blocks, "energy": energy, "kind": "optimal", "limits": limits, "places": count, "version": 2u64})
-        }
-        Some(reserve) => {
-            json!(in alloc; {"blocks": blocks, "energy": energy, "kind": "optimal", "limits": limits, "places": count, "reserve": reserve, "version": 3u64})
-        }
-    }
+    let mut members = Members::new(alloc);
+    put_optimal(alloc, &mut members, blocks, energy, limits, places, reserve)?;
+    Ok(Value::Object(members))
 }
 
 /// Duals that show that no dispatch is feasible, and the part on reserve where there is one.
@@ -109,17 +172,17 @@ fn farkas_value<N: Exact>(
     ensures value { IfOk result (λ v. view v ≡ farkas_data (N.value energy) (map (dual_at N.value) limits.now) places (option_map view reserve)) }
     ensures rows { OnOk result (All (λ d. RowFits d.row) limits.now) }
 {
-    let energy = fraction_value(alloc, energy)?;
-    let limits = limits_value(alloc, limits)?;
-    let count = u64::from(places.count());
-    match reserve {
-        None => {
-            json!(in alloc; {"energy": energy, "kind": "farkas", "limits": limits, "places": count, "version": 2u64})
-        }
-        Some(reserve) => {
-            json!(in alloc; {"energy": energy, "kind": "farkas", "limits": limits, "places": count, "reserve": reserve, "version": 3u64})
-        }
-    }
+    let mut members = Members::new(alloc);
+    put_common(
+        alloc,
+        &mut members,
+        "farkas",
+        energy,
+        limits,
+        places,
+        reserve,
+    )?;
+    Ok(Value::Object(members))
 }
 
 fn optimal_text<N: Exact>(

@@ -1,26 +1,42 @@
 //! The text of what a certificate tells of reserve.
 
-ghost use Rattle.std.specs.Prelude.{◌≡◌, ◌<◌, ◌^◌, IfOk, OnOk, All, map, option_map};
-ghost use Rattle.serde_json.specs.View.{view};
+ghost use Rattle.std.specs.Prelude.{◌≡◌, ◌<◌, ◌^◌, [], IfOk, OnOk, All, map, option_map};
+ghost use Rattle.serde_json.specs.Data.{object};
+ghost use Rattle.serde_json.specs.View.{members_view, view};
 ghost use Rattle.market_model.specs.Valued.{room_dual_at};
 ghost use Rattle.cert_format.specs.Certificates.{cleared_reserve_at, cleared_reserve_of, if_listed, reserve_duals_at, reserve_duals_of, rooms_among};
-ghost use Rattle.cert_format.specs.Written.{cleared_reserve_data, fraction_data, fractions_data, reserve_duals_data, room_data, rooms_data};
+ghost use Rattle.cert_format.specs.Written.{cleared_reserve_data, reserve_duals_data, room_data, rooms_data};
 
-use crate::writing::{fraction_value, fractions_value};
+use crate::object::{Members, put_fraction, put_number};
+use crate::writing::fractions_value;
 use crate::{ClearedReserve, ReserveDuals};
 use exact_fraction::Exact;
 use market_model::{Answer, Duals, List, RoomDual};
-use serde_json::{Value, json};
+use serde_json::{Value, put};
 use std::alloc::{AllocError, Global};
 
-/// The price of a unit's room.
+/// Puts the price of a unit's room into an object that has no members.
+fn put_room<N: Exact>(
+    alloc: Global,
+    members: &mut Members,
+    dual: &RoomDual<N>,
+) -> Result<(), AllocError>
+    requires { members.old.entries ≡ [] }
+    ensures value { OnOk result (object (members_view members.new.entries) ≡ room_data (room_dual_at N.value dual.now)) }
+    ensures unit { OnOk result (dual.now.unit < 2 ^ 32) }
+{
+    let unit = dual.unit;
+    put_fraction(alloc, members, "dual", dual.price)?;
+    put_number(alloc, members, "unit", unit)
+}
+
 fn room_value<N: Exact>(alloc: Global, dual: &RoomDual<N>) -> Result<Value, AllocError>
     ensures value { IfOk result (λ v. view v ≡ room_data (room_dual_at N.value dual.now)) }
     ensures unit { OnOk result (dual.now.unit < 2 ^ 32) }
 {
-    let price = fraction_value(alloc, dual.price)?;
-    let unit = dual.unit;
-    json!(in alloc; {"dual": price, "unit": unit})
+    let mut members = Members::new(alloc);
+    put_room(alloc, &mut members, dual)?;
+    Ok(Value::Object(members))
 }
 
 fn rooms_value<N: Exact>(alloc: Global, rooms: &List<RoomDual<N>>) -> Result<Value, AllocError>
@@ -34,7 +50,21 @@ fn rooms_value<N: Exact>(alloc: Global, rooms: &List<RoomDual<N>>) -> Result<Val
     Ok(Value::Array(values))
 }
 
-/// The prices of reserve and of rooms.
+/// Puts the prices of reserve and of rooms into an object that has no members.
+fn put_duals<N: Exact>(
+    alloc: Global,
+    members: &mut Members,
+    price: N,
+    rooms: &List<RoomDual<N>>,
+) -> Result<(), AllocError>
+    requires { members.old.entries ≡ [] }
+    ensures value { OnOk result (object (members_view members.new.entries) ≡ reserve_duals_data (reserve_duals_at N.value (record { price = price; rooms = rooms.now }))) }
+    ensures units { OnOk result (All (λ d. d.unit < 2 ^ 32) rooms.now) }
+{
+    put_fraction(alloc, members, "price", price)?;
+    put(members, alloc, "units", rooms_value(alloc, rooms)?)
+}
+
 fn duals_value<N: Exact>(
     alloc: Global,
     price: N,
@@ -43,12 +73,32 @@ fn duals_value<N: Exact>(
     ensures value { IfOk result (λ v. view v ≡ reserve_duals_data (reserve_duals_at N.value (record { price = price; rooms = rooms.now }))) }
     ensures units { OnOk result (All (λ d. d.unit < 2 ^ 32) rooms.now) }
 {
-    let price = fraction_value(alloc, price)?;
-    let rooms = rooms_value(alloc, rooms)?;
-    json!(in alloc; {"price": price, "units": rooms})
+    let mut members = Members::new(alloc);
+    put_duals(alloc, &mut members, price, rooms)?;
+    Ok(Value::Object(members))
 }
 
 /// The same with what is accepted of each offer.
+fn put_cleared<N: Exact>(
+    alloc: Global,
+    members: &mut Members,
+    quantities: &List<N>,
+    price: N,
+    rooms: &List<RoomDual<N>>,
+) -> Result<(), AllocError>
+    requires { members.old.entries ≡ [] }
+    ensures value { OnOk result (object (members_view members.new.entries) ≡ cleared_reserve_data (cleared_reserve_at N.value (record { quantities = quantities.now; duals = record { price = price; rooms = rooms.now } }))) }
+    ensures units { OnOk result (All (λ d. d.unit < 2 ^ 32) rooms.now) }
+{
+    put_duals(alloc, members, price, rooms)?;
+    put(
+        members,
+        alloc,
+        "quantities",
+        fractions_value(alloc, quantities)?,
+    )
+}
+
 fn cleared_value<N: Exact>(
     alloc: Global,
     quantities: &List<N>,
@@ -58,10 +108,9 @@ fn cleared_value<N: Exact>(
     ensures value { IfOk result (λ v. view v ≡ cleared_reserve_data (cleared_reserve_at N.value (record { quantities = quantities.now; duals = record { price = price; rooms = rooms.now } }))) }
     ensures units { OnOk result (All (λ d. d.unit < 2 ^ 32) rooms.now) }
 {
-    let price = fraction_value(alloc, price)?;
-    let quantities = fractions_value(alloc, quantities)?;
-    let rooms = rooms_value(alloc, rooms)?;
-    json!(in alloc; {"price": price, "quantities": quantities, "units": rooms})
+    let mut members = Members::new(alloc);
+    put_cleared(alloc, &mut members, quantities, price, rooms)?;
+    Ok(Value::Object(members))
 }
 
 /// The part of an optimal certificate, where it has one.
