@@ -1,6 +1,6 @@
 -- Steps of the factors of what is picked up.
-use Rattle.std.specs.Prelude.{◌≡◌, ◌==◌, ◌⊎◌, ℕ, ◌+◌, ◌<◌, ◌≤◌, pos, Bool, true, false, cond, if◌then◌else◌, List, [], ◌∷◌, ◌++◌, map, filter, length, take, slice_index_or, refl}
-use Rattle.std.proofs.Common.{arith, ap, ap₂, sym, subst, ◌∙◌, get_or, drop, inl, inr}
+use Rattle.std.specs.Prelude.{◌≡◌, ℕ, ◌+◌, ◌<◌, ◌≤◌, pos, Bool, true, false, cond, if◌then◌else◌, List, [], ◌∷◌, ◌++◌, map, filter, length, take, refl}
+use Rattle.std.proofs.Common.{arith, ap, ap₂, sym, subst, ◌∙◌, get_or, drop}
 use Rattle.std.proofs.lemmas.List.{get_or_append_left, length-append, map-append, take-append-drop, take-append-le, take_more, drop_more}
 use Rattle.std.proofs.lemmas.List.Elements.{filter-append}
 use Rattle.fraction_theory.specs.Fraction.{Fraction, whole, over, neg_ℚ, ◌+ℚ◌, ◌-ℚ◌}
@@ -12,7 +12,7 @@ use Rattle.exact_fraction.specs.declared.Op.{Op}
 use Rattle.exact_fraction.specs.declared.Op.TheVariants.{Plus, Minus, Times}
 use Rattle.exact_fraction.specs.declared.Passed.{Passed}
 use Rattle.exact_fraction.specs.Passes.{IsTooLarge}
-use Rattle.market_model.specs.NamedSums.{AreProductSides, IsNextTerm, IsRefusal, IsRefusedIn, IsShareRefusal, IsSumStep, SameSize, term_at}
+use Rattle.market_model.specs.NamedSums.{IsNextTerm, IsRefusal, IsRefusedIn, IsShareRefusal, IsSumStep, SameSize, term_at}
 use Rattle.market_model.proofs.SumSteps.{minus_at, share_at}
 use Rattle.fraction_theory.proofs.Ring.{by_ring, at, pneg}
 use Rattle.std.proofs.lemmas.Bool.{eq-eqb}

@@ -1,5 +1,5 @@
 -- The rows of a market by the places of their lines, and by name.
-use Rattle.std.specs.Prelude.{◌≡◌, ◌≢◌, ◌⊎◌, ◌==◌, ℕ, ◌<◌, ◌&&◌, Bool, true, false, List, [], ◌∷◌, ◌++◌, map, length, All, Contains, Some, option_map, refl}
+use Rattle.std.specs.Prelude.{◌≡◌, ◌≢◌, ◌⊎◌, ◌==◌, ℕ, ◌<◌, ◌&&◌, Bool, true, false, List, ◌++◌, map, length, All, Contains, Some, option_map, refl}
 use Rattle.std.specs.List.{slice_get, position}
 use Rattle.std.proofs.Common.{arith, inl, inr, ap, ap₂, sym, subst, ◌∙◌, get_or}
 use Rattle.std.proofs.lemmas.List.FromFn.{length-range_with_len}

@@ -1,8 +1,8 @@
 -- What whole numbers among injections add to the flow of a line, in parts of 10^-9.
-use Rattle.std.specs.Prelude.{◌≡◌, ◌⊎◌, ℕ, ◌+◌, ◌*◌, ◌<◌, ◌≤◌, ◌^◌, ℤ, pos, ◌+ℤ◌, ◌*ℤ◌, unsigned_abs, FitsSigned, List, [], ◌∷◌, length, Option, Some, None, IfSome, IfOk, OkIff, Result, Ok, Err, int_div, int_rem, refl}
+use Rattle.std.specs.Prelude.{◌≡◌, ℕ, ◌+◌, ◌*◌, ◌<◌, ◌≤◌, ◌^◌, ℤ, pos, ◌+ℤ◌, ◌*ℤ◌, unsigned_abs, FitsSigned, List, [], ◌∷◌, length, Option, Some, None, IfSome, IfOk, OkIff, Result, Ok, Err, int_div, int_rem, refl}
 use Rattle.std.specs.Int.{w128}
 use Rattle.std.specs.Result.{result_ok}
-use Rattle.std.proofs.Common.{arith, w64, ap, ap₂, sym, inl, inr, subst, ◌∙◌, get_or, set}
+use Rattle.std.proofs.Common.{arith, w64, ap, ap₂, sym, inl, inr, subst, ◌∙◌, get_or}
 use Rattle.std.proofs.Math.Nat.{lt_of_le_of_lt, mul-le-mul}
 use Rattle.std.proofs.lemmas.Bool.{cases_lt}
 use Rattle.std.proofs.lemmas.List.{get_or_past}
@@ -12,7 +12,6 @@ use mir.Val.{to_z, of_z}
 use Rattle.fraction_theory.specs.Fraction.{Fraction, over, whole, ◌+ℚ◌, ◌*ℚ◌}
 use Rattle.fraction_theory.proofs.FieldLaws.{ring_ℚ, over-one, over-same, whole_is, whole-+ℚ, whole-*ℚ, +ℚ_nil}
 use Rattle.fraction_theory.proofs.FractionLaws.{Is, over_is, same_value, times_is}
-use Rattle.fraction_theory.proofs.IntegerLaws.{ring_ℤ}
 use Rattle.fraction_theory.proofs.Ring.{at, by_ring, padd, pmul}
 use Rattle.exact_fraction.specs.declared.Op.TheVariants.{Plus}
 use Rattle.exact_fraction.specs.declared.Passed.{Passed}

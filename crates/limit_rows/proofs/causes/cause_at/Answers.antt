@@ -1,4 +1,4 @@
-use Rattle.std.proofs.Common.{◌≡◌, ◌-◌, ◌+◌, ◌<◌, ℕ, Some, length, slice_get, ap, arith}
+use Rattle.std.proofs.Common.{◌≡◌, ◌-◌, ℕ, Some, length, slice_get, ap, arith}
 use Rattle.market_model.specs.LimitRows.{lost_lines, place_of_line}
 use Rattle.limit_rows.proofs.GroupLemmas.{cause_behind, length-causes, length-map, lost_line-inside, unit_behind}
 use Rattle.limit_rows.proofs.causes.cause_at.Goals as goal

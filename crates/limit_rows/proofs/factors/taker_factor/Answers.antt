@@ -1,4 +1,4 @@
-use Rattle.std.proofs.Common.{rules, Err, ◌≡◌, ◌∙◌, ◌<◌, List, length, map, ap, sym, subst, get_or, pos, arith, take, refl}
+use Rattle.std.proofs.Common.{rules, Err, ◌≡◌, ◌∙◌, List, map, ap, subst, get_or, pos, refl}
 use Rattle.std.specs.Prelude.{◌==◌, filter}
 use Rattle.std.proofs.lemmas.List.{take_all}
 use Rattle.fraction_theory.specs.Sums.{total}

@@ -1,4 +1,4 @@
-use Rattle.std.specs.Prelude.{◌≡◌, ◌<◌, length, IfErr, IfOk, [], ◌∷◌, refl}
+use Rattle.std.specs.Prelude.{◌<◌, length, [], ◌∷◌, refl}
 use Rattle.std.proofs.Common.{◌∙◌, ap, subst, sym}
 use Rattle.std.proofs.lemmas.Result.{IfOk-weaker, IfErr-weaker}
 use Rattle.fraction_theory.specs.Fraction.{neg_ℚ}

@@ -1,4 +1,4 @@
-use Rattle.std.proofs.Common.{◌≡◌, ◌∙◌, ◌<◌, length, map, arith}
+use Rattle.std.proofs.Common.{◌∙◌, ◌<◌, length, map, arith}
 use Rattle.std.proofs.lemmas.Result.{err_from_is_err_and}
 use Rattle.market_model.specs.LimitRows.{line_flow}
 use Rattle.market_model.specs.PutIn.{put_in}

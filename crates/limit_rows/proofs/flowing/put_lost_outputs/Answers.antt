@@ -1,4 +1,4 @@
-use Rattle.std.proofs.Common.{rules, Err, ◌≡◌, ◌∙◌, ◌<◌, ℕ, length, map, ap, subst, arith}
+use Rattle.std.proofs.Common.{rules, Err, ◌≡◌, ◌∙◌, ◌<◌, ℕ, length, ap, subst, arith}
 use Rattle.market_model.specs.Dispatch.{output as output_of, output_terms}
 use Rattle.market_model.specs.LimitRows.{lost_output}
 use Rattle.market_model.specs.NamedSums.{IsRefusedIn}

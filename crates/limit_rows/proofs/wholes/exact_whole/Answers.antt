@@ -1,6 +1,5 @@
-use Rattle.std.proofs.Common.{◌≡◌, ◌∙◌, ℤ, ap, sym, w64}
-use Rattle.std.proofs.lemmas.Int.{to_z-of_z}
-use Rattle.fraction_theory.specs.Fraction.{over, whole}
+use Rattle.std.proofs.Common.{◌∙◌, ℤ, ap}
+use Rattle.fraction_theory.specs.Fraction.{over}
 use Rattle.fraction_theory.proofs.FieldLaws.{over-one}
 use Rattle.limit_rows.proofs.WholeLemmas.{narrow_is}
 use Rattle.limit_rows.proofs.wholes.exact_whole.Goals as goal
