@@ -3,6 +3,7 @@ pub mod EntryLemmas
 pub mod FlowLemmas
 pub mod HoldingLaws
 pub mod PosingLemmas
+pub mod KindLemmas
 pub mod ListedLemmas
 pub mod NameLists
 pub mod OfferLemmas

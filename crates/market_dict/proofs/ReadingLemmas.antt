@@ -7,7 +7,7 @@ use Rattle.std.proofs.lemmas.Bool.Decides.{eqb_tells}
 use Rattle.std.proofs.lemmas.Grind.{flat_map-append}
 use Rattle.std.proofs.lemmas.List.Concat.{flat_map-cons}
 use Rattle.std.proofs.lemmas.List.Folds.{flat_map-map}
-use Rattle.std.proofs.lemmas.List.Elements.{Contains-append_left, Contains-append_right, Contains-append_cases}
+use Rattle.std.proofs.lemmas.List.Elements.{Contains-append_cases}
 use Rattle.std.proofs.lemmas.List.{append-nil, length-map, take_more, take_all, get_or-map}
 use Rattle.fraction_theory.specs.Fraction.{Fraction, whole, neg_ℚ, ◌-ℚ◌}
 use Rattle.fraction_theory.specs.Signs.{sign_of}
@@ -33,23 +33,21 @@ use Rattle.simplex_theory.specs.Stuck.{multiplier, margin}
 use Rattle.market_model.specs.declared.answered.Dual.{Dual}
 use Rattle.market_model.specs.declared.answered.RoomDual.{RoomDual}
 use Rattle.market_model.specs.declared.participants.Parts.{Parts}
-use Rattle.market_model.specs.Dispatch.{places, unit_at}
+use Rattle.market_model.specs.Dispatch.{unit_at}
 use Rattle.market_model.specs.declared.limits.Row.{Row}
-use Rattle.market_model.specs.LimitRows.{rows, row_id}
+use Rattle.market_model.specs.LimitRows.{row_id}
 use Rattle.market_model.specs.Market.{IsMarket}
 use Rattle.market_model.specs.NamedSums.{IsRefusal}
 use Rattle.market_model.specs.Optimality.{Taken, all_of}
-use Rattle.market_system.specs.MarketSystem.{name, block_columns, excess_columns, offer_columns, energy_rows, reserve_rows, system_over, row_name, need_name, room_name, taken_in_order, dual_by, room_dual_by, variables, variable_of, IsVariableOf}
+use Rattle.market_system.specs.MarketSystem.{name, block_columns, excess_columns, offer_columns, energy_rows, reserve_rows, system_over, row_name, room_name, taken_in_order, dual_by, room_dual_by, variables, IsVariableOf}
 use Rattle.market_system.specs.declared.variables.Variable.{Variable}
 use Rattle.market_system.specs.declared.variables.Variable.TheVariants as variable
 use Rattle.market_system.proofs.VariableLaws as law
-use Rattle.market_system.proofs.VariableLaws.{mapped, in_mapped, in_places}
-use Rattle.market_system.proofs.RowOrder.{row_place-below}
 use Rattle.market_dict.specs.Holding.{HoldsMarket}
 use Rattle.market_dict.specs.Takings.{taken_of}
 use Rattle.market_dict.specs.declared.taking.Taking.{Taking}
 use Rattle.market_dict.proofs.HoldingLaws.{at_place}
-use Rattle.market_dict.proofs.TakingLists.{all_in_order, order_all}
+use Rattle.market_dict.proofs.TakingLists.{order_all}
 
 -- a number that was read, by rank
 pub cost_at : {N : Type 0} (value : N → Fraction) (cost : ℕ → Fraction) (xs : List N) (names : List ℕ) (k : ℕ) (x : N) → map value xs ≡ map cost names → k < length xs → x ≡ get_or xs k x → value x ≡ cost (slice_index names k)
@@ -60,22 +58,6 @@ cost_at value cost xs names k x same lt is =
     ∙ get_or-map cost names k 0 (whole (pos 0)) (Prim.omega (arith, lt, long))
 
 -- ---- the variables by rank
--- those whose names are before the names of the columns of soft limits
-abbrev pub early_variables : Parts → List Variable
-early_variables m = block_columns m ++ energy_rows (all_of m)
-
-early : (m : Parts) (v : Variable) → IsVariableOf m (all_of m) v → name m v < length m.blocks + 1 + length (rows m) → Contains (early_variables m) v
-early m (variable.Block j) is lt =
-    Contains-append_left (block_columns m) (energy_rows (all_of m)) (variable.Block j) (in_mapped variable.Block (places (length m.blocks)) j (in_places (length m.blocks) j is))
-early m variable.Balance is lt = Contains-append_right (block_columns m) (energy_rows (all_of m)) variable.Balance (Contains-head variable.Balance (map variable.Limit (rows m)))
-early m (variable.Limit r) is lt =
-    Contains-append_right (block_columns m) (energy_rows (all_of m)) (variable.Limit r) (Contains-cons variable.Balance (map variable.Limit (rows m)) (variable.Limit r) (in_mapped variable.Limit (rows m) r is))
-early m (variable.Over r) is lt = absurd (Prim.omega (arith, lt))
-early m (variable.Under r) is lt = absurd (Prim.omega (arith, lt))
-early m (variable.Offer n) is lt = absurd (Prim.omega (arith, lt))
-early m variable.Need is lt = absurd (Prim.omega (arith, lt))
-early m (variable.Room u) is lt = absurd (Prim.omega (arith, lt))
-
 module _ (m : Parts) (ts : List Taking) (d : Dictionary) (market : IsMarket m) (holds : HoldsMarket m ts d) where
   abbrev pub listed : List Variable
   listed = variables m (taken_in_order m (taken_of ts))
@@ -98,26 +80,9 @@ module _ (m : Parts) (ts : List Taking) (d : Dictionary) (market : IsMarket m) (
   rank_is k lt =
       order_all m ts (at_rank k) (law.variable_is m (taken_in_order m (taken_of ts)) (at_rank k) (at_place listed k variable.Balance (Prim.omega (arith, lt, name_count))))
 
-  pub rank_known : (k w : ℕ) → k < length d.names → w ≡ slice_index d.names k → w < length m.blocks + 1 + length (rows m) → Contains (map (name m) (early_variables m)) w
-  rank_known k w lt at below =
-      let is : w ≡ name m (at_rank k) = at ∙ name_at_rank k lt in
-      subst (Contains (map (name m) (early_variables m))) (sym is)
-      (in_mapped (name m) (early_variables m) (at_rank k) (early m (at_rank k) (rank_is k lt) (subst (λ (x : ℕ). x < length m.blocks + 1 + length (rows m)) is below)))
-
-  -- or a column of a soft limit, or one of reserve
-  pub rank_late : (k w : ℕ) → k < length d.names → w ≡ slice_index d.names k → length m.blocks + 1 + length (rows m) ≤ w → length m.blocks + 1 + length (rows m) ≤ name m (at_rank k)
-  rank_late k w lt at behind = subst (λ (x : ℕ). length m.blocks + 1 + length (rows m) ≤ x) (at ∙ name_at_rank k lt) behind
-
-  rank_variable : (k : ℕ) → k < length d.names → variable_of m (all_of m) (slice_index d.names k) ≡ at_rank k
-  rank_variable k lt = ap (variable_of m (all_of m)) (name_at_rank k lt) ∙ law.variable_at m (all_of m) (all_in_order m market) (at_rank k) (rank_is k lt)
-
-  -- as it was read
-  pub rank_read : (k w : ℕ) (read v : Variable) → k < length d.names → w ≡ slice_index d.names k → read ≡ variable_of m (all_of m) w → read ≡ v → at_rank k ≡ v
-  rank_read k w read v lt at of is = sym (rank_variable k lt) ∙ ap (variable_of m (all_of m)) (sym at) ∙ sym of ∙ is
-
-  -- so a limit of a rank is one of the market
-  pub rank_row : (k w : ℕ) (read : Variable) (r : Row) → k < length d.names → w ≡ slice_index d.names k → read ≡ variable_of m (all_of m) w → read ≡ variable.Limit r → Contains (rows m) r
-  rank_row k w read r lt at of is = subst (IsVariableOf m (all_of m)) (rank_read k w read (variable.Limit r) lt at of is) (rank_is k lt)
+  -- so it is what holds of every variable of its name
+  pub at_name : (P : Variable → Type 0) (k w : ℕ) → k < length d.names → w ≡ slice_index d.names k → ((v : Variable) → IsVariableOf m (all_of m) v → w ≡ name m v → P v) → P (at_rank k)
+  at_name P k w lt at holds_of = holds_of (at_rank k) (rank_is k lt) (at ∙ name_at_rank k lt)
 
   pub rank_inside : (k : ℕ) → k < length d.names → k < length listed
   rank_inside k lt = Prim.omega (arith, lt, name_count)
@@ -125,50 +90,6 @@ module _ (m : Parts) (ts : List Taking) (d : Dictionary) (market : IsMarket m) (
   -- what it costs
   pub rank_cost : {N : Type 0} (value : N → Fraction) (cost : ℕ → Fraction) (xs : List N) (k : ℕ) (x : N) (v : Variable) → map value xs ≡ map cost d.names → k < length xs → k < length d.names → x ≡ get_or xs k x → at_rank k ≡ v → value x ≡ cost (name m v)
   rank_cost value cost xs k x v same h lt at is = cost_at value cost xs d.names k x same h at ∙ ap cost (name_at_rank k lt ∙ ap (name m) is)
-
-  -- a name behind that of the need is that of a room, and one that is not is none
-  pub rank_room : (k w : ℕ) → k < length d.names → w ≡ slice_index d.names k → need_name m < w → (u : ℕ) × (at_rank k ≡ variable.Room u) × (w ≡ room_name m u)
-  rank_room k w lt at behind =
-      let is : w ≡ name m (at_rank k) = at ∙ name_at_rank k lt in
-      let r = room_behind m (at_rank k) (rank_is k lt) (subst (λ (x : ℕ). need_name m < x) is behind) in
-      (r.0, r.1, is ∙ ap (name m) r.1)
-    where
-      room_behind : (n : Parts) (v : Variable) → IsVariableOf n (all_of n) v → need_name n < name n v → (u : ℕ) × (v ≡ variable.Room u)
-      room_behind n (variable.Block j) h b = absurd (Prim.omega (arith, h, b))
-      room_behind n variable.Balance h b = absurd (Prim.omega (arith, b))
-      room_behind n (variable.Limit r) h b = absurd (Prim.omega (arith, row_place-below n r h, b))
-      room_behind n (variable.Over r) h b = absurd (Prim.omega (arith, row_place-below n r h.0, b))
-      room_behind n (variable.Under r) h b = absurd (Prim.omega (arith, row_place-below n r h.0, b))
-      room_behind n (variable.Offer i) h b = absurd (Prim.omega (arith, h, b))
-      room_behind n variable.Need h b = absurd (Prim.omega (arith, b))
-      room_behind n (variable.Room u) h b = (u, refl)
-
-  pub rank_no_room : (k w : ℕ) → k < length d.names → w ≡ slice_index d.names k → w ≤ need_name m → (u : ℕ) → at_rank k ≢ variable.Room u
-  rank_no_room k w lt at below u e = let is : w ≡ room_name m u = at ∙ name_at_rank k lt ∙ ap (name m) e in absurd (Prim.omega (arith, is, below))
-
--- the variable of a name, by kind
-module _ (m : Parts) (market : IsMarket m) where
-  named_one : (v : Variable) → IsVariableOf m (all_of m) v → (w : ℕ) → w ≡ name m v → v ≡ variable_of m (all_of m) w
-  named_one v is w e = sym (ap (variable_of m (all_of m)) e ∙ law.variable_at m (all_of m) (all_in_order m market) v is)
-
-  pub named_block : (w : ℕ) → w < length m.blocks → variable.Block w ≡ variable_of m (all_of m) w
-  named_block w lt = named_one (variable.Block w) lt w refl
-
-  pub named_balance : (w : ℕ) → w ≡ length m.blocks → variable.Balance ≡ variable_of m (all_of m) w
-  named_balance w e = named_one variable.Balance tt w e
-
-  pub named_limit : (w : ℕ) (r : Row) → Contains (rows m) r → w ≡ row_name m r → variable.Limit r ≡ variable_of m (all_of m) w
-  named_limit w r c e = named_one (variable.Limit r) c w e
-
--- a name before those of the columns of soft limits
-pub name_below : (m : Parts) (w : ℕ) → Contains (map (name m) (early_variables m)) w → w < length m.blocks + 1 + length (rows m)
-name_below m w c = let v = mapped (name m) (early_variables m) w c in subst (λ (x : ℕ). x < length m.blocks + 1 + length (rows m)) v.2 (below v.0 v.1)
-  where
-    below : (v : Variable) → Contains (early_variables m) v → name m v < length m.blocks + 1 + length (rows m)
-    below v k = elim (Contains-append_cases (block_columns m) (energy_rows (all_of m)) v k) [
-      | inl h ↦ law.by_block m (all_of m) (λ (u : Variable). name m u < length m.blocks + 1 + length (rows m)) (λ j lt. Prim.omega (arith, lt)) v h
-      | inr h ↦ law.by_energy_row m (all_of m) (λ (u : Variable). name m u < length m.blocks + 1 + length (rows m)) (Prim.omega arith) (λ r q. Prim.omega (arith, row_place-below m r q)) v h
-    ]
 
 -- ---- what is listed of variables in turn
 module _ {E : Type 0} (of : Variable → List E) where
@@ -251,17 +172,6 @@ module _ (m : Parts) (cost : ℕ → Fraction) where
   dual_of variable.Need = []
   dual_of (variable.Room u) = []
 
-  -- those of the columns of soft limits and of reserve are none
-  pub late_nothing : (v : Variable) → IsVariableOf m (all_of m) v → length m.blocks + 1 + length (rows m) ≤ name m v → (dual_of v ≡ []) × (v ≢ variable.Balance)
-  late_nothing (variable.Block j) is late = absurd (Prim.omega (arith, is, late))
-  late_nothing variable.Balance is late = absurd (Prim.omega (arith, late))
-  late_nothing (variable.Limit r) is late = absurd (Prim.omega (arith, row_place-below m r is, late))
-  late_nothing (variable.Over r) is late = (refl, λ e. absurd Prim.cc)
-  late_nothing (variable.Under r) is late = (refl, λ e. absurd Prim.cc)
-  late_nothing (variable.Offer n) is late = (refl, λ e. absurd Prim.cc)
-  late_nothing variable.Need is late = (refl, λ e. absurd Prim.cc)
-  late_nothing (variable.Room u) is late = (refl, λ e. absurd Prim.cc)
-
   pub duals_all : (t : Taken) (k : ℕ) → length (variables m t) ≤ k → listed_to dual_of (variables m t) k ≡ flat_map (λ r. dual_of (variable.Limit r)) t.limits
   duals_all t k h = limits_listed dual_of m t (λ j. refl) (λ r. refl) (λ r. refl) (λ n. refl) refl refl k h (λ u. refl)
 
@@ -275,16 +185,6 @@ module _ (m : Parts) (cost : ℕ → Fraction) where
   room_dual_of (variable.Offer n) = []
   room_dual_of variable.Need = []
   room_dual_of (variable.Room u) = room_dual_by (unit_at m u).row (cost (room_name m u)) (sign_of (cost (room_name m u)))
-
-  pub no_room_dual : (v : Variable) → ((u : ℕ) → v ≢ variable.Room u) → room_dual_of v ≡ []
-  no_room_dual (variable.Block j) other = refl
-  no_room_dual variable.Balance other = refl
-  no_room_dual (variable.Limit r) other = refl
-  no_room_dual (variable.Over r) other = refl
-  no_room_dual (variable.Under r) other = refl
-  no_room_dual (variable.Offer n) other = refl
-  no_room_dual variable.Need other = refl
-  no_room_dual (variable.Room u) other = absurd (other u refl)
 
   pub room_duals_all : (t : Taken) (k : ℕ) → length (variables m t) ≤ k → listed_to room_dual_of (variables m t) k ≡ flat_map (λ u. room_dual_of (variable.Room u)) t.rooms
   room_duals_all t k h = rooms_listed room_dual_of m t (λ j. refl) (λ r. refl) (λ r. refl) (λ n. refl) refl refl k h (λ r. refl)

@@ -2,17 +2,31 @@
 //! limits follow in the market's order, and behind all of them the columns of soft ones, two for each limit; then the offers of reserve
 //! by their places, the need, and the rooms by the places of their units.
 
-ghost use Rattle.std.specs.Prelude.{◌≡◌, ◌<◌, ◌++◌, [], length, map, Contains, IfOk};
+ghost use Rattle.std.specs.Prelude.{◌≡◌, ◌<◌, [], length, map, Contains, IfOk};
 ghost use Rattle.market_model.specs.LimitRows.{rows};
 ghost use Rattle.market_model.specs.Optimality.{all_of};
-ghost use Rattle.market_system.specs.MarketSystem.{name as name_in, over_name, offer_name, need_name, block_columns, energy_rows, variable_of as variable_named, IsVariableOf};
+ghost use Rattle.market_system.specs.MarketSystem.{name as name_in, over_name, offer_name, need_name, IsVariableOf};
+ghost use Rattle.market_system.specs.declared.variables.Variable.{Variable as VariableOf};
+ghost use Rattle.market_dict.specs.Kinds.{kind_of};
 ghost use Rattle.market_dict.specs.Takings.{columns_put};
 
-use limit_rows::{count, place_of, row_at};
+use limit_rows::{count, place_of};
 use market_model::{Market, Row};
 use market_system::Variable;
 use plain_list::{List, Memory};
 use std::alloc::Global;
+
+/// What a variable is to duals: a row, and which, or a column.
+#[derive(Clone, Copy, Debug)]
+pub(crate) enum Kind {
+    Column,
+    Balance,
+    /// By its place among the market's limits.
+    Limit(usize),
+    Need,
+    /// By the place of its unit.
+    Room(usize),
+}
 
 /// The name of the first of a limit's two columns.
 fn over_name(market: &Market, row: Row) -> usize
@@ -42,7 +56,7 @@ pub(crate) fn offer_name_behind(market: &Market, first: usize, place: usize) -> 
 }
 
 /// The name of the need of reserve. The offers are before it, and the rooms behind it.
-pub(crate) fn need_name(market: &Market) -> usize
+fn need_name(market: &Market) -> usize
     ensures { result ≡ need_name market.now }
 {
     let _lines = market.lines();
@@ -68,21 +82,29 @@ pub(crate) fn name_of(market: &Market, variable: Variable) -> u32
     }
 }
 
-/// The variable of a name before those of the columns of soft limits.
-pub(crate) fn variable_of(market: &Market, name: u32) -> Variable
-    requires { Contains (map (name_in market.now) (block_columns market.now ++ energy_rows (all_of market.now))) name }
-    ensures { result ≡ variable_named market.now (all_of market.now) name }
+/// What the variable of a name is to duals, in a market of so many limits.
+pub(crate) fn kind_of(market: &Market, limits: usize, name: u32) -> Kind
+    requires { limits ≡ length (rows market.now) }
+    ensures { (v : VariableOf) → IsVariableOf market.now (all_of market.now) v → name ≡ name_in market.now v → result ≡ kind_of market.now v }
 {
     let _lines = market.lines();
-    let blocks = market.blocks().len();
     let place = name as usize;
-    if place < blocks {
-        return Variable::Block(place);
+    let balance = market.blocks().len();
+    let columns = balance + 1 + limits;
+    let need = columns + 2 * limits + market.reserve().offers.len();
+    if place < balance {
+        Kind::Column
+    } else if place == balance {
+        Kind::Balance
+    } else if place < columns {
+        Kind::Limit(place - balance - 1)
+    } else if place < need {
+        Kind::Column
+    } else if place == need {
+        Kind::Need
+    } else {
+        Kind::Room(place - need - 1)
     }
-    if place == blocks {
-        return Variable::Balance;
-    }
-    Variable::Limit(row_at(market, place - blocks - 1))
 }
 
 /// The names of the columns that a dictionary begins with: the blocks, and then the offers of reserve.

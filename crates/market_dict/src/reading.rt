@@ -15,10 +15,10 @@ ghost use Rattle.market_dict.specs.Holding.{HoldsMarket, HoldsSystem};
 ghost use Rattle.market_dict.specs.Takings.{taken_of};
 ghost use Rattle.market_dict.specs.declared.taking.Taking.{Taking};
 
-use crate::names::{first_offer_name, name_of, offer_name_behind, variable_of};
+use crate::names::{Kind, first_offer_name, kind_of, name_of, offer_name_behind};
 use crate::reserve_prices::{reserve_price, room_prices};
 use exact_fraction::{Exact, Passed, Sign, exact_difference};
-use limit_rows::{count, name_at};
+use limit_rows::{count, id};
 use linear_dict::{Dict, Place};
 use market_model::{Dual, Duals, Market, RowId, datum};
 use market_system::Variable;
@@ -83,7 +83,7 @@ fn push_dual<N: Exact>(limits: &mut List<Dual<N>>, row: RowId, cost: N) -> Resul
 }
 
 /// The price of energy and those of the limits taken, by what a MW costs on the balance and on their flows, of what it costs on each
-/// variable by rank. The columns of soft limits and all of reserve are behind these, and nothing of theirs is read.
+/// variable by rank.
 fn energy_prices<N: Exact>(
     alloc: Global,
     market: &Market,
@@ -98,23 +98,16 @@ fn energy_prices<N: Exact>(
         → IfOk result (λ prices. map (dual_at N.value) prices.1 ≡ (duals_by_cost market.now (taken_of ts) cost).limits) }
 {
     let _lines = market.lines();
+    let all = count(market);
     let mut energy: N = datum(0);
     let mut limits = List::new(alloc);
-    let behind = market.blocks().len() + 1 + count(market);
     for rank in 0..costs.len() {
-        let name = dict.ranked(rank);
-        if name as usize >= behind {
-            continue;
-        }
-        match variable_of(market, name) {
-            Variable::Balance => energy = costs[rank].neg(),
-            Variable::Limit(row) => push_dual(&mut limits, name_at(market, row), costs[rank])?,
-            Variable::Block(_) => {}
-            Variable::Over(_) => {}
-            Variable::Under(_) => {}
-            Variable::Offer(_) => {}
-            Variable::Need => {}
-            Variable::Room(_) => {}
+        match kind_of(market, all, dict.ranked(rank)) {
+            Kind::Balance => energy = costs[rank].neg(),
+            Kind::Limit(place) => push_dual(&mut limits, id(market, place), costs[rank])?,
+            Kind::Column => {}
+            Kind::Need => {}
+            Kind::Room(_) => {}
         }
     }
     Ok((energy, limits))

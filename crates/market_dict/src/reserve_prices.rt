@@ -9,8 +9,9 @@ ghost use Rattle.market_dict.specs.Holding.{HoldsMarket};
 ghost use Rattle.market_dict.specs.Takings.{taken_of};
 ghost use Rattle.market_dict.specs.declared.taking.Taking.{Taking};
 
-use crate::names::{name_of, need_name};
+use crate::names::{Kind, kind_of, name_of};
 use exact_fraction::{Exact, Sign};
+use limit_rows::count;
 use linear_dict::Dict;
 use market_model::{Market, RoomDual, datum};
 use market_system::Variable;
@@ -52,8 +53,7 @@ fn push_room_dual<N: Exact>(rooms: &mut List<RoomDual<N>>, unit: u32, cost: N) -
     }
 }
 
-/// The prices of the rooms taken, of what a MW costs on each variable by rank. Their names are behind that of the need, in the order of
-/// the units.
+/// The prices of the rooms taken, of what a MW costs on each variable by rank.
 pub(crate) fn room_prices<N: Exact>(
     alloc: Global,
     market: &Market,
@@ -66,13 +66,17 @@ pub(crate) fn room_prices<N: Exact>(
         → IfOk result (λ rooms. map (room_dual_at N.value) rooms ≡ (duals_by_cost market.now (taken_of ts) cost).rooms) }
 {
     let _lines = market.lines();
-    let need = need_name(market);
+    let all = count(market);
     let mut rooms = List::new(alloc);
     for rank in 0..costs.len() {
-        let name = dict.ranked(rank) as usize;
-        if name > need {
-            let unit = market.units().at(name - need - 1);
-            push_room_dual(&mut rooms, unit.row, costs[rank])?;
+        match kind_of(market, all, dict.ranked(rank)) {
+            Kind::Room(unit) => {
+                push_room_dual(&mut rooms, market.units().at(unit).row, costs[rank])?;
+            }
+            Kind::Column => {}
+            Kind::Balance => {}
+            Kind::Limit(_) => {}
+            Kind::Need => {}
         }
     }
     Ok(rooms)
