@@ -1,6 +1,6 @@
 //! The rows of a small market, worked by hand.
 
-ghost use Rattle.std.specs.Prelude.{◌≡◌, ◌∷◌, [], pos, negsuc, None, Some, IfOk};
+ghost use Rattle.std.specs.Prelude.{◌≡◌, ◌<◌, ◌^◌, ◌∷◌, [], unsigned_abs, pos, negsuc, None, Some, IfOk};
 ghost use Rattle.market_model.specs.Lines.{hard_line};
 ghost use Rattle.market_model.specs.Market.{bare_parts};
 
@@ -250,17 +250,21 @@ fn flows_of_whole_numbers_and_of_others(rt: HostRuntime) -> Result<(), Fail> {
     Ok(())
 }
 
-/// So many times 10^18, in 63 bits.
-fn large(number: i8) -> Frac63 {
-    Frac63::of_parts(i64::from(number) * 1_000_000_000_000_000_000, 1)
+/// A whole number, in 63 bits.
+fn whole_number(number: i64) -> Frac63
+    requires { unsigned_abs number < 2 ^ 63 }
+{
+    Frac63::of_parts(number, 1)
 }
 
 #[test]
 fn flows_that_are_too_large(rt: HostRuntime) -> Result<(), Fail> {
     let market = one_outage(rt.alloc())?;
-    let fits = flows_at(&market, [large(0), large(8), large(-8)]);
-    assert!(rt; fits == Some([large(-2), large(2), large(0)]));
-    let three = Frac63::of_parts(3, 1);
-    assert!(rt; flows_at(&market, [large(0), large(8), three]).is_none());
+    let nothing = whole_number(0);
+    let most = whole_number(8_000_000_000_000_000_000);
+    let flow = whole_number(2_000_000_000_000_000_000);
+    let fits = flows_at(&market, [nothing, most, most.neg()]);
+    assert!(rt; fits == Some([flow.neg(), flow, nothing]));
+    assert!(rt; flows_at(&market, [nothing, most, whole_number(3)]).is_none());
     Ok(())
 }
