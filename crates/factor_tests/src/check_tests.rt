@@ -7,7 +7,7 @@ use std::process::Abort;
 use std::test::Fail;
 
 /// Three buses that are joined in a triangle.
-const TRIANGLE: &str = "function mpc = t3
+pub const TRIANGLE: &str = "function mpc = t3
 mpc.version = '2';
 mpc.baseMVA = 100;
 mpc.bus = [
@@ -66,9 +66,9 @@ const SHIFT: &str =
 const LOSS: &str = "branch,outage,factor\n2,1,1\n3,1,-1\n1,2,1\n3,2,1\n1,3,-1\n2,3,1\n";
 
 /// Tables without records, of outage factors and of outages.
-const NO_LOSS: &str = "branch,outage,factor\n";
+pub const NO_LOSS: &str = "branch,outage,factor\n";
 
-const NO_OUTAGES: &str = "branch\n";
+pub const NO_OUTAGES: &str = "branch\n";
 
 /// Too little flows over branch 2 for bus 3.
 const SHIFT_OFF: &str =
@@ -87,7 +87,7 @@ const SHIFT_OVER: &str =
     "bus most 0.01 at 1 for 3\nbus over 0.01 bound 0.000001 at 1 for 3\nloop most -0.001 at 3 for 3\nloop over -0.001 bound 0.0000002 at 3 for 3\noutage bus none\noutage loop none\n";
 
 /// Checks the three tables against the case, and compares.
-fn expect<R: Abort + AllocGlobal>(
+pub fn expect<R: Abort + AllocGlobal>(
     rt: &R,
     texts: [&str; 4],
     want: (Status, &str),
