@@ -23,7 +23,7 @@ use Rattle.market_model.specs.LimitRows.{IsCauseOf, loses, lost_unit, pickup_fac
 use Rattle.market_model.specs.Market.{IsMarket}
 use Rattle.market_model.specs.NamedSums.{IsRefusedIn, IsShareRefusal}
 use Rattle.market_model.specs.Optimality.{names_row, named_rows, net_shadow_price, own_price, own_terms}
-use Rattle.market_model.specs.SumTables.{IsFactorRefusal, IsRefusedAmong, OwnPriceSum, PickupSum, factor_of_pickup, own_price_of_unit}
+use Rattle.market_model.specs.SumTables.{IsPickupRefusal, IsRefusedAmong, OwnPriceSum, PickupSum, own_price_of_unit}
 use Rattle.market_model.specs.Valued.{total_at}
 use Rattle.market_model.proofs.MorePlaces.{sum_by_more}
 use Rattle.market_model.proofs.PlaceLists.{all_put, filled_at, put_read}
@@ -190,8 +190,8 @@ module _ (m : Parts) (d : Duals Fraction) (price : ℕ → Fraction) (u : ℕ) w
 pub share_refused : (m : Parts) (d : Duals Fraction) (price : ℕ → Fraction) (k : ℕ) (e : Dual Fraction) (r s : Row) (net : Fraction) (bound : ℕ) (p : Passed Fraction) → IsRowOfDual m d k e r
     → net ≡ neg_ℚ (e.up -ℚ e.down) → s ≡ r
     → ((u : ℕ) × (u < length m.units) × (loses m u s.cause ≡ true) × IsShareRefusal (own_to m d price u k) net (row_pickup m s.line s.cause) bound p) ⊎ IsRefusedAmong (PickupSum m s) bound p
-    → IsRefusedAmong (OwnPriceSum m d price) bound p ⊎ IsFactorRefusal m (named_rows m d) bound p
+    → IsRefusedAmong (OwnPriceSum m d price) bound p ⊎ IsPickupRefusal m (named_rows m d) bound p
 share_refused m d price k e r s net bound p h is same (inl (u, inside, lost, why)) =
     inl (own_terms m d price u, own_price_of_unit u inside, own_refused m d price u k e r h s net is same bound p lost why)
 share_refused m d price k e r s net bound p h is same (inr why) =
-    let at_row = subst (λ (t : Row). IsRefusedAmong (PickupSum m t) bound p) same why in inr (r, (k, h.inside, sym h.at), (at_row.0, factor_of_pickup at_row.0 at_row.1, at_row.2))
+    inr (r, (k, h.inside, sym h.at), subst (λ (t : Row). IsRefusedAmong (PickupSum m t) bound p) same why)

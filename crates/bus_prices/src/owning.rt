@@ -6,7 +6,7 @@ ghost use Rattle.market_model.specs.Dispatch.{places, unit_at};
 ghost use Rattle.market_model.specs.LimitRows.{loses, row_pickup, IsCauseOf};
 ghost use Rattle.market_model.specs.NamedSums.{IsShareRefusal};
 ghost use Rattle.market_model.specs.Optimality.{named_rows, own_price, ProperDuals};
-ghost use Rattle.market_model.specs.SumTables.{IsFactorRefusal, IsRefusedAmong, OwnPriceSum, PickupSum};
+ghost use Rattle.market_model.specs.SumTables.{IsPickupRefusal, IsRefusedAmong, OwnPriceSum, PickupSum};
 ghost use Rattle.market_model.specs.Valued.{duals_at, passed_at, total_at};
 ghost use Rattle.bus_prices.specs.PriceParts.{added_to_own};
 
@@ -64,7 +64,7 @@ pub fn own<N: Exact>(
     ensures count { length out.new ≡ length out.old }
     ensures own { IfOk result (λ _. map N.value out.new ≡ map (own_price market.now (duals_at N.value duals.now) (total_at N.value prices.now)) (places (length market.now.units))) }
     ensures cause { IfErr result (λ passed. IsRefusedAmong (OwnPriceSum market.now (duals_at N.value duals.now) (total_at N.value prices.now)) N.bound (passed_at N.value passed)
-        ⊎ IsFactorRefusal market.now (named_rows market.now (duals_at N.value duals.now)) N.bound (passed_at N.value passed)) }
+        ⊎ IsPickupRefusal market.now (named_rows market.now (duals_at N.value duals.now)) N.bound (passed_at N.value passed)) }
 {
     let _lines = market.lines();
     put_bus_prices(market, prices, out);

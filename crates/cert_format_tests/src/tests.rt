@@ -1,6 +1,7 @@
 use cert_format::{CertFault, Key, from_json, outcome_json, to_json};
 use exact_fraction::{Exact, Frac63, Op, Passed};
-use market_model::{Dual, Duals, FactorPlaces, Farkas, List, Outcome, RoomDual, RowId};
+use market_model::{Dual, Duals, FactorPlaces, Farkas, List, Memory, Outcome, RoomDual, RowId};
+use std::alloc::Global;
 use std::test::Fail;
 
 /// A dispatch with a limit that binds after an outage.
@@ -180,23 +181,38 @@ static FAULTS: [(&str, Key); 45] = [
     ),
 ];
 
+/// Whether a text is written anew so.
+fn is_rewritten(alloc: Global, text: &str, want: &str) -> Result<bool, CertFault> {
+    let cert = from_json(alloc, text.as_bytes())?;
+    match to_json(alloc, &cert) {
+        Ok(written) => Ok(written.as_slice() == want.as_bytes()),
+        Err(Memory) => Err(CertFault::Memory),
+    }
+}
+
 #[test]
 fn writes_what_it_reads(rt: HostRuntime) -> Result<(), Fail> {
     for text in [OPTIMAL, FARKAS, LOST, WITH_RESERVE, SHORT] {
-        let cert = from_json(rt.alloc(), text.as_bytes())?;
-        let written = to_json(rt.alloc(), &cert)?;
-        assert_eq!(rt; written.as_slice(), text.as_bytes());
+        assert!(rt; is_rewritten(rt.alloc(), text, text)?, "{text}");
     }
     Ok(())
+}
+
+/// Why a text is no certificate.
+fn fault_of(alloc: Global, text: &str) -> Option<CertFault> {
+    match from_json(alloc, text.as_bytes()) {
+        Ok(_) => None,
+        Err(fault) => Some(fault),
+    }
 }
 
 #[test]
 fn tells_the_first_fault(rt: HostRuntime) -> Result<(), Fail> {
     for (text, key) in &FAULTS {
-        match from_json(rt.alloc(), text.as_bytes()) {
-            Ok(_) => assert!(rt; false),
-            Err(fault) => assert_eq!(rt; fault, CertFault::Key { key: *key }),
-        }
+        assert_eq!(rt;
+            fault_of(rt.alloc(), text),
+            Some(CertFault::Key { key: *key })
+        );
     }
     Ok(())
 }
@@ -206,18 +222,47 @@ fn tells_the_first_fault(rt: HostRuntime) -> Result<(), Fail> {
 fn reads_the_greatest_and_any_order(rt: HostRuntime) -> Result<(), Fail> {
     let text = r#" {"version" : 1, "limits":[], "kind":"farkas",
         "energy":"-170141183460469231731687303715884105727/170141183460469231731687303715884105726"} "#;
-    let cert = from_json(rt.alloc(), text.as_bytes())?;
-    let written = to_json(rt.alloc(), &cert)?;
-    assert_eq!(rt;
-        written.as_slice(),
-        br#"{"energy":"-170141183460469231731687303715884105727/170141183460469231731687303715884105726","kind":"farkas","limits":[],"places":6,"version":2}"#.as_slice()
-    );
+    let written =
+        r#"{"energy":"-170141183460469231731687303715884105727/170141183460469231731687303715884105726","kind":"farkas","limits":[],"places":6,"version":2}"#;
+    assert!(rt; is_rewritten(rt.alloc(), text, written)?);
     Ok(())
 }
 
-#[test]
-fn writes_outcomes(rt: HostRuntime) -> Result<(), Fail> {
-    let mut limits = List::new(rt.alloc());
+/// Whether the certificate of an outcome is written so.
+fn is_written(
+    alloc: Global,
+    places: FactorPlaces,
+    listed: bool,
+    outcome: &Outcome<Frac63>,
+    want: &str,
+) -> Result<bool, Memory> {
+    match outcome_json(alloc, places, listed, outcome)? {
+        Some(written) => Ok(written.as_slice() == want.as_bytes()),
+        None => Ok(false),
+    }
+}
+
+/// Duals that show that no dispatch is feasible, with these of limits and of rooms.
+fn infeasible(
+    energy: i32,
+    reserve: i32,
+    limits: List<Dual<Frac63>>,
+    rooms: List<RoomDual<Frac63>>,
+) -> Outcome<Frac63> {
+    Outcome::Infeasible(Farkas {
+        duals: Duals {
+            energy: Frac63::of_parts(i64::from(energy), 1),
+            limits,
+            reserve: Frac63::of_parts(i64::from(reserve), 1),
+            rooms,
+        },
+        bound: Frac63::of_parts(-10, 1),
+    })
+}
+
+/// The limit of branch 2 in the base.
+fn one_limit(alloc: Global) -> Result<List<Dual<Frac63>>, Memory> {
+    let mut limits = List::new(alloc);
     limits.push(Dual {
         row: RowId {
             branch: 2,
@@ -227,58 +272,60 @@ fn writes_outcomes(rt: HostRuntime) -> Result<(), Fail> {
         up: Frac63::of_parts(2, 1),
         down: Frac63::of_parts(0, 1),
     })?;
-    let farkas = Outcome::Infeasible(Farkas {
-        duals: Duals {
-            energy: Frac63::of_parts(-1, 1),
-            limits,
-            reserve: Frac63::of_parts(0, 1),
-            rooms: List::new(rt.alloc()),
-        },
-        bound: Frac63::of_parts(-10, 1),
-    });
-    match outcome_json(rt.alloc(), FactorPlaces::Nine, false, &farkas)? {
-        Some(written) => assert_eq!(rt; written.as_slice(), FARKAS.as_bytes()),
-        None => assert!(rt; false),
-    }
+    Ok(limits)
+}
+
+/// The room of unit 3.
+fn one_room(alloc: Global) -> Result<List<RoomDual<Frac63>>, Memory> {
+    let mut rooms = List::new(alloc);
+    rooms.push(RoomDual {
+        unit: 3,
+        price: Frac63::of_parts(1, 2),
+    })?;
+    Ok(rooms)
+}
+
+/// Whether an outcome whose numbers are too large has no certificate.
+fn has_none_of_range(alloc: Global) -> Result<bool, Memory> {
     let range = Outcome::Range(Passed {
         op: Op::Plus,
         left: Frac63::of_parts(1, 1),
         right: Frac63::of_parts(2, 1),
     });
-    assert!(rt; outcome_json(rt.alloc(), FactorPlaces::Six, true, &range)?.is_none());
+    match outcome_json(alloc, FactorPlaces::Six, true, &range)? {
+        Some(_) => Ok(false),
+        None => Ok(true),
+    }
+}
+
+#[test]
+fn writes_outcomes(rt: HostRuntime) -> Result<(), Fail> {
+    let alloc = rt.alloc();
+    assert!(rt; has_none_of_range(alloc)?);
+    let farkas = infeasible(-1, 0, one_limit(alloc)?, List::new(alloc));
+    assert!(rt; is_written(alloc, FactorPlaces::Nine, false, &farkas, FARKAS)?);
     Ok(())
+}
+
+/// The outcome of reserve that is short, where it is listed.
+const LISTED: &str =
+    r#"{"energy":"0/1","kind":"farkas","limits":[],"places":6,"reserve":{"price":"1/1","units":[{"dual":"1/2","unit":3}]},"version":3}"#;
+
+/// The same where it is not.
+const UNLISTED: &str = r#"{"energy":"0/1","kind":"farkas","limits":[],"places":6,"version":2}"#;
+
+/// Whether the part on reserve is written where that is listed.
+fn is_written_where_listed(alloc: Global, farkas: &Outcome<Frac63>) -> Result<bool, Memory> {
+    let listed = is_written(alloc, FactorPlaces::Six, true, farkas, LISTED)?;
+    let unlisted = is_written(alloc, FactorPlaces::Six, false, farkas, UNLISTED)?;
+    Ok(listed && unlisted)
 }
 
 /// The part on reserve is written where that is listed, of any market.
 #[test]
 fn writes_what_is_listed(rt: HostRuntime) -> Result<(), Fail> {
-    let mut rooms = List::new(rt.alloc());
-    rooms.push(RoomDual {
-        unit: 3,
-        price: Frac63::of_parts(1, 2),
-    })?;
-    let farkas = Outcome::Infeasible(Farkas {
-        duals: Duals {
-            energy: Frac63::of_parts(0, 1),
-            limits: List::new(rt.alloc()),
-            reserve: Frac63::of_parts(1, 1),
-            rooms,
-        },
-        bound: Frac63::of_parts(-10, 1),
-    });
-    match outcome_json(rt.alloc(), FactorPlaces::Six, true, &farkas)? {
-        Some(written) => assert_eq!(rt;
-            written.as_slice(),
-            br#"{"energy":"0/1","kind":"farkas","limits":[],"places":6,"reserve":{"price":"1/1","units":[{"dual":"1/2","unit":3}]},"version":3}"#.as_slice()
-        ),
-        None => assert!(rt; false),
-    }
-    match outcome_json(rt.alloc(), FactorPlaces::Six, false, &farkas)? {
-        Some(written) => assert_eq!(rt;
-            written.as_slice(),
-            br#"{"energy":"0/1","kind":"farkas","limits":[],"places":6,"version":2}"#.as_slice()
-        ),
-        None => assert!(rt; false),
-    }
+    let alloc = rt.alloc();
+    let farkas = infeasible(0, 1, List::new(alloc), one_room(alloc)?);
+    assert!(rt; is_written_where_listed(alloc, &farkas)?);
     Ok(())
 }

@@ -1,4 +1,4 @@
--- Rooms that duals name, and the sums of reserve.
+-- Rooms that duals name, and what reserve adds to the bound of duals.
 use Rattle.std.specs.Prelude.{◌≡◌, ◌≢◌, ◌⊎◌, ◌==◌, ◌||◌, ℕ, ◌+◌, ◌<◌, ◌≤◌, Bool, true, false, List, [], ◌∷◌, ◌++◌, map, filter, length, take, Option, Some, None, Contains, MatchOption, if◌then◌else◌, refl}
 use Rattle.std.proofs.Common.{arith, inl, inr, ap, ap₂, sym, subst, ◌∙◌, append_assoc, drop, get_or}
 use Rattle.std.proofs.lemmas.List.{append-nil, map-append, get_or-map, length-map, take_all}
@@ -9,7 +9,7 @@ use Rattle.fraction_theory.proofs.FieldLaws.{ring_ℚ, +ℚ_nil, +ℚ_assoc}
 use Rattle.fraction_theory.proofs.ListSums.{Contains-cases, Contains-cons, Contains-filter, Contains-from_filter, Contains-head, kept, sum_by-filter}
 use Rattle.fraction_theory.proofs.Ring.{by_ring, at, neg_neg, pneg, pnil, ◌⊕◌, ◌⊗◌}
 use Rattle.fraction_theory.proofs.SumLaws.{sum_by-same, total-append, total-map}
-use Rattle.exact_fraction.specs.declared.Op.TheVariants.{Minus, Plus}
+use Rattle.exact_fraction.specs.declared.Op.TheVariants.{Minus}
 use Rattle.exact_fraction.specs.declared.Passed.{Passed}
 use Rattle.market_model.specs.declared.answered.Duals.{Duals}
 use Rattle.market_model.specs.declared.answered.RoomDual.{RoomDual}
@@ -21,48 +21,14 @@ use Rattle.market_model.specs.NamedSums.{IsRefusal, IsRefusedIn, IsShareRefusal}
 use Rattle.market_model.specs.Optimality.{named_rooms, names_room, reserve_worth_terms, room_price, room_price_in, unit_price, worth_terms}
 use Rattle.market_model.specs.Reserves.{offer_places, offers_reserve, reserve_need, reserve_units, room}
 use Rattle.market_model.specs.SumTables.{IsRefusedAmong, WorthSum, energy_of_unit, reserve_of_unit}
-use Rattle.market_model.proofs.MorePlaces.{sum_by_more, total-filter_more, total-places_more}
-use Rattle.market_model.proofs.RowMembers.{Contains-places, Contains-from_places}
-use Rattle.market_model.proofs.SumSteps.{behind, in_front, minus_at, plus_at, share_at, terms_at, tested_at}
+use Rattle.market_model.proofs.MorePlaces.{sum_by_more, total-places_more}
+use Rattle.market_model.proofs.RoomLemmas.{listed-inside, offers-listed}
+use Rattle.market_model.proofs.SumSteps.{behind, in_front, minus_at, share_at, terms_at}
 use Rattle.cert_sums.specs.declared.worths.NamedRoom.{NamedRoom}
 use Rattle.cert_sums.specs.Bounds.{energy_left_terms, need_terms}
 use Rattle.cert_sums.specs.Named.{AreNamedRooms, PricedRoom, room_in, room_priced_at, room_priced_by}
 use Rattle.cert_sums.proofs.BoundLemmas.{farkas_terms_are}
 use Rattle.cert_sums.proofs.NamedLemmas.{filter_at}
-
--- ---- numbers that count where a test holds, behind other terms
-module _ (front : List Term) (test : ℕ → Bool) (f : ℕ → Fraction) where
-  abbrev pub counted_to : ℕ → List Term
-  counted_to k = front ++ map (λ i. Plain (f i)) (filter test (places k))
-
-  -- one more
-  pub counted_step : (k : ℕ) (counts : Bool) (part old new : Fraction) → counts ≡ test k → part ≡ f k → old ≡ total (counted_to k) → new ≡ old +ℚ (if counts then part else zero)
-      → new ≡ total (counted_to (k + 1))
-  counted_step k counts part old new is here before e =
-      let so_far : List Term = map (λ i. Plain (f i)) (filter test (places k)) in
-      let more : Fraction = if test k then f k else zero in
-      e ∙ ap₂ (λ (b : Bool) t. old +ℚ (if b then t else zero)) is here
-      ∙ ap (λ t. t +ℚ more) (before ∙ total-append front so_far)
-      ∙ +ℚ_assoc (total front) (total so_far) more
-      ∙ ap (λ t. total front +ℚ t) (sym (total-filter_more test (λ i. Plain (f i)) k))
-      ∙ sym (total-append front (map (λ i. Plain (f i)) (filter test (places (k + 1)))))
-
-  -- it is added, in front of the rest
-  pub counted_refused : (rest terms : List Term) (n k : ℕ) (counts : Bool) (part sum : Fraction) (bound : ℕ) (p : Passed Fraction) → terms ≡ counted_to n ++ rest → k < n → counts ≡ test k → counts ≡ true
-      → part ≡ f k → sum ≡ total (counted_to k) → IsRefusal Plus sum part bound p → IsRefusedIn terms bound p
-  counted_refused rest terms n k counts part sum bound p all below is true_ here before h =
-      let t = tested_at test (λ i. Plain (f i)) n k below (sym is ∙ true_) in
-      plus_at terms (counted_to k) (t.0 ++ rest) (Plain (f k))
-      (all ∙ in_front (counted_to n) (counted_to k) t.0 rest (Plain (f k))
-      (behind front (map (λ i. Plain (f i)) (filter test (places n))) (map (λ i. Plain (f i)) (filter test (places k))) t.0 (Plain (f k)) t.1))
-      bound p sum part before here h
-
--- ---- units that offer reserve
-pub offers-listed : (m : Parts) (u : ℕ) → u < length m.units → offers_reserve m u ≡ true → Contains (reserve_units m) u
-offers-listed m u lt offers = Contains-filter (offers_reserve m) (places (length m.units)) u (Contains-places (length m.units) u lt) offers
-
-pub listed-inside : (m : Parts) (u : ℕ) → Contains (reserve_units m) u → u < length m.units
-listed-inside m u c = Contains-from_places (length m.units) u (Contains-from_filter (offers_reserve m) (places (length m.units)) u c).0
 
 -- ---- a room that is not named is free
 room_unnamed : (ds : List (RoomDual Fraction)) (row : ℕ) → names_room ds row ≡ false → room_price_in ds row ≡ zero

@@ -1,13 +1,12 @@
 //! What reserve adds to the Farkas bound: its need and the rooms, and the most that each offer adds.
 
-ghost use Rattle.std.specs.Prelude.{◌≡◌, ◌<◌, ◌++◌, pos, ◌≤ℤ◌, length, map, IfOk, IfErr};
-ghost use Rattle.fraction_theory.specs.Fraction.{Fraction, whole};
+ghost use Rattle.std.specs.Prelude.{◌≡◌, ◌++◌, length, map, IfOk, IfErr};
+ghost use Rattle.fraction_theory.specs.Fraction.{Fraction};
 ghost use Rattle.fraction_theory.specs.Sums.{total};
 ghost use Rattle.market_model.specs.declared.answered.Duals.{Duals};
 ghost use Rattle.market_model.specs.Dispatch.{places};
 ghost use Rattle.market_model.specs.Infeasibility.{block_most, farkas_bound, farkas_terms, nothing_terms};
 ghost use Rattle.market_model.specs.NamedSums.{IsRefusedIn};
-ghost use Rattle.market_model.specs.Reserves.{room};
 ghost use Rattle.market_model.specs.Valued.{passed_at};
 ghost use Rattle.cert_sums.specs.Bounds.{energy_left_terms, need_terms};
 ghost use Rattle.cert_sums.specs.Named.{AreNamedRooms};
@@ -16,34 +15,7 @@ ghost use Rattle.cert_sums.specs.Pairs.{IsFarkasPair};
 use crate::bounding::with_most;
 use crate::{NamedRoom, reserve_worth};
 use exact_fraction::{Exact, Passed};
-use market_model::{Market, Reserve, ReserveOffer, datum};
-
-/// How much reserve is needed, in 10^-9 MW.
-#[tactic(auto, using(market_data::proofs::Data::datum_read))]
-fn need_of<N: Exact>(reserve: &Reserve) -> N
-    requires { pos 0 ≤ℤ reserve.now.need }
-    ensures { N.value result ≡ whole reserve.now.need }
-{
-    datum(reserve.need)
-}
-
-/// All that an offer has, in 10^-9 MW.
-#[tactic(auto, using(market_data::proofs::Data::datum_read))]
-fn offer_quantity<N: Exact>(offer: &ReserveOffer) -> N
-    requires { pos 0 ≤ℤ offer.now.quantity }
-    ensures { N.value result ≡ whole offer.now.quantity }
-{
-    datum(offer.quantity)
-}
-
-/// The room of a unit, in 10^-9 MW.
-#[tactic(auto, using(market_data::proofs::Data::datum_read))]
-fn room_of<N: Exact>(market: &Market, unit: usize) -> N
-    requires { unit < length market.now.units }
-    ensures { N.value result ≡ room market.now unit }
-{
-    datum(market.units().at(unit).up)
-}
+use market_model::{Market, need_quantity, offer_quantity, room_quantity};
 
 /// A sum with what the price of reserve makes of the need, which counts down. There is none in a market of energy alone.
 pub(crate) fn with_need<N: Exact>(market: &Market, of_limits: N, reserve: N) -> Result<N, Passed<N>>
@@ -51,7 +23,7 @@ pub(crate) fn with_need<N: Exact>(market: &Market, of_limits: N, reserve: N) -> 
     ensures cause { (d : Duals Fraction) → N.value reserve ≡ d.reserve → N.value of_limits ≡ total (energy_left_terms market.now d) → IfErr result (λ passed. IsRefusedIn (farkas_terms market.now d) N.bound (passed_at N.value passed)) }
 {
     if market.reserve().listed {
-        let need: N = need_of(market.reserve());
+        let need: N = need_quantity(market.reserve());
         of_limits.plus_product(reserve, need.neg())
     } else {
         Ok(of_limits)
@@ -70,7 +42,7 @@ pub(crate) fn with_rooms<N: Exact>(
 {
     let mut sum = of_need;
     for entry in rooms {
-        sum = sum.plus_product(entry.price, room_of(market, entry.unit))?;
+        sum = sum.plus_product(entry.price, room_quantity(market, entry.unit))?;
     }
     Ok(sum)
 }

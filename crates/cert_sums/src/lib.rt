@@ -1,5 +1,5 @@
 //! What the numbers of a certificate add up to at a market: the arithmetic of a verifier. It shares no code with the clearing but
-//! the exact numbers, the market and its limit rows, with their injections, outputs and flows.
+//! the exact numbers, the market and its limit rows, with their injections, outputs, flows and rooms.
 #![tactic(auto)]
 
 mod bounding;
@@ -8,14 +8,12 @@ mod flowing;
 mod own_pricing;
 mod pricing;
 mod putting;
-mod reserving;
 mod worths;
 
 pub use bounding::farkas_bound;
 pub use flowing::carried_flows;
 pub use pricing::{NamedRow, unit_price};
 pub use putting::injections;
-pub use reserving::{offers_reserve, reserve_in_all, room_used};
 pub use worths::{NamedRoom, energy_worth, reserve_worth};
 
 #[cfg(test)]

@@ -28,9 +28,9 @@ use crate::limits::broken_limit;
 use crate::naming::named_rows;
 use crate::offers::{negative_need, outside_offer, short_need, slack_need, unsupported_offer};
 use crate::rooms::{missing_unit, named_rooms, negative_room, overfull_room, slack_room};
-use cert_sums::{NamedRoom, NamedRow, energy_worth, farkas_bound, reserve_in_all};
+use cert_sums::{NamedRoom, NamedRow, energy_worth, farkas_bound};
 use exact_fraction::{Exact, Passed};
-use market_model::{Dual, List, Market, Memory, RoomDual, Stop};
+use market_model::{Dual, List, Market, Memory, RoomDual, Stop, reserve_in_all};
 use std::alloc::Global;
 
 /// What may be wrong with the names and the signs of duals.

@@ -3,7 +3,6 @@
 #![tactic(auto)]
 
 mod against;
-mod amounts;
 mod blocks;
 mod comparing;
 mod duals;

@@ -11,11 +11,10 @@ ghost use Rattle.cert_sums.specs.Named.{AreNamedRooms};
 ghost use Rattle.cert_verify.specs.Reasons.{is_slack, need_reason, need_sign_reason, need_slack_reason, reserve_reason, reserve_support_reason};
 
 use crate::Reason;
-use crate::amounts::{need_of, offer_price, offer_quantity};
 use crate::comparing::{breaks_support, differ, is_below, is_negative, is_outside};
 use cert_sums::{NamedRoom, reserve_worth};
 use exact_fraction::{Exact, Passed};
-use market_model::{Market, Side, datum};
+use market_model::{Market, Side, datum, need_quantity, offer_price, offer_quantity};
 
 /// Whether the price of reserve is below 0.
 pub(crate) fn negative_need<N: Exact>(price: N) -> Option<Reason>
@@ -45,7 +44,7 @@ pub(crate) fn outside_offer<N: Exact>(market: &Market, quantities: &[N]) -> Opti
 pub(crate) fn short_need<N: Exact>(market: &Market, accepted: N) -> Option<Reason>
     ensures { (x : Dispatch) → N.value accepted ≡ reserve market.now x → result ≡ need_reason market.now x }
 {
-    if is_below(accepted, need_of(market.reserve())) {
+    if is_below(accepted, need_quantity(market.reserve())) {
         Some(Reason::Need)
     } else {
         None
@@ -63,7 +62,7 @@ pub(crate) fn is_slack<N: Exact>(price: N, used: N, all: N) -> bool
 pub(crate) fn slack_need<N: Exact>(market: &Market, price: N, accepted: N) -> Option<Reason>
     ensures { (x : Dispatch) → N.value accepted ≡ reserve market.now x → result ≡ need_slack_reason market.now x (N.value price) }
 {
-    if is_slack(price, accepted, need_of(market.reserve())) {
+    if is_slack(price, accepted, need_quantity(market.reserve())) {
         Some(Reason::NeedSlack)
     } else {
         None

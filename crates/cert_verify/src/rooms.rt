@@ -12,12 +12,11 @@ ghost use Rattle.cert_verify.specs.Naming.{IsPriceOf};
 ghost use Rattle.cert_verify.specs.Reasons.{has_offer, has_room_slack, room_reason, room_sign_reason, room_slack_reason, unit_reason};
 
 use crate::Reason;
-use crate::amounts::room_of;
 use crate::comparing::{is_below, is_negative};
 use crate::offers::is_slack;
-use cert_sums::{NamedRoom, offers_reserve, room_used};
+use cert_sums::NamedRoom;
 use exact_fraction::{Exact, Passed};
-use market_model::{List, Market, Memory, RoomDual};
+use market_model::{List, Market, Memory, RoomDual, offers_reserve, room_quantity, room_used};
 use std::alloc::Global;
 
 /// Whether the unit of that gen row offers reserve.
@@ -82,7 +81,7 @@ pub(crate) fn overfull_room<N: Exact>(
     for (at, unit) in market.units().slice().iter().enumerate() {
         if offers_reserve(market, at) {
             let used = room_used(market, at, blocks, quantities)?;
-            if is_below(room_of(unit), used) {
+            if is_below(room_quantity(market, at), used) {
                 return Ok(Some(Reason::Room { unit: unit.row }));
             }
         }
@@ -105,7 +104,7 @@ fn has_room_slack<N: Exact>(
     for (at, unit) in market.units().slice().iter().enumerate() {
         if unit.row == dual.unit && offers_reserve(market, at) {
             let used = room_used(market, at, blocks, quantities)?;
-            if is_slack(dual.price, used, room_of(unit)) {
+            if is_slack(dual.price, used, room_quantity(market, at)) {
                 return Ok(true);
             }
         }

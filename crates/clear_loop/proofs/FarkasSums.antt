@@ -10,7 +10,6 @@ use Rattle.fraction_theory.specs.declared.Sign.{Sign}
 use Rattle.fraction_theory.specs.declared.Sign.TheVariants.{Below, Zero}
 use Rattle.fraction_theory.specs.Sums.{sum_by, Term, Plain, Product, total}
 use Rattle.fraction_theory.proofs.FieldLaws.{ring_ℚ, +ℚ_nil, +ℚ_assoc}
-use Rattle.fraction_theory.proofs.ListSums.{Contains-filter}
 use Rattle.fraction_theory.proofs.Ring.{by_ring, at, pneg, pnil, neg_neg, ◌⊕◌, ◌⊗◌}
 use Rattle.fraction_theory.proofs.SumLaws.{total-append}
 use Rattle.exact_fraction.specs.declared.Op.TheVariants.{Minus, Times}
@@ -21,18 +20,17 @@ use Rattle.market_model.specs.declared.limits.Row.{Row}
 use Rattle.market_model.specs.declared.participants.Parts.{Parts}
 use Rattle.market_model.specs.Dispatch.{places, zero, balance, empty, quantity, reserve_quantity, unit_at}
 use Rattle.market_model.specs.Infeasibility.{block_most, block_weight, farkas_bound, farkas_terms, limit_terms, nothing_terms, offer_most, offer_weight, reserve_left_terms}
-use Rattle.market_model.specs.LimitRows.{flow, loses, most_flow, row_id, row_pickup, rows}
+use Rattle.market_model.specs.LimitRows.{factor_terms, flow, loses, most_flow, row_id, row_pickup, rows}
 use Rattle.market_model.specs.Market.{IsMarket}
 use Rattle.market_model.specs.NamedSums.{IsRefusal, IsRefusedIn, IsShareRefusal}
 use Rattle.market_model.specs.Optimality.{bus_price, down_of, named_rows, names_row, net_shadow_price, own_price, own_terms, reserve_worth_terms, room_price, room_price_in, unit_price, up_of, worth_terms}
 use Rattle.market_model.specs.Reserves.{offer_places, offers_reserve, reserve_need, reserve_units, room}
-use Rattle.market_model.specs.SumTables.{balance_from_bus, carried_by_unit, carried_from_bus, carried_on_line, flow_in_balance, limited_line, limited_unit, IsFactorRefusal, IsRefusedAmong, IsRefusedInPrices, OwnPriceSum, energy_of_unit, factor_of_pickup, farkas_bound_of_all, flow_in_limits, limited_row, own_price_of_unit, price_of_unit, reserve_of_unit}
+use Rattle.market_model.specs.SumTables.{IsPickupRefusal, IsRefusedAmong, IsRefusedInBusPrices, IsRefusedInPrices, OwnPriceSum, energy_of_unit, factor_at_bus, factor_of_pickup, farkas_bound_of_all, flow_in_limits, limited_row, own_price_of_unit, price_of_bus, price_of_unit, reserve_of_unit}
 use Rattle.settlement.specs.Paying.{ArePricesOf}
 use Rattle.market_model.proofs.FarkasLaw.{total-flat_map}
 use Rattle.market_model.proofs.MorePlaces.{sum_by_more, total-filter_more, total-places_more}
-use Rattle.market_model.proofs.RowMembers.{Contains-places}
+use Rattle.market_model.proofs.RoomLemmas.{offers-listed}
 use Rattle.market_model.proofs.SumSteps.{minus_at, product_at, share_at, terms_at, tested_at, behind, in_front}
-use Rattle.limit_screen.specs.Flows.{IsFlowsRefusal}
 use Rattle.limit_rows.proofs.DualLemmas.{IsRowOfDual, up_unnamed, down_unnamed, sum_named}
 use Rattle.clear_loop.specs.Bounding.{IsBoundRefusal, IsLimitRefusal, IsSideRefusal, in_bound, in_factor, in_flow, in_lower, in_most, in_price, in_row_flow, in_row_most, in_upper, in_worth, left_terms, need_terms, of_lower, of_most, of_upper}
 
@@ -81,6 +79,11 @@ no_room_price m d u x none_ =
 pub no_room : (m : Parts) (u : ℕ) (x more : Fraction) → offers_reserve m u ≡ false → x ≡ x +ℚ (if offers_reserve m u then more else zero)
 no_room m u x more none_ = sym (+ℚ_nil x) ∙ ap (λ (b : Bool). x +ℚ (if b then more else zero)) (sym none_)
 
+-- what is refused in the prices at buses is refused in prices
+pub bus_prices_refused : (m : Parts) (d : Duals Fraction) (bound : ℕ) (p : Passed Fraction) → IsRefusedInBusPrices m d bound p → IsRefusedInPrices m d bound p
+bus_prices_refused m d bound p (inl (i, lt, terms, sum, why)) = inl (terms, price_of_bus i terms lt sum, why)
+bus_prices_refused m d bound p (inr (r, named, i, lt, why)) = inr (r, named, factor_terms m r i, factor_at_bus i lt, why)
+
 -- own prices at the bus prices of duals
 module _ (m : Parts) (d : Duals Fraction) (price : ℕ → Fraction) (are : ArePricesOf m d price) (market : IsMarket m) where
   terms_same : (u : ℕ) → u < length m.units → own_terms m d price u ≡ own_terms m d (bus_price m d) u
@@ -92,9 +95,9 @@ module _ (m : Parts) (d : Duals Fraction) (price : ℕ → Fraction) (are : AreP
   unfolding unit_price
   own_same u lt = ap total (terms_same u lt)
 
-  pub own_refused : (bound : ℕ) (p : Passed Fraction) → IsRefusedAmong (OwnPriceSum m d price) bound p ⊎ IsFactorRefusal m (named_rows m d) bound p → IsRefusedInPrices m d bound p
+  pub own_refused : (bound : ℕ) (p : Passed Fraction) → IsRefusedAmong (OwnPriceSum m d price) bound p ⊎ IsPickupRefusal m (named_rows m d) bound p → IsRefusedInPrices m d bound p
   own_refused bound p (inl (_, own_price_of_unit u lt, why)) = inl (_, price_of_unit _ (own_price_of_unit u lt), subst (λ (ts : List Term). IsRefusedIn ts bound p) (terms_same u lt) why)
-  own_refused bound p (inr why) = inr why
+  own_refused bound p (inr (r, named, terms, sum, why)) = inr (r, named, terms, factor_of_pickup terms sum, why)
 
 module _ (m : Parts) (d : Duals Fraction) where
   abbrev energy_term : Term
@@ -296,13 +299,10 @@ module _ (m : Parts) (d : Duals Fraction) where
 
   -- ---- what a MW of a unit that offers reserve is worth
   module _ (u : ℕ) (lt : u < length m.units) (offers : offers_reserve m u ≡ true) (bound : ℕ) (p : Passed Fraction) where
-    listed_unit : Contains (reserve_units m) u
-    listed_unit = Contains-filter (offers_reserve m) (places (length m.units)) u (Contains-places (length m.units) u lt) offers
-
     pub energy_refused_there : (price : Fraction) → price ≡ unit_price m d u → IsRefusal Minus price (room_price m d u) bound p → IsBoundRefusal m d bound p
     energy_refused_there price is h = in_worth (
       worth_terms m d u,
-      energy_of_unit u listed_unit,
+      energy_of_unit u (offers-listed m u lt offers),
       minus_at (worth_terms m d u) (Plain (unit_price m d u) ∷ []) [] (Plain (neg_ℚ (room_price m d u))) refl bound p price (room_price m d u) (is ∙ sym (+ℚ_nil (unit_price m d u)))
           (sym (neg_neg ring_ℚ (room_price m d u))) h,
     )
@@ -310,7 +310,7 @@ module _ (m : Parts) (d : Duals Fraction) where
     pub reserve_refused_there : IsRefusal Minus d.reserve (room_price m d u) bound p → IsBoundRefusal m d bound p
     reserve_refused_there h = in_worth (
       reserve_worth_terms m d u,
-      reserve_of_unit u listed_unit,
+      reserve_of_unit u (offers-listed m u lt offers),
       minus_at (reserve_worth_terms m d u) (Plain d.reserve ∷ []) [] (Plain (neg_ℚ (room_price m d u))) refl bound p d.reserve (room_price m d u) (sym (+ℚ_nil d.reserve))
           (sym (neg_neg ring_ℚ (room_price m d u))) h,
     )
@@ -381,13 +381,8 @@ module _ (m : Parts) (d : Duals Fraction) where
               (before ∙ sym (total-append before_offers (map (offer_most m d) (places k)))) why,
         )
 
--- ---- what is refused in the flows where nothing is accepted, and in prices
+-- ---- what is refused in prices
 module _ (m : Parts) (d : Duals Fraction) (bound : ℕ) (p : Passed Fraction) where
-  pub flows_refused : IsFlowsRefusal m (empty m) bound p → IsBoundRefusal m d bound p
-  flows_refused (terms, carried_from_bus same sum, why) = in_flow (terms, flow_in_balance terms (balance_from_bus terms sum), why)
-  flows_refused (terms, carried_on_line same sum, why) = in_flow (terms, flow_in_limits terms (limited_line terms sum), why)
-  flows_refused (terms, carried_by_unit same sum, why) = in_flow (terms, flow_in_limits terms (limited_unit terms sum), why)
-
   pub prices_refused : IsRefusedInPrices m d bound p → IsBoundRefusal m d bound p
   prices_refused (inl why) = in_price why
   prices_refused (inr why) = in_factor why

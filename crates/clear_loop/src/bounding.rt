@@ -11,25 +11,16 @@ ghost use Rattle.market_model.specs.LimitRows.{rows};
 ghost use Rattle.market_model.specs.Optimality.{ProperDuals, down_of, unit_price, up_of};
 ghost use Rattle.market_model.specs.Stops.{StopsBy};
 ghost use Rattle.market_model.specs.Valued.{duals_at, passed_at};
-ghost use Rattle.limit_screen.specs.Flows.{IsFlowsRefusal, flows_at};
+ghost use Rattle.limit_screen.specs.Flows.{flows_at};
 ghost use Rattle.clear_loop.specs.Bounding.{IsBoundRefusal, IsLimitRefusal, IsSideRefusal, left_terms};
 
 use crate::bounding_reserve::{with_need, with_offers, with_rooms};
 use crate::worths::{own_prices, with_blocks};
 use exact_fraction::{Exact, Passed, Sign, exact_difference};
 use limit_rows::{found_row, most_flow, row_flow};
-use limit_screen::{bus_injections, carried_flows, flows_made};
-use market_model::{Dual, Duals, Market, Row, Stop, balance, zeros};
+use limit_screen::{bus_injections, carried_flows};
+use market_model::{Dual, Duals, Market, Row, Stop, balance};
 use std::alloc::Global;
-
-/// What each bus puts in, each line carries and lost units put out where nothing is accepted, in 10^-9 MW.
-fn flows_of_nothing<N: Exact>(alloc: Global, market: &Market) -> Result<Vec<N>, Stop<N>>
-    ensures flows { IfOk result (λ flows. map N.value flows.items ≡ flows_at market.now (empty market.now)) }
-    ensures cause { IfErr result (StopsBy N.value (IsFlowsRefusal market.now (empty market.now) N.bound)) }
-{
-    let nothing = zeros(alloc, market.blocks().len())?;
-    flows_made(alloc, market, &nothing)
-}
 
 /// A sum with what a price makes of what a flow leaves of the most that it may be. A price of 0 makes nothing.
 fn with_side<N: Exact>(sum: N, price: N, most: N, flow: N) -> Result<N, Passed<N>>
@@ -116,18 +107,20 @@ fn with_reserve<N: Exact>(
     with_offers(market, of_blocks, duals)
 }
 
-/// The bound that duals give: the most that any dispatch within the bounds of blocks and offers makes of them, in 10^-9 MW.
+/// The bound that duals give: the most that any dispatch within the bounds of blocks and offers makes of them, in 10^-9 MW. The flows are
+/// those where nothing is accepted.
 pub(crate) fn farkas_bound<N: Exact>(
     alloc: Global,
     market: &Market,
+    flows: &[N],
     duals: &Duals<N>,
 ) -> Result<N, Stop<N>>
-    requires { ProperDuals market.now (duals_at N.value duals.now) }
+    requires duals { ProperDuals market.now (duals_at N.value duals.now) }
+    requires flows { map N.value flows.now ≡ flows_at market.now (empty market.now) }
     ensures bound { IfOk result (λ bound. N.value bound ≡ farkas_bound market.now (duals_at N.value duals.now)) }
     ensures cause { IfErr result (StopsBy N.value (IsBoundRefusal market.now (duals_at N.value duals.now) N.bound)) }
 {
-    let flows = flows_of_nothing(alloc, market)?;
     let own = own_prices(alloc, market, duals)?;
-    let of_energy = left_of_energy(market, &flows, duals)?;
+    let of_energy = left_of_energy(market, flows, duals)?;
     Ok(with_reserve(market, of_energy, duals, &own)?)
 }

@@ -1,7 +1,7 @@
 //! What reserve adds to the bound of duals: its need and the rooms, and the most that each offer adds.
 
-ghost use Rattle.std.specs.Prelude.{◌≡◌, ◌<◌, ◌++◌, pos, ◌≤ℤ◌, true, length, map, IfOk, IfErr, if◌then◌else◌};
-ghost use Rattle.fraction_theory.specs.Fraction.{whole, ◌+ℚ◌, ◌*ℚ◌};
+ghost use Rattle.std.specs.Prelude.{◌≡◌, ◌<◌, ◌++◌, true, length, map, IfOk, IfErr, if◌then◌else◌};
+ghost use Rattle.fraction_theory.specs.Fraction.{◌+ℚ◌, ◌*ℚ◌};
 ghost use Rattle.fraction_theory.specs.Sums.{total};
 ghost use Rattle.market_model.specs.Dispatch.{places, zero};
 ghost use Rattle.market_model.specs.Infeasibility.{block_most, farkas_bound, nothing_terms};
@@ -11,36 +11,9 @@ ghost use Rattle.market_model.specs.Reserves.{offers_reserve, room};
 ghost use Rattle.market_model.specs.Valued.{duals_at, passed_at};
 ghost use Rattle.clear_loop.specs.Bounding.{IsBoundRefusal, left_terms, need_terms};
 
-use crate::worths::{is_offered, less_room, priced_room, with_most};
+use crate::worths::{less_room, priced_room, with_most};
 use exact_fraction::{Exact, Passed};
-use market_model::{Duals, Market, Reserve, ReserveOffer, datum};
-
-/// How much reserve is needed, in 10^-9 MW.
-#[tactic(auto, using(market_data::proofs::Data::datum_read))]
-fn need_of<N: Exact>(reserve: &Reserve) -> N
-    requires { pos 0 ≤ℤ reserve.now.need }
-    ensures { N.value result ≡ whole reserve.now.need }
-{
-    datum(reserve.need)
-}
-
-/// All that an offer has, in 10^-9 MW.
-#[tactic(auto, using(market_data::proofs::Data::datum_read))]
-fn offer_quantity<N: Exact>(offer: &ReserveOffer) -> N
-    requires { pos 0 ≤ℤ offer.now.quantity }
-    ensures { N.value result ≡ whole offer.now.quantity }
-{
-    datum(offer.quantity)
-}
-
-/// The room of a unit, in 10^-9 MW.
-#[tactic(auto, using(market_data::proofs::Data::datum_read))]
-fn room_of<N: Exact>(market: &Market, unit: usize) -> N
-    requires { unit < length market.now.units }
-    ensures { N.value result ≡ room market.now unit }
-{
-    datum(market.units().at(unit).up)
-}
+use market_model::{Duals, Market, need_quantity, offer_quantity, offers_reserve, room_quantity};
 
 /// A sum with what the price of reserve makes of the need, which counts down. There is none in a market of energy alone.
 pub(crate) fn with_need<N: Exact>(
@@ -53,7 +26,7 @@ pub(crate) fn with_need<N: Exact>(
     ensures cause { IfErr result (λ passed. IsBoundRefusal market.now (duals_at N.value duals.now) N.bound (passed_at N.value passed)) }
 {
     if market.reserve().listed {
-        let need: N = need_of(market.reserve());
+        let need: N = need_quantity(market.reserve());
         of_energy.plus_product(duals.reserve, need.neg())
     } else {
         Ok(of_energy)
@@ -72,9 +45,12 @@ fn with_room<N: Exact>(
     ensures offers { IfErr result (λ _. offers_reserve market.now unit ≡ true) }
     ensures cause { IfErr result (λ passed. IsShareRefusal (N.value sum) (room_price market.now (duals_at N.value duals.now) unit) (room market.now unit) N.bound (passed_at N.value passed)) }
 {
-    if is_offered(market.reserve().offers.slice(), unit) {
+    if offers_reserve(market, unit) {
         let row = market.units().at(unit).row;
-        sum.plus_product(priced_room(duals.rooms.slice(), row), room_of(market, unit))
+        sum.plus_product(
+            priced_room(duals.rooms.slice(), row),
+            room_quantity(market, unit),
+        )
     } else {
         Ok(sum)
     }

@@ -2,7 +2,7 @@
 //! where one is.
 
 ghost use Rattle.std.specs.Prelude.{◌≡◌, List, length, map, IfOk, IfErr};
-ghost use Rattle.market_model.specs.Dispatch.{dispatch_with};
+ghost use Rattle.market_model.specs.Dispatch.{dispatch_with, empty};
 ghost use Rattle.market_model.specs.Infeasibility.{IsFarkas};
 ghost use Rattle.market_model.specs.Valued.{duals_at, farkas_at};
 ghost use Rattle.market_system.specs.Growth.{Growth};
@@ -62,20 +62,22 @@ fn solved<N: Exact>(
 }
 
 /// The bound of the duals of a variable that is stuck: what it leaves of the bound that it violates, in a market of energy alone. Where
-/// reserve is cleared it is made of the duals.
+/// reserve is cleared it is made of the duals, and of the flows where nothing is accepted.
 fn bound_of<N: Exact>(
     alloc: Global,
     market: &Market,
+    flows: &[N],
     duals: &Duals<N>,
     margin: N,
 ) -> Result<N, Stop<N>>
-    requires { (ts : List Taking) × IsStuckBy market.now ts (duals_at N.value duals.now) (N.value margin) }
+    requires flows { map N.value flows.now ≡ flows_at market.now (empty market.now) }
+    requires stuck { (ts : List Taking) × IsStuckBy market.now ts (duals_at N.value duals.now) (N.value margin) }
     ensures farkas { IfOk result (λ bound. IsFarkas market.now (farkas_at N.value (record { duals = duals.now; bound = bound }))) }
     ensures cause { (ts : List Taking) → IsStuckBy market.now ts (duals_at N.value duals.now) (N.value margin) → IfErr result (StopsInRange N.value N.bound market.now (limits_of ts)) }
 {
     let _lines = market.lines();
     if market.reserve().listed {
-        farkas_bound(alloc, market, duals)
+        farkas_bound(alloc, market, flows, duals)
     } else {
         Ok(margin)
     }
@@ -161,7 +163,7 @@ fn one_round<N: Exact>(alloc: Global, market: &Market, hand: Hand<N>) -> Result<
             duals,
             margin,
         } => {
-            let bound = bound_of(alloc, market, &duals, margin)?;
+            let bound = bound_of(alloc, market, &posing.base_flows, &duals, margin)?;
             Ok(Round::Done(Ended {
                 dict,
                 taken,

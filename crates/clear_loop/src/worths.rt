@@ -9,9 +9,9 @@ ghost use Rattle.market_model.specs.Dispatch.{places};
 ghost use Rattle.market_model.specs.Infeasibility.{block_most, nothing_terms};
 ghost use Rattle.market_model.specs.NamedSums.{IsRefusal, IsShareRefusal};
 ghost use Rattle.market_model.specs.Optimality.{ProperDuals, named_rows, own_price, room_price, room_price_in, unit_price};
-ghost use Rattle.market_model.specs.Reserves.{offers_among, offers_reserve};
+ghost use Rattle.market_model.specs.Reserves.{offers_reserve};
 ghost use Rattle.market_model.specs.Stops.{StopsBy};
-ghost use Rattle.market_model.specs.SumTables.{IsFactorRefusal, IsRefusedAmong, IsRefusedInPrices, OwnPriceSum};
+ghost use Rattle.market_model.specs.SumTables.{IsPickupRefusal, IsRefusedAmong, IsRefusedInPrices, OwnPriceSum};
 ghost use Rattle.market_model.specs.Valued.{duals_at, passed_at, room_dual_at, total_at};
 ghost use Rattle.clear_loop.specs.Bounding.{IsBoundRefusal};
 
@@ -19,21 +19,9 @@ use crate::answering::bus_prices;
 use bus_prices::own;
 use exact_fraction::{Exact, Passed, Sign, exact_difference};
 use market_model::{
-    Duals, Market, Price, ReserveOffer, RoomDual, Stop, block_quantity, by_side, datum, zeros,
+    Duals, Market, Price, RoomDual, Stop, block_quantity, by_side, datum, offers_reserve, zeros,
 };
 use std::alloc::Global;
-
-/// Whether one of these offers is of a unit.
-pub(crate) fn is_offered(offers: &[ReserveOffer], unit: usize) -> bool
-    ensures { result ≡ offers_among offers.now unit }
-{
-    for offer in offers {
-        if offer.unit == unit {
-            return true;
-        }
-    }
-    false
-}
 
 /// The price of the room of the unit of a gen row; 0 where it is not named.
 pub(crate) fn priced_room<N: Exact>(rooms: &[RoomDual<N>], row: u32) -> N
@@ -59,7 +47,7 @@ pub(crate) fn less_room<N: Exact>(
     ensures offers { IfErr result (λ _. offers_reserve market.now unit ≡ true) }
     ensures cause { IfErr result (λ passed. IsRefusal Minus (N.value price) (room_price market.now (duals_at N.value duals.now) unit) N.bound (passed_at N.value passed)) }
 {
-    if is_offered(market.reserve().offers.slice(), unit) {
+    if offers_reserve(market, unit) {
         let row = market.units().at(unit).row;
         exact_difference(price, priced_room(duals.rooms.slice(), row))
     } else {
@@ -77,7 +65,7 @@ fn own_at<N: Exact>(
     requires duals { ProperDuals market.now (duals_at N.value duals.now) }
     requires prices { length prices.now ≡ length market.now.buses }
     ensures own { IfOk result (λ own. map N.value own.items ≡ map (own_price market.now (duals_at N.value duals.now) (total_at N.value prices.now)) (places (length market.now.units))) }
-    ensures cause { let d = duals_at N.value duals.now in IfErr result (StopsBy N.value (λ p. IsRefusedAmong (OwnPriceSum market.now d (total_at N.value prices.now)) N.bound p ⊎ IsFactorRefusal market.now (named_rows market.now d) N.bound p)) }
+    ensures cause { let d = duals_at N.value duals.now in IfErr result (StopsBy N.value (λ p. IsRefusedAmong (OwnPriceSum market.now d (total_at N.value prices.now)) N.bound p ⊎ IsPickupRefusal market.now (named_rows market.now d) N.bound p)) }
 {
     let mut by_unit = zeros(alloc, market.units().len())?;
     own(market, duals, prices, &mut by_unit)?;

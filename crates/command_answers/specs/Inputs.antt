@@ -105,6 +105,6 @@ abbrev pub IsCheck : FactorPlaces → GridTexts → Result Inputs Refusal → Ty
 IsCheck places texts told = AreInputs places (sized_grid texts) told
 
 -- ---- the making of factors
--- what a case, and a table of outages where there is one, stand for
-abbrev pub IsFactorWork : List ℕ → Option (List ℕ) → Result FactorInputs Refusal → Type 0
+-- what a case and a table of outages stand for
+abbrev pub IsFactorWork : List ℕ → List ℕ → Result FactorInputs Refusal → Type 0
 IsFactorWork case contingencies told = AreFactorInputs case contingencies told

@@ -1,6 +1,6 @@
 //! Tables of factors that are made of a case.
 
-ghost use Rattle.std.specs.Prelude.{◌≡◌, ◌++◌, codes, true, IfErr, IfOk, option_map};
+ghost use Rattle.std.specs.Prelude.{◌≡◌, ◌++◌, codes, true, IfErr, IfOk};
 ghost use Rattle.factor_maker.specs.Stops.{IsLossStop};
 ghost use Rattle.market_inputs.specs.Making.{AreFitToMake};
 ghost use Rattle.command_answers.specs.Factors.{AreTables, IsFactorsStop, IsLossIfWanted, MakesFactors, TellsFactors, TellsStop, count_line, loss_line, stop_at, table_outputs, tables_telling, tables_text};
@@ -171,17 +171,17 @@ fn made_told(
     }
 }
 
-/// What the whole bytes of a case come to, and of a table of outages where there is one, of which tables of factors with so many places are
-/// to be made; that of outage factors is made where it is wanted.
+/// What the whole bytes of a case and of a table of outages come to, of which tables of factors with so many places are to be made; that of
+/// outage factors is made where it is wanted.
 pub fn factors_told(
     alloc: Global,
     case: &[u8],
-    contingencies: Option<&[u8]>,
+    contingencies: &[u8],
     wanted: bool,
     places: FactorPlaces,
 ) -> Result<Told, Memory>
     ensures status { IfOk result (λ told. IsOfWork told.status) }
-    ensures tells { IfOk result (λ told. Tells (IsFactorWork case.now (option_map (λ bytes. bytes.now) contingencies.entry)) (TellsFactors wanted places) (telling_of told)) }
+    ensures tells { IfOk result (λ told. Tells (IsFactorWork case.now contingencies.now) (TellsFactors wanted places) (telling_of told)) }
 {
     match factor_inputs(alloc, case, contingencies) {
         Ok(inputs) => made_told(alloc, &inputs, wanted, places),

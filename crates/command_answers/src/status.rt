@@ -5,11 +5,12 @@ ghost use Rattle.std.specs.Prelude.{◌≡◌};
 /// The exit status of a run.
 #[derive(Clone, Copy, PartialEq, Eq, Debug)]
 pub enum Status {
-    /// Cleared, each step of a replay accepted or cleared, a certificate that holds or is written anew, rights that fit, or within rounding.
+    /// Cleared, each step of a replay accepted or cleared, a certificate that holds or is written anew, rights that fit, within rounding, or
+    /// tables that are made.
     Done,
     /// The words are none that the program takes.
     Usage,
-    /// A file is at fault, or an edit of a replay is refused.
+    /// A file is at fault, an edit of a replay is refused, or a case allows no tables of factors.
     Refused,
     /// No dispatch is feasible.
     Infeasible,
@@ -17,7 +18,7 @@ pub enum Status {
     Range,
     /// A named file could not be read.
     ReadFailed,
-    /// The certificate could not be written, or the text not be put.
+    /// A certificate or a table could not be written, or the text not be put.
     WriteFailed,
     /// Memory was refused.
     Memory,

@@ -188,11 +188,11 @@ files-check (Some f) names bytes t read right =
 pub factor-work-same : (case case' outages outages' : List ℕ) (told : Result FactorInputs Refusal)
     → sized (refusal.TooLong input.Case) case ≡ sized (refusal.TooLong input.Case) case'
     → sized (refusal.TooLong input.Contingencies) outages ≡ sized (refusal.TooLong input.Contingencies) outages'
-    → IsFactorWork case (Some outages) told → IsFactorWork case' (Some outages') told
+    → IsFactorWork case outages told → IsFactorWork case' outages' told
 factor-work-same case case' outages outages' told same_case same_outages h = record { made = h.made; is = ap matrices_in (sym same_case) ∙ h.is; rest = rw same_outages at h.rest }
 
 pub files-factors : (files : Option Files) (names : FactorNames) (case_read outages_read : List ℕ) (t : Telling) → Reads files names.case 33554432 case_read
-    → ReadsTable files (source_of outage_header names.contingencies) outages_read → Tells (IsFactorWork case_read (Some outages_read)) (TellsFactorsOf names) t
+    → ReadsTable files (source_of outage_header names.contingencies) outages_read → Tells (IsFactorWork case_read outages_read) (TellsFactorsOf names) t
     → OfFiles files (λ f. AreFactorFiles f names) (TellsFactorsOf names) t
 files-factors None names case_read outages_read t read read_outages right = tt
 files-factors (Some f) names case_read outages_read t read read_outages right =

@@ -74,7 +74,7 @@ pub record AreFactorFiles (files : Files) (names : FactorNames) (told : Result F
   pub outages : List ℕ
   pub case_is : files names.case ≡ Some case
   pub outages_are : IsTable files (source_of outage_header names.contingencies) outages
-  pub work : IsFactorWork case (Some outages) told
+  pub work : IsFactorWork case outages told
 
 -- what these come to, with a table of outage factors where a file is named for it, and factors of so many places
 abbrev pub TellsFactorsOf : FactorNames → FactorInputs → Telling → Type 0

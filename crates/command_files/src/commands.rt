@@ -178,7 +178,7 @@ pub fn factors_files<S: Store>(
     or_memory(factors_told(
         alloc,
         case.as_slice(),
-        Some(outages.as_slice()),
+        outages.as_slice(),
         files.lodf_out.is_some(),
         files.places,
     ))

@@ -13,7 +13,7 @@ use Rattle.net_paths.specs.declared.loops_of_tree.Member.{Member}
 use Rattle.outage_list.specs.Listing.{AreOutages, IsOutage}
 use Rattle.dc_network.specs.DcNetworks.{IsOutageFactor}
 use Rattle.dc_network.specs.Laws.{IsSound}
-use Rattle.dc_network.specs.Rounding.{AreExplained, AreRounded, IsRounded as IsRoundedColumn, rounded_column}
+use Rattle.dc_network.specs.Rounding.{AreExplained, AreRounded, IsRounded, rounded_column}
 use Rattle.dc_network.proofs.Connection.{Contains-from_map, Contains-map, kept_live}
 use Rattle.dc_network.proofs.Reactances.{same_row}
 use Rattle.dc_network.proofs.Roundings.{law_of_rounding}
@@ -28,7 +28,7 @@ use Rattle.factor_residuals.specs.declared.spots.Spot.{Spot}
 use Rattle.factor_text.specs.Laws.{IsTableOver, NamesWhatIsLive, ObeysRules}
 use Rattle.factor_text.specs.Texts.{table_text}
 use Rattle.factor_text.proofs.RecordsRead.{read-back}
-use Rattle.factor_maker.specs.Made.{IsLossEntry, IsMadeLoss, IsRounded, loss_pairs}
+use Rattle.factor_maker.specs.Made.{IsLossEntry, IsMadeLoss, loss_pairs}
 use Rattle.factor_maker.proofs.Lists as lists
 use Rattle.factor_maker.proofs.Lists.{all-by_members, flat_contains, zip_pairs}
 use Rattle.factor_maker.proofs.Made.{loss_apart}
@@ -88,8 +88,8 @@ module _ (network : LiveNetwork) (xs : List ℤ) (outages : List ℕ) (places : 
         of = names.of;
         live = λ used. (names.live_branch, names.live_of);
         whole = (factor.units, factor.factor_is);
-        size = factor_small places factor.are.exact factor.units e.1
-            (exact_small network xs (Some pair.1.row) pair.1.from pair.1.to pair.0 factor.are.exact (without pair.1 within.1) bounds.from bounds.to within.0 factor.are.is_exact) factor.are.nearest factor.factor_is;
+        size = factor_small places factor.exact factor.units e.1
+            (exact_small network xs (Some pair.1.row) pair.1.from pair.1.to pair.0 factor.exact (without pair.1 within.1) bounds.from bounds.to within.0 factor.is_exact) factor.nearest factor.factor_is;
       }
 
   lost_apart : AllPairs (λ (k m : NetBranch). k.row ≢ m.row) made.lost
@@ -109,18 +109,15 @@ module _ (network : LiveNetwork) (xs : List ℤ) (outages : List ℕ) (places : 
   back = (over, subst (λ (p : FactorPlaces). table_of column.Outage network (table_text column.Outage loss.entries) p ≡ Ok loss) made.places_are (read-back column.Outage network loss sound.network_is over))
 
   -- ---- each column is that of exact factors, rounded
-  as_column : (IsFactor : Fraction → Type 0) (factor : ℤ) → IsRounded places IsFactor factor → IsRoundedColumn places IsFactor factor
-  as_column IsFactor factor r = record { exact = r.are.exact; is_exact = r.are.is_exact; units = r.units; nearest = r.are.nearest; factor_is = r.factor_is }
-
   -- the record of a branch and a lost one is of the two
-  of_record : (l k : NetBranch) (factor : ℤ) → Contains network.branches l → Contains network.branches k → Contains loss.entries ((l.row, k.row), factor) → IsRoundedColumn places (IsOutageFactor network xs l k) factor
+  of_record : (l k : NetBranch) (factor : ℤ) → Contains network.branches l → Contains network.branches k → Contains loss.entries ((l.row, k.row), factor) → IsRounded places (IsOutageFactor network xs l k) factor
   of_record l k factor c d there =
       let m = zip_member (IsLossEntry network xs places) pairs loss.entries made.entries ((l.row, k.row), factor) there in
       let within = pair_of m.0 m.1 in
       let branch : m.0.0 ≡ l = same_row network sound.network_is m.0.0 l (kept_live (Some m.0.1.row) network.branches m.0.0 within.0) c (sym (ap (λ (p : Pair). p.0) m.2.pair_is)) in
       let lost : m.0.1 ≡ k = same_row network sound.network_is m.0.1 k (lost_live m.0.1 within.1).0 d (sym (ap (λ (p : Pair). p.1) m.2.pair_is)) in
-      subst (λ (b : NetBranch). IsRoundedColumn places (IsOutageFactor network xs b k) factor) branch
-      (subst (λ (b : NetBranch). IsRoundedColumn places (IsOutageFactor network xs m.0.0 b) factor) lost (as_column (IsOutageFactor network xs m.0.0 m.0.1) factor m.2.factor))
+      subst (λ (b : NetBranch). IsRounded places (IsOutageFactor network xs b k) factor) branch
+      (subst (λ (b : NetBranch). IsRounded places (IsOutageFactor network xs m.0.0 b) factor) lost m.2.factor)
 
   rounded : (k : NetBranch) → Contains made.lost k → AreRounded network xs (Some k.row) places k.from k.to (λ row. factor_at loss.entries (row, k.row))
   rounded k d l c = elim (factor_at-means loss.entries (l.row, k.row)) [

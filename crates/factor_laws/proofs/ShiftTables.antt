@@ -12,7 +12,7 @@ use Rattle.net_paths.specs.declared.loops_of_tree.Member.{Member}
 use Rattle.network_theory.specs.Carrying.{IsCarried}
 use Rattle.dc_network.specs.DcNetworks.{IsShiftFactor, dc_branch, dc_network}
 use Rattle.dc_network.specs.Laws.{IsSound}
-use Rattle.dc_network.specs.Rounding.{AreExplained, AreRounded, IsRounded as IsRoundedColumn, rounded_column}
+use Rattle.dc_network.specs.Rounding.{AreExplained, AreRounded, IsRounded, rounded_column}
 use Rattle.dc_network.proofs.Connection.{Contains-from_map, Contains-map}
 use Rattle.dc_network.proofs.Reactances.{same_row}
 use Rattle.dc_network.proofs.Roundings.{law_of_rounding}
@@ -27,7 +27,7 @@ use Rattle.factor_residuals.specs.declared.spots.Spot.{Spot}
 use Rattle.factor_text.specs.Laws.{IsTableOver, NamesWhatIsLive, ObeysRules}
 use Rattle.factor_text.specs.Texts.{table_text}
 use Rattle.factor_text.proofs.RecordsRead.{read-back}
-use Rattle.factor_maker.specs.Made.{IsMadeShift, IsRounded, IsShiftEntry, shift_pairs}
+use Rattle.factor_maker.specs.Made.{IsMadeShift, IsShiftEntry, shift_pairs}
 use Rattle.factor_maker.proofs.Lists as lists
 use Rattle.factor_maker.proofs.Lists.{all-by_members, flat_contains, zip_pairs}
 use Rattle.factor_maker.proofs.Made.{shift_apart}
@@ -68,8 +68,8 @@ module _ (network : LiveNetwork) (xs : List ℤ) (places : FactorPlaces) (shift 
         of = names.of;
         live = λ used. (names.live_branch, names.live_of);
         whole = (factor.units, factor.factor_is);
-        size = factor_small places factor.are.exact factor.units e.1
-            (exact_small network xs None pair.1 network.reference pair.0 factor.are.exact sound within.1 sound.network_is.reference within.0 factor.are.is_exact) factor.are.nearest factor.factor_is;
+        size = factor_small places factor.exact factor.units e.1
+            (exact_small network xs None pair.1 network.reference pair.0 factor.exact sound within.1 sound.network_is.reference within.0 factor.is_exact) factor.nearest factor.factor_is;
       }
 
   once : HasNoPairTwice shift.entries
@@ -83,19 +83,16 @@ module _ (network : LiveNetwork) (xs : List ℤ) (places : FactorPlaces) (shift 
   }
 
   -- ---- each column is that of exact factors, rounded
-  as_column : (IsFactor : Fraction → Type 0) (factor : ℤ) → IsRounded places IsFactor factor → IsRoundedColumn places IsFactor factor
-  as_column IsFactor factor r = record { exact = r.are.exact; is_exact = r.are.is_exact; units = r.units; nearest = r.are.nearest; factor_is = r.factor_is }
-
   -- the record of a branch and a bus is of the two
   of_record : (l : NetBranch) (i : ℕ) (factor : ℤ) → Contains network.branches l → i < buses → Contains shift.entries ((l.row, bus_number network i), factor)
-      → IsRoundedColumn places (IsShiftFactor network xs l i) factor
+      → IsRounded places (IsShiftFactor network xs l i) factor
   of_record l i factor c lt there =
       let m = zip_member (IsShiftEntry network xs places) pairs shift.entries made.entries ((l.row, bus_number network i), factor) there in
       let within = pair_of m.0 m.1 in
       let branch : m.0.0 ≡ l = same_row network sound.network_is m.0.0 l within.0 c (sym (ap (λ (p : Pair). p.0) m.2.pair_is)) in
       let bus : m.0.1 ≡ i = same_bus network sound.network_is m.0.1 i within.1 lt (sym (ap (λ (p : Pair). p.1) m.2.pair_is)) in
-      subst (λ (k : NetBranch). IsRoundedColumn places (IsShiftFactor network xs k i) factor) branch
-      (subst (λ (j : ℕ). IsRoundedColumn places (IsShiftFactor network xs m.0.0 j) factor) bus (as_column (IsShiftFactor network xs m.0.0 m.0.1) factor m.2.factor))
+      subst (λ (k : NetBranch). IsRounded places (IsShiftFactor network xs k i) factor) branch
+      (subst (λ (j : ℕ). IsRounded places (IsShiftFactor network xs m.0.0 j) factor) bus m.2.factor)
 
   rounded : (i : ℕ) → Contains (places_below buses) i → AreRounded network xs None places i network.reference (λ row. factor_at shift.entries (row, bus_number network i))
   rounded i d l c = elim (factor_at-means shift.entries (l.row, bus_number network i)) [

@@ -1,30 +1,11 @@
 //! Checks of tables, with texts worked by hand.
 
+use crate::triangle::TRIANGLE;
 use command_answers::{Status, check_told};
 use market_data::FactorPlaces;
 use market_tables::GridTables;
 use std::process::Abort;
 use std::test::Fail;
-
-/// Three buses that are joined in a triangle.
-pub const TRIANGLE: &str = "function mpc = t3
-mpc.version = '2';
-mpc.baseMVA = 100;
-mpc.bus = [
-1 3 0 0 0 0 1 1 0 230 1 1.1 0.9;
-2 1 0 0 0 0 1 1 0 230 1 1.1 0.9;
-3 1 60 0 0 0 1 1 0 230 1 1.1 0.9;
-];
-mpc.gen = [
-1 0 0 0 0 1 100 1 100 0;
-2 0 0 0 0 1 100 1 100 0;
-];
-mpc.branch = [
-1 2 0 0.2 0 0 0 0 0 0 1 -360 360;
-1 3 0 0.1 0 0 0 0 0 0 1 -360 360;
-2 3 0 0.1 0 0 0 0 0 0 1 -360 360;
-];
-";
 
 /// Three buses in a line.
 const LINE: &str = "function mpc = l3
@@ -66,9 +47,9 @@ const SHIFT: &str =
 const LOSS: &str = "branch,outage,factor\n2,1,1\n3,1,-1\n1,2,1\n3,2,1\n1,3,-1\n2,3,1\n";
 
 /// Tables without records, of outage factors and of outages.
-pub const NO_LOSS: &str = "branch,outage,factor\n";
+const NO_LOSS: &str = "branch,outage,factor\n";
 
-pub const NO_OUTAGES: &str = "branch\n";
+const NO_OUTAGES: &str = "branch\n";
 
 /// Too little flows over branch 2 for bus 3.
 const SHIFT_OFF: &str =
@@ -87,7 +68,7 @@ const SHIFT_OVER: &str =
     "bus most 0.01 at 1 for 3\nbus over 0.01 bound 0.000001 at 1 for 3\nloop most -0.001 at 3 for 3\nloop over -0.001 bound 0.0000002 at 3 for 3\noutage bus none\noutage loop none\n";
 
 /// Checks the three tables against the case, and compares.
-pub fn expect<R: Abort + AllocGlobal>(
+fn expect<R: Abort + AllocGlobal>(
     rt: &R,
     texts: [&str; 4],
     want: (Status, &str),

@@ -4,4 +4,6 @@
 #[cfg(test)]
 mod check_tests;
 #[cfg(test)]
-mod made_tests;
+mod making_tests;
+#[cfg(test)]
+mod triangle;

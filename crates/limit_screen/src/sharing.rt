@@ -1,21 +1,17 @@
 //! Which room, that a unit's energy and its reserve share, is passed by the most.
 
-ghost use Rattle.std.specs.Prelude.{◌≡◌, ◌<◌, ◌+◌, ℤ, pos, ◌≤ℤ◌, List, true, length, map, Contains, IfOk, IfErr, MatchOption, if◌then◌else◌};
-ghost use Rattle.fraction_theory.specs.Fraction.{Fraction, whole, ◌+ℚ◌, ◌-ℚ◌};
+ghost use Rattle.std.specs.Prelude.{◌≡◌, ◌<◌, ◌+◌, ℤ, pos, ◌≤ℤ◌, length, map, Contains, IfOk, IfErr, MatchOption};
+ghost use Rattle.fraction_theory.specs.Fraction.{whole, ◌-ℚ◌};
 ghost use Rattle.fraction_theory.specs.Order.{◌<ℚ◌, ◌≤ℚ◌};
-ghost use Rattle.fraction_theory.specs.Sums.{total};
-ghost use Rattle.exact_fraction.specs.declared.Op.TheVariants.{Plus};
 ghost use Rattle.market_model.specs.declared.participants.Parts.{Parts};
-ghost use Rattle.market_model.specs.Dispatch.{Dispatch, zero, block_term, blocks_of, dispatch_with};
-ghost use Rattle.market_model.specs.NamedSums.{IsRefusal, IsRefusedIn};
-ghost use Rattle.market_model.specs.PutIn.{dispatch_of};
-ghost use Rattle.market_model.specs.Reserves.{offers_among, reserve_units, room, room_terms, room_used};
+ghost use Rattle.market_model.specs.Dispatch.{Dispatch, dispatch_with};
+ghost use Rattle.market_model.specs.Reserves.{reserve_units, room, room_used};
 ghost use Rattle.market_model.specs.SumTables.{IsRefusedAmong, RoomSum};
 ghost use Rattle.market_model.specs.Valued.{passed_at};
 ghost use Rattle.limit_screen.specs.Rooms.{AllKeepRooms, IsWorstRoom, IsWorstRoomNamed, IsWorstRoomTo, room_overrun};
 
-use exact_fraction::{Exact, Passed, exact_difference, exact_sum};
-use market_model::{Market, ReserveOffer, by_side, datum};
+use exact_fraction::{Exact, Passed, exact_difference};
+use market_model::{Market, offers_reserve, room_quantity, room_used};
 use std::cmp::Ordering;
 
 /// A unit whose room is passed.
@@ -24,73 +20,6 @@ struct RoomOverrun<N> {
     unit: usize,
     /// By how much, in 10^-9 MW.
     overrun: N,
-}
-
-/// Whether one of these offers is of a unit.
-fn is_offered(offers: &[ReserveOffer], unit: usize) -> bool
-    ensures { result ≡ offers_among offers.now unit }
-{
-    for offer in offers {
-        if offer.unit == unit {
-            return true;
-        }
-    }
-    false
-}
-
-/// A sum with one number more, where that counts.
-fn with_part<N: Exact>(sum: N, part: N, counts: bool) -> Result<N, Passed<N>>
-    ensures sum { IfOk result (λ more. N.value more ≡ N.value sum +ℚ (if counts then N.value part else zero)) }
-    ensures counts { IfErr result (λ _. counts ≡ true) }
-    ensures cause { IfErr result (λ passed. IsRefusal Plus (N.value sum) (N.value part) N.bound (passed_at N.value passed)) }
-{
-    if counts {
-        exact_sum(sum, part)
-    } else {
-        Ok(sum)
-    }
-}
-
-/// By how much the blocks of a unit raise its output, whatever reserve is accepted beside.
-fn raised<N: Exact>(market: &Market, unit: usize, dispatch: &[N]) -> Result<N, Passed<N>>
-    requires { length dispatch.now ≡ length market.now.blocks }
-    ensures sum { IfOk result (λ mw. N.value mw ≡ total (map (block_term market.now (dispatch_of N.value dispatch.now)) (blocks_of market.now unit))) }
-    ensures cause { (reserve : List Fraction) → IfErr result (λ passed. IsRefusedIn (room_terms market.now (dispatch_with (map N.value dispatch.now) reserve) unit) N.bound (passed_at N.value passed)) }
-{
-    let mut mw: N = datum(0);
-    for (at, block) in market.blocks().slice().iter().enumerate() {
-        mw = with_part(mw, by_side(block.side, dispatch[at]), block.unit == unit)?;
-    }
-    Ok(mw)
-}
-
-/// What a unit uses of its room: what it sells, less what it buys, and its reserve.
-fn used<N: Exact>(
-    market: &Market,
-    unit: usize,
-    dispatch: &[N],
-    reserve: &[N],
-) -> Result<N, Passed<N>>
-    requires dispatch { length dispatch.now ≡ length market.now.blocks }
-    requires reserve { length reserve.now ≡ length market.now.reserve.offers }
-    ensures used { let x = dispatch_with (map N.value dispatch.now) (map N.value reserve.now) in IfOk result (λ mw. N.value mw ≡ room_used market.now x unit) }
-    ensures cause { let x = dispatch_with (map N.value dispatch.now) (map N.value reserve.now) in IfErr result (λ passed. IsRefusedIn (room_terms market.now x unit) N.bound (passed_at N.value passed)) }
-{
-    let mut mw = raised(market, unit, dispatch)?;
-    for (at, offer) in market.reserve().offers.slice().iter().enumerate() {
-        mw = with_part(mw, reserve[at], offer.unit == unit)?;
-    }
-    Ok(mw)
-}
-
-/// The room of a unit, in 10^-9 MW.
-#[tactic(auto, using(market_data::proofs::Data::datum_read))]
-fn room_of<N: Exact>(market: &Market, unit: usize) -> N
-    requires { unit < length market.now.units }
-    ensures room { N.value result ≡ room market.now unit }
-    ensures least { (mw : ℤ) × (pos 0 ≤ℤ mw) × (N.value result ≡ whole mw) }
-{
-    datum(market.units().at(unit).up)
 }
 
 /// By how much a use passes a room; nothing where it doesn't. That is never too large: its parts are no greater than those of the use.
@@ -138,11 +67,11 @@ fn with_unit<N: Exact>(
     ensures worst { let x = dispatch_with (map N.value dispatch.now) (map N.value reserve.now) in IsWorstRoomTo N.value market.now x unit worst → IfOk result (IsWorstRoomTo N.value market.now x (unit + 1)) }
     ensures cause { let x = dispatch_with (map N.value dispatch.now) (map N.value reserve.now) in IfErr result (λ passed. IsRefusedAmong (RoomSum market.now x) N.bound (passed_at N.value passed)) }
 {
-    if !is_offered(market.reserve().offers.slice(), unit) {
+    if !offers_reserve(market, unit) {
         return Ok(worst);
     }
-    let used = used(market, unit, dispatch, reserve)?;
-    match beyond_room(used, room_of(market, unit))? {
+    let used = room_used(market, unit, dispatch, reserve)?;
+    match beyond_room(used, room_quantity(market, unit))? {
         Some(overrun) => Ok(worse_room(worst, unit, overrun)),
         None => Ok(worst),
     }

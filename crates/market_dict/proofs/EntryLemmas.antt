@@ -4,30 +4,23 @@ use Rattle.std.specs.List.{slice_get}
 use Rattle.std.proofs.Common.{arith, ap, ap₂, sym, ◌∙◌}
 use Rattle.std.proofs.lemmas.Option.{slice_get_within, get_or_from_slice_get}
 use Rattle.fraction_theory.specs.Fraction.{Fraction, whole}
-use Rattle.fraction_theory.proofs.ListSums.{Contains-from_filter}
 use Rattle.market_model.specs.declared.participants.Block.{Block}
 use Rattle.market_model.specs.declared.participants.Parts.{Parts}
-use Rattle.market_model.specs.Dispatch.{places, signed_by_side, block_at}
+use Rattle.market_model.specs.Dispatch.{signed_by_side, block_at}
 use Rattle.market_model.specs.declared.limits.Row.{Row}
 use Rattle.market_model.specs.LimitRows.{rows, unit_factor}
 use Rattle.market_model.specs.Market.{IsMarket}
-use Rattle.market_model.specs.Reserves.{offers_reserve, reserve_units}
 use Rattle.limit_rows.proofs.ApartLemmas.{names_apart}
 use Rattle.limit_rows.proofs.WalkLemmas.{rows_few}
 use Rattle.market_system.specs.MarketSystem.{row_name, over_name, block_sign, block_coefficient}
 use Rattle.market_system.proofs.DualLists.{rows_apart}
 use Rattle.market_system.proofs.RowOrder.{AreOrdered, names-ascend, row_name-at, row_place-below}
-use Rattle.market_system.proofs.VariableLaws.{from_places}
 
 pub sign_entry : (m : Parts) (k : ℕ) (block : Block) (one entry : Fraction) → block ≡ block_at m k → one ≡ whole (pos 1) → entry ≡ signed_by_side block.side one → entry ≡ block_sign m k
 sign_entry m k block one entry at is e = e ∙ ap₂ (λ (b : Block) (x : Fraction). signed_by_side b.side x) at is
 
 pub row_entry_is : (m : Parts) (r : Row) (k : ℕ) (block : Block) → block ≡ block_at m k → signed_by_side block.side (unit_factor m r block.unit) ≡ block_coefficient m r k
 row_entry_is m r k block at = ap (λ (b : Block). signed_by_side b.side (unit_factor m r b.unit)) at
-
--- the place of a unit that offers reserve
-pub unit_inside : (m : Parts) (u : ℕ) → Contains (reserve_units m) u → u < length m.units
-unit_inside m u c = from_places (length m.units) u (Contains-from_filter (offers_reserve m) (places (length m.units)) u c).0
 
 -- ---- the rows of a market
 -- all rows of a market are in its order

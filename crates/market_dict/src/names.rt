@@ -2,10 +2,10 @@
 //! limits follow in the market's order, and behind all of them the columns of soft ones, two for each limit; then the offers of reserve
 //! by their places, the need, and the rooms by the places of their units.
 
-ghost use Rattle.std.specs.Prelude.{◌≡◌, ◌++◌, [], map, Contains, IfOk};
+ghost use Rattle.std.specs.Prelude.{◌≡◌, ◌<◌, ◌++◌, [], length, map, Contains, IfOk};
 ghost use Rattle.market_model.specs.LimitRows.{rows};
 ghost use Rattle.market_model.specs.Optimality.{all_of};
-ghost use Rattle.market_system.specs.MarketSystem.{name as name_in, over_name, need_name, block_columns, energy_rows, variable_of as variable_named, IsVariableOf};
+ghost use Rattle.market_system.specs.MarketSystem.{name as name_in, over_name, offer_name, need_name, block_columns, energy_rows, variable_of as variable_named, IsVariableOf};
 ghost use Rattle.market_dict.specs.Takings.{columns_put};
 
 use limit_rows::{count, place_of, row_at};
@@ -23,12 +23,30 @@ fn over_name(market: &Market, row: Row) -> usize
     market.blocks().len() + 1 + count(market) + 2 * place_of(market, row)
 }
 
+/// The name of the first offer of reserve. The columns of soft limits are before it.
+pub(crate) fn first_offer_name(market: &Market) -> usize
+    ensures { result ≡ offer_name market.now 0 }
+{
+    let _lines = market.lines();
+    market.blocks().len() + 1 + 3 * count(market)
+}
+
+/// The name of the offer at a place, where the first has this one.
+pub(crate) fn offer_name_behind(market: &Market, first: usize, place: usize) -> u32
+    requires first { first ≡ offer_name market.now 0 }
+    requires place { place < length market.now.reserve.offers }
+    ensures { result ≡ offer_name market.now place }
+{
+    let _lines = market.lines();
+    (first + place) as u32
+}
+
 /// The name of the need of reserve. The offers are before it, and the rooms behind it.
 pub(crate) fn need_name(market: &Market) -> usize
     ensures { result ≡ need_name market.now }
 {
     let _lines = market.lines();
-    market.blocks().len() + 1 + 3 * count(market) + market.reserve().offers.len()
+    first_offer_name(market) + market.reserve().offers.len()
 }
 
 /// The name of a variable.
@@ -44,7 +62,7 @@ pub(crate) fn name_of(market: &Market, variable: Variable) -> u32
         Variable::Limit(row) => (blocks + 1 + place_of(market, row)) as u32,
         Variable::Over(row) => over_name(market, row) as u32,
         Variable::Under(row) => (over_name(market, row) + 1) as u32,
-        Variable::Offer(place) => (blocks + 1 + 3 * count(market) + place) as u32,
+        Variable::Offer(place) => offer_name_behind(market, first_offer_name(market), place),
         Variable::Need => need_name(market) as u32,
         Variable::Room(unit) => (need_name(market) + 1 + unit) as u32,
     }
@@ -75,8 +93,9 @@ pub(crate) fn first_names(alloc: Global, market: &Market) -> Result<List<u32>, M
     for place in 0..market.blocks().len() {
         names.push(name_of(market, Variable::Block(place)))?;
     }
+    let first = first_offer_name(market);
     for place in 0..market.reserve().offers.len() {
-        names.push(name_of(market, Variable::Offer(place)))?;
+        names.push(offer_name_behind(market, first, place))?;
     }
     Ok(names)
 }

@@ -1,8 +1,7 @@
 //! The prices and bounds of offers of reserve, of its need and of rooms.
 
-ghost use Rattle.std.specs.Prelude.{◌≡◌, ◌<◌, pos, ◌≤ℤ◌, [], ◌∷◌, ◌++◌, length, map, Contains, IfOk, IfErr};
+ghost use Rattle.std.specs.Prelude.{◌≡◌, ◌<◌, [], ◌∷◌, ◌++◌, length, map, Contains, IfOk, IfErr};
 ghost use Rattle.fraction_theory.specs.Fraction.{whole};
-ghost use Rattle.market_data.specs.Participants.{IsDatum};
 ghost use Rattle.market_model.specs.NamedSums.{IsRefusedIn};
 ghost use Rattle.market_model.specs.Reserves.{reserve_units};
 ghost use Rattle.market_model.specs.Valued.{passed_at};
@@ -13,37 +12,10 @@ ghost use Rattle.market_dict.specs.PricesAndBounds.{AreBounds};
 ghost use Rattle.market_dict.specs.Refusals.{offered_terms};
 
 use exact_fraction::{Exact, Passed, exact_sum};
-use market_model::{Market, Reserve, ReserveOffer, datum};
+use market_model::{Market, datum, need_quantity, offer_price, offer_quantity, room_quantity};
 use plain_list::{List, Memory};
 use simplex_core::Bounds;
 use std::cmp::Ordering;
-
-/// The price of an offer, in 10^-6 per MWh.
-#[tactic(auto, using(market_data::proofs::Data::datum_read))]
-fn offer_price<N: Exact>(offer: &ReserveOffer) -> N
-    requires { IsDatum offer.now.price }
-    ensures { N.value result ≡ whole offer.now.price }
-{
-    datum(offer.price)
-}
-
-/// All that an offer has, in 10^-9 MW.
-#[tactic(auto, using(market_data::proofs::Data::datum_read))]
-fn offer_quantity<N: Exact>(offer: &ReserveOffer) -> N
-    requires { pos 0 ≤ℤ offer.now.quantity }
-    ensures { N.value result ≡ whole offer.now.quantity }
-{
-    datum(offer.quantity)
-}
-
-/// How much reserve is needed, in 10^-9 MW.
-#[tactic(auto, using(market_data::proofs::Data::datum_read))]
-fn need_of<N: Exact>(reserve: &Reserve) -> N
-    requires { pos 0 ≤ℤ reserve.now.need }
-    ensures { N.value result ≡ whole reserve.now.need }
-{
-    datum(reserve.need)
-}
 
 /// Adds what a MW of each offer is worth: the opposite of its price.
 pub(crate) fn push_offer_prices<N: Exact>(
@@ -92,7 +64,7 @@ pub(crate) fn need_bounds<N: Exact>(market: &Market) -> Result<Bounds<N>, Passed
     ensures bounds { IfOk result (λ bounds. AreBounds N.value market.now (variable.Need ∷ []) (bounds ∷ [])) }
     ensures cause { IfErr result (λ passed. IsRefusedIn (offered_terms market.now) N.bound (passed_at N.value passed)) }
 {
-    let need: N = need_of(market.reserve());
+    let need: N = need_quantity(market.reserve());
     let offered = offered(market)?;
     let high = match offered.order(need) {
         Ordering::Less => need,
@@ -102,16 +74,7 @@ pub(crate) fn need_bounds<N: Exact>(market: &Market) -> Result<Bounds<N>, Passed
     Ok(Bounds { low: need, high })
 }
 
-/// By how much a unit may raise its fixed part in all, in 10^-9 MW.
-#[tactic(auto, using(market_data::proofs::Data::datum_read))]
-fn room_up<N: Exact>(market: &Market, unit: usize) -> N
-    requires { unit < length market.now.units }
-    ensures { N.value result ≡ whole (unit_at market.now unit).up }
-{
-    datum(market.units().at(unit).up)
-}
-
-/// By how much it may lower it.
+/// By how much a unit may lower its fixed part in all, in 10^-9 MW.
 #[tactic(auto, using(market_data::proofs::Data::datum_read))]
 fn room_down<N: Exact>(market: &Market, unit: usize) -> N
     requires { unit < length market.now.units }
@@ -129,6 +92,6 @@ pub(crate) fn room_bounds<N: Exact>(market: &Market, unit: usize) -> Bounds<N>
     let down: N = room_down(market, unit);
     Bounds {
         low: down.neg(),
-        high: room_up(market, unit),
+        high: room_quantity(market, unit),
     }
 }

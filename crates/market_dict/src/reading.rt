@@ -15,7 +15,7 @@ ghost use Rattle.market_dict.specs.Holding.{HoldsMarket, HoldsSystem};
 ghost use Rattle.market_dict.specs.Takings.{taken_of};
 ghost use Rattle.market_dict.specs.declared.taking.Taking.{Taking};
 
-use crate::names::{name_of, variable_of};
+use crate::names::{first_offer_name, name_of, offer_name_behind, variable_of};
 use crate::reserve_prices::{reserve_price, room_prices};
 use exact_fraction::{Exact, Passed, Sign, exact_difference};
 use limit_rows::{count, name_at};
@@ -54,8 +54,9 @@ pub(crate) fn reserved<N: Exact>(
     ensures { (ts : List Taking) → HoldsSystem market.now ts dict.now → IfOk result (λ values. map N.value values ≡ (choice_dispatch market.now (taken_of ts) (choice_of dict.now)).reserve) }
 {
     let mut values = List::new(alloc);
+    let first = first_offer_name(market);
     for offer in 0..market.reserve().offers.len() {
-        let name = name_of(market, Variable::Offer(offer));
+        let name = offer_name_behind(market, first, offer);
         values.push(dict.note(name).value)?;
     }
     Ok(values)

@@ -1,5 +1,5 @@
 -- The bytes of files stand for one market, or have one first fault: each step of the work tells one thing.
-use Rattle.std.proofs.Common.{◌≡◌, ◌∙◌, refl, sym, ap, subst, arith, ℕ, ℤ, List, [], map, Option, Some, None, Result, Ok, Err}
+use Rattle.std.proofs.Common.{◌≡◌, ◌∙◌, refl, sym, ap, subst, arith, ℕ, ℤ, List, map, Result, Ok, Err}
 use Rattle.std.proofs.lemmas.Bool.{cases_lt}
 use Rattle.std.proofs.Math.Logic.{⊎_elim}
 use Rattle.record_reading.specs.Steps.{or_as}
@@ -20,7 +20,7 @@ use Rattle.market_inputs.specs.Cases.{IsJoined, IsJoinedNetwork, joined, matrice
 use Rattle.market_inputs.specs.Checking.{AreInputs, inputs_of}
 use Rattle.market_inputs.specs.Clearing.{IsClearMarket, market_of}
 use Rattle.market_inputs.specs.Files.{SizedGrid, SizedTables, sized}
-use Rattle.market_inputs.specs.Making.{AreAskedOutages, AreFactorInputs}
+use Rattle.market_inputs.specs.Making.{AreFactorInputs}
 use Rattle.market_inputs.specs.Pooling.{IsPoolMarket, pool_of}
 use Rattle.market_inputs.specs.Steps.{Is, Onward, Then}
 use Rattle.market_inputs.specs.Tables.{AreListed, AreOutagesIn, AreTables, cover_in, loss_in, numbers_in, offers_in, offsets_in, penalties_in, reserves_in, shift_in, unit_outages_in}
@@ -120,14 +120,10 @@ inputs-once places files =
     (λ tables _. is-once (Ok (inputs_of network reactances tables))))))
 
 -- ---- what tables of factors are made of
-asked-outages-once : (network : LiveNetwork) → HasRows network → (contingencies : Option (List ℕ)) → OfOne (AreAskedOutages network contingencies)
-asked-outages-once network kept (Some bytes) = outages-once network kept (sized (refusal.TooLong input.Contingencies) bytes)
-asked-outages-once network kept None = is-once (Ok [])
-
-pub factor-inputs-once : (case : List ℕ) (contingencies : Option (List ℕ)) → OfOne (AreFactorInputs case contingencies)
+pub factor-inputs-once : (case contingencies : List ℕ) → OfOne (AreFactorInputs case contingencies)
 factor-inputs-once case contingencies =
     then-once _ _ (is-once (matrices_in (sized (refusal.TooLong input.Case) case)))
     (λ matrices _. then-once _ _ (joined-network-once rating.C matrices)
     (λ network is. then-once _ _ (is-once (reactances_in matrices network))
-    (λ reactances _. then-once _ _ (asked-outages-once network (joined-rows rating.C matrices network is) contingencies)
+    (λ reactances _. then-once _ _ (outages-once network (joined-rows rating.C matrices network is) (sized (refusal.TooLong input.Contingencies) contingencies))
     (λ outages _. is-once (Ok (record { network = network; reactances = reactances; outages = outages }))))))

@@ -1,5 +1,5 @@
 -- What tables of factors are made of.
-use Rattle.std.specs.Prelude.{ℕ, List, [], length, Option, Some, None, Result, Ok}
+use Rattle.std.specs.Prelude.{ℕ, List, length, Result, Ok}
 use Rattle.case_text.specs.Matrices.{CaseMatrices}
 use Rattle.net_case.specs.Networks.{IsNetwork, LiveNetwork}
 use Rattle.net_case.specs.declared.live_parts.PostRating.TheVariants as rating
@@ -15,23 +15,19 @@ use Rattle.market_inputs.specs.Files.{sized}
 use Rattle.market_inputs.specs.Steps.{Is, Then}
 use Rattle.market_inputs.specs.Tables.{AreOutagesIn}
 
--- the outages of a table, none where there is no table
-abbrev pub AreAskedOutages : LiveNetwork → Option (List ℕ) → Result (List ℕ) Refusal → Type 0
-AreAskedOutages network (Some bytes) told = AreOutagesIn network (sized (refusal.TooLong input.Contingencies) bytes) told
-AreAskedOutages network None told = Is (Ok []) told
-
 -- what the rows of a case and the bytes of a table of outages stand for, or the first fault: whether the case is joined, and its reactances, come before the outages
-abbrev pub AreFactorInputsOf : Option (List ℕ) → CaseMatrices → Result FactorInputs Refusal → Type 0
+abbrev pub AreFactorInputsOf : Result (List ℕ) Refusal → CaseMatrices → Result FactorInputs Refusal → Type 0
 AreFactorInputsOf contingencies matrices told =
     Then (IsJoinedNetwork rating.C matrices) (λ network.
     Then (Is (reactances_in matrices network)) (λ reactances.
-    Then (AreAskedOutages network contingencies) (λ outages.
+    Then (AreOutagesIn network contingencies) (λ outages.
     Is (Ok (record { network = network; reactances = reactances; outages = outages }))))) told
 
--- What the bytes of a case, and of a table of outages where there is one, stand for, or the first fault. The case comes first, as for a check: its text, its rows, whether
--- it is joined, and its reactances.
-abbrev pub AreFactorInputs : List ℕ → Option (List ℕ) → Result FactorInputs Refusal → Type 0
-AreFactorInputs case contingencies told = Then (Is (matrices_in (sized (refusal.TooLong input.Case) case))) (AreFactorInputsOf contingencies) told
+-- What the bytes of a case and of a table of outages stand for, or the first fault. The case comes first, as for a check: its text, its rows, whether it is joined, and its
+-- reactances.
+abbrev pub AreFactorInputs : List ℕ → List ℕ → Result FactorInputs Refusal → Type 0
+AreFactorInputs case contingencies told =
+    Then (Is (matrices_in (sized (refusal.TooLong input.Case) case))) (AreFactorInputsOf (sized (refusal.TooLong input.Contingencies) contingencies)) told
 
 -- a network whose live branches join all its live buses, one reactance for each live branch, and outages that leave all buses joined
 pub record AreFitToMake (inputs : FactorInputs) : Type 0 where

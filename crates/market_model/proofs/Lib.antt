@@ -23,6 +23,7 @@ pub mod ReserveSums
 pub mod RightFits
 mod RightsCases
 mod RightsLaw
+pub mod RoomLemmas
 pub mod RowLaws
 pub mod RowMembers
 pub mod Rows

@@ -80,6 +80,14 @@ pub data FactorSum (m : Parts) (r : Row) : List Term → Type 0 where
 abbrev pub IsFactorRefusal : Parts → List Row → ℕ → Passed Fraction → Type 0
 IsFactorRefusal m g bound p = (r : Row) × Contains g r × IsRefusedAmong (FactorSum m r) bound p
 
+-- the same of factors at buses alone
+abbrev pub IsBusFactorRefusal : Parts → List Row → ℕ → Passed Fraction → Type 0
+IsBusFactorRefusal m g bound p = (r : Row) × Contains g r × ((i : ℕ) × (i < length m.buses) × IsRefusedIn (factor_terms m r i) bound p)
+
+-- and of pickup factors alone
+abbrev pub IsPickupRefusal : Parts → List Row → ℕ → Passed Fraction → Type 0
+IsPickupRefusal m g bound p = (r : Row) × Contains g r × IsRefusedAmong (PickupSum m r) bound p
+
 -- of a dispatch: the output of a unit
 pub data OutputSum (m : Parts) (x : Dispatch) : List Term → Type 0 where
   output_of_unit : (u : ℕ) → u < length m.units → OutputSum m x (output_terms m x u)
@@ -116,6 +124,10 @@ pub data WorthSum (m : Parts) (d : Duals Fraction) : List Term → Type 0 where
 -- an operation refused in the prices at buses and of units: in one of their sums, or in the factor of a row that duals name
 abbrev pub IsRefusedInPrices : Parts → Duals Fraction → ℕ → Passed Fraction → Type 0
 IsRefusedInPrices m d bound p = IsRefusedAmong (PriceSum m d) bound p ⊎ IsFactorRefusal m (named_rows m d) bound p
+
+-- the same of the prices at buses alone
+abbrev pub IsRefusedInBusPrices : Parts → Duals Fraction → ℕ → Passed Fraction → Type 0
+IsRefusedInBusPrices m d bound p = ((i : ℕ) × (i < length m.buses) × IsRefusedAmong (BusPriceSum m d i) bound p) ⊎ IsBusFactorRefusal m (named_rows m d) bound p
 
 -- the bound of duals that are to show that nothing is feasible
 pub data BoundSum (m : Parts) (d : Duals Fraction) : List Term → Type 0 where

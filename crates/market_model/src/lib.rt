@@ -12,6 +12,7 @@ mod outages;
 mod participants;
 mod pickup_table;
 mod putting;
+mod reserving;
 mod stops;
 
 pub use amounts::{datum, zeros};
@@ -28,6 +29,10 @@ pub use participants::{
 };
 pub use plain_list::{List, Memory};
 pub use putting::{balance, injections, output};
+pub use reserving::{
+    need_quantity, offer_price, offer_quantity, offers_reserve, reserve_in_all, room_quantity,
+    room_used,
+};
 pub use stops::Stop;
 
 #[cfg(test)]

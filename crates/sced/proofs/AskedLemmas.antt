@@ -81,14 +81,14 @@ rights-files-once files names rights a b h k =
     let entitled = subst (λ texts. AreEntitled names.rating names.places texts k.rights b) (same-texts files names k.texts h.texts k.have h.have) k.entitled in
     entitled-once names.rating names.places h.texts h.rights a b h.entitled (subst (λ table. AreEntitled names.rating names.places h.texts table b) same_rights entitled)
 
-factor-work-once : (case outages : List ℕ) → OfOne (IsFactorWork case (Some outages))
-factor-work-once case outages = factor-inputs-once case (Some outages)
+factor-work-once : (case outages : List ℕ) → OfOne (IsFactorWork case outages)
+factor-work-once case outages = factor-inputs-once case outages
 
 factor-files-once : (files : Files) (names : FactorNames) → OfOne (AreFactorFiles files names)
 factor-files-once files names a b h k =
     let same_case = same-bytes k.case h.case (files names.case) k.case_is h.case_is in
     let same_outages = same-table files (source_of outage_header names.contingencies) k.outages h.outages k.outages_are h.outages_are in
-    factor-work-once h.case h.outages a b h.work (subst (λ o. IsFactorWork h.case (Some o) b) same_outages (subst (λ c. IsFactorWork c (Some k.outages) b) same_case k.work))
+    factor-work-once h.case h.outages a b h.work (subst (λ o. IsFactorWork h.case o b) same_outages (subst (λ c. IsFactorWork c k.outages b) same_case k.work))
 
 migrated-file-once : (files : Files) (certificate : List ℕ) → OfOne (IsMigratedFile files certificate)
 migrated-file-once files certificate a b h k =

@@ -68,7 +68,7 @@ abbrev makings : Inputs → FactorInputs
 makings checked = record { network = checked.network; reactances = checked.reactances; outages = checked.outages }
 
 record AreCheckParts (places : FactorPlaces) (texts : GridTexts) (checked : Inputs) : Type 0 where
-  work : AreFactorInputs texts.case (Some texts.contingencies) (Ok (makings checked))
+  work : AreFactorInputs texts.case texts.contingencies (Ok (makings checked))
   shift : shift_in places checked.network (sized (refusal.TooLong input.Ptdf) texts.ptdf) ≡ Ok checked.shift
   loss : loss_in places checked.network (sized (refusal.TooLong input.Lodf) texts.lodf) ≡ Ok checked.loss
 
@@ -159,10 +159,10 @@ module _ (shift_explained : ShiftTablesAreExplained) (loss_explained : LossTable
       let outages : again.texts.contingencies ≡ stand.outages =
       same-table files (source_of outage_header names.contingencies) again.texts.contingencies stand.outages
       (table-stays names files later t kept apart names.contingencies outage_header again.texts.contingencies (λ name is. inr is) again.have.contingencies) stand.outages_are in
-      let work : AreFactorInputs stand.case (Some stand.outages) (Ok (makings checked)) =
-      subst (λ o. AreFactorInputs stand.case (Some o) (Ok (makings checked))) outages
-      (subst (λ c. AreFactorInputs c (Some again.texts.contingencies) (Ok (makings checked))) case (check-parts names.places again.texts checked again.inputs).work) in
-      one-made (makings checked) inputs (factor-inputs-once stand.case (Some stand.outages) (Ok (makings checked)) (Ok inputs) work stand.work)
+      let work : AreFactorInputs stand.case stand.outages (Ok (makings checked)) =
+      subst (λ o. AreFactorInputs stand.case o (Ok (makings checked))) outages
+      (subst (λ c. AreFactorInputs c again.texts.contingencies (Ok (makings checked))) case (check-parts names.places again.texts checked again.inputs).work) in
+      one-made (makings checked) inputs (factor-inputs-once stand.case stand.outages (Ok (makings checked)) (Ok inputs) work stand.work)
 
   same-network : checked.network ≡ inputs.network
   same-network = ap (λ (x : FactorInputs). x.network) same-inputs

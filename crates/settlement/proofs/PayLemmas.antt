@@ -17,7 +17,7 @@ use Rattle.market_model.specs.Optimality.{named_rows, own_price}
 use Rattle.market_model.specs.Valued.{load_at, unit_pay_at}
 use Rattle.market_model.proofs.SumSteps.{plus_at, product_at}
 use Rattle.market_model.specs.Settlement.{pay_of_unit, pay_of_load, load_terms, unit_terms}
-use Rattle.market_model.specs.SumTables.{IsFactorRefusal, IsRefusedAmong, OwnPriceSum, demand_of_bus, output_of_unit, paid_by_load, paid_output, paid_price, paid_to_unit, payment}
+use Rattle.market_model.specs.SumTables.{IsPickupRefusal, IsRefusedAmong, OwnPriceSum, factor_of_pickup, demand_of_bus, output_of_unit, paid_by_load, paid_output, paid_price, paid_to_unit, payment}
 use Rattle.settlement.specs.Refusals.{IsMoneyRefusal}
 
 pub demand_is : (m : Parts) (i : ℕ) (bus : Bus) → bus ≡ bus_at m i → whole bus.pd +ℚ whole bus.gs ≡ demand m i
@@ -67,6 +67,6 @@ module _ (m : Parts) (x : Dispatch) (price : ℕ → Fraction) (d : Duals Fracti
   )
 
   -- own prices of units
-  pub own_refusal : IsRefusedAmong (OwnPriceSum m d price) bound p ⊎ IsFactorRefusal m (named_rows m d) bound p → IsMoneyRefusal m x price d bound p
+  pub own_refusal : IsRefusedAmong (OwnPriceSum m d price) bound p ⊎ IsPickupRefusal m (named_rows m d) bound p → IsMoneyRefusal m x price d bound p
   own_refusal (inl (terms, sum, a)) = inl (terms, paid_price terms sum, a)
-  own_refusal (inr a) = inr a
+  own_refusal (inr (r, named, terms, sum, a)) = inr (r, named, terms, factor_of_pickup terms sum, a)

@@ -1,90 +1,91 @@
 //! A small market with reserve, settled by hand.
 
 ghost use Rattle.std.specs.Prelude.{◌≡◌, ◌∷◌, ◌≤ℤ◌, [], pos, length, true, IfOk};
+ghost use Rattle.market_model.specs.Market.{bare_parts};
 ghost use Rattle.market_model.specs.declared.participants.Side.TheVariants.{Sell};
 
 use crate::settle;
 use exact_fraction::Frac;
 use market_model::{
-    Block, Bus, Duals, FactorPlaces, List, Market, Memory, Money, Parts, Price, Reserve,
-    ReserveOffer, Side, Unit, assemble, datum,
+    Block, Bus, Duals, List, Market, Memory, Money, Parts, Price, Reserve, ReserveOffer, Side,
+    Stop, Unit, assemble, datum,
 };
 use std::alloc::Global;
 use std::test::Fail;
 
-fn unit(row: u32) -> Unit
-    ensures { result ≡ record { row = row; bus = 0; fixed = pos 0; up = pos 100; down = pos 0 } }
-{
+const BUSES: [Bus; 1] = [Bus {
+    number: 1,
+    pd: 60,
+    gs: 0,
+}];
+
+const UNITS: [Unit; 2] = [
     Unit {
-        row,
+        row: 1,
         bus: 0,
         fixed: 0,
         up: 100,
         down: 0,
-    }
-}
+    },
+    Unit {
+        row: 2,
+        bus: 0,
+        fixed: 0,
+        up: 100,
+        down: 0,
+    },
+];
 
-fn sold_by(unit: usize, price: i64) -> Block
-    ensures { result ≡ record { unit = unit; side = Sell; quantity = pos 100; price = price } }
-{
+const BLOCKS: [Block; 2] = [
     Block {
-        unit,
+        unit: 0,
         side: Side::Sell,
         quantity: 100,
-        price,
-    }
-}
+        price: 10,
+    },
+    Block {
+        unit: 1,
+        side: Side::Sell,
+        quantity: 100,
+        price: 30,
+    },
+];
 
-fn offered_by(unit: usize, price: i64) -> ReserveOffer
-    ensures { result ≡ record { unit = unit; quantity = pos 50; price = price } }
-{
+const OFFERS: [ReserveOffer; 2] = [
     ReserveOffer {
-        unit,
+        unit: 0,
         quantity: 50,
-        price,
+        price: 2,
+    },
+    ReserveOffer {
+        unit: 1,
+        quantity: 50,
+        price: 5,
+    },
+];
+
+/// A list of these.
+fn listed<T: Copy>(alloc: Global, items: &[T]) -> Result<List<T>, Memory>
+    ensures { IfOk result (λ list. list ≡ items.now) }
+{
+    let mut list = List::new(alloc);
+    for item in items {
+        list.push(*item)?;
     }
-}
-
-fn one_bus(alloc: Global) -> Result<List<Bus>, Memory>
-    ensures { IfOk result (λ list. list ≡ record { number = 1; pd = pos 60; gs = pos 0 } ∷ []) }
-{
-    let mut list = List::new(alloc);
-    list.push(Bus {
-        number: 1,
-        pd: 60,
-        gs: 0,
-    })?;
     Ok(list)
 }
 
-fn two_units(alloc: Global) -> Result<List<Unit>, Memory>
-    ensures { IfOk result (λ list. list ≡ record { row = 1; bus = 0; fixed = pos 0; up = pos 100; down = pos 0 } ∷ record { row = 2; bus = 0; fixed = pos 0; up = pos 100; down = pos 0 } ∷ []) }
+/// A load of 60 MW. Two units with room for 100 MW each sell up to that at 10 and at 30.
+fn energy(alloc: Global) -> Result<Parts, Memory>
+    ensures { IfOk result (λ parts. parts ≡ bare_parts (record { number = 1; pd = pos 60; gs = pos 0 } ∷ []) (record { row = 1; bus = 0; fixed = pos 0; up = pos 100; down = pos 0 } ∷ record { row = 2; bus = 0; fixed = pos 0; up = pos 100; down = pos 0 } ∷ []) (record { unit = 0; side = Sell; quantity = pos 100; price = pos 10 } ∷ record { unit = 1; side = Sell; quantity = pos 100; price = pos 30 } ∷ [])) }
 {
-    let mut list = List::new(alloc);
-    list.push(unit(1))?;
-    list.push(unit(2))?;
-    Ok(list)
+    let buses = listed(alloc, &BUSES)?;
+    let units = listed(alloc, &UNITS)?;
+    let blocks = listed(alloc, &BLOCKS)?;
+    Ok(Parts::bare(alloc, buses, units, blocks))
 }
 
-fn two_blocks(alloc: Global) -> Result<List<Block>, Memory>
-    ensures { IfOk result (λ list. list ≡ record { unit = 0; side = Sell; quantity = pos 100; price = pos 10 } ∷ record { unit = 1; side = Sell; quantity = pos 100; price = pos 30 } ∷ []) }
-{
-    let mut list = List::new(alloc);
-    list.push(sold_by(0, 10))?;
-    list.push(sold_by(1, 30))?;
-    Ok(list)
-}
-
-fn two_offers(alloc: Global) -> Result<List<ReserveOffer>, Memory>
-    ensures { IfOk result (λ list. list ≡ record { unit = 0; quantity = pos 50; price = pos 2 } ∷ record { unit = 1; quantity = pos 50; price = pos 5 } ∷ []) }
-{
-    let mut list = List::new(alloc);
-    list.push(offered_by(0, 2))?;
-    list.push(offered_by(1, 5))?;
-    Ok(list)
-}
-
-/// A load of 60 MW. Two units with room for 100 MW each sell up to that at 10 and at 30, and offer 50 MW of reserve each at 2 and at 5.
+/// The units also offer 50 MW of reserve each at 2 and at 5.
 fn needing(alloc: Global, need: i64) -> Result<Market, Memory>
     requires { pos 0 ≤ℤ need }
     ensures blocks { IfOk result (λ market. length market.blocks ≡ 2) }
@@ -92,28 +93,18 @@ fn needing(alloc: Global, need: i64) -> Result<Market, Memory>
     ensures listed { IfOk result (λ market. market.reserve.listed ≡ true) }
     ensures buses { IfOk result (λ market. length market.buses ≡ 1) }
 {
-    let parts = Parts {
-        buses: one_bus(alloc)?,
-        units: two_units(alloc)?,
-        blocks: two_blocks(alloc)?,
-        lines: List::new(alloc),
-        outages: List::new(alloc),
-        shift: List::new(alloc),
-        loss: List::new(alloc),
-        unit_outages: List::new(alloc),
-        pickups: List::new(alloc),
-        places: FactorPlaces::Six,
-        reserve: Reserve {
-            listed: true,
-            offers: two_offers(alloc)?,
-            need,
-        },
+    let offers = listed(alloc, &OFFERS)?;
+    let mut parts = energy(alloc)?;
+    parts.reserve = Reserve {
+        listed: true,
+        offers,
+        need,
     };
     assemble(alloc, parts)
 }
 
 /// The settlement where the first unit sells all that is taken, at 13, and reserve of 40 and 20 MW has the price 5.
-fn settled(alloc: Global, market: &Market) -> Result<Money<Frac>, Fail>
+fn settled(alloc: Global, market: &Market) -> Result<Money<Frac>, Stop<Frac>>
     requires blocks { length market.now.blocks ≡ 2 }
     requires offers { length market.now.reserve.offers ≡ 2 }
     requires listed { market.now.reserve.listed ≡ true }
@@ -133,21 +124,30 @@ fn settled(alloc: Global, market: &Market) -> Result<Money<Frac>, Fail>
     };
     let dispatch: [Frac; 2] = [datum(60), datum(0)];
     let reserve: [Frac; 2] = [datum(40), datum(20)];
-    Ok(settle(alloc, market, &dispatch, &reserve, &prices, &duals)?)
+    settle(alloc, market, &dispatch, &reserve, &prices, &duals)
 }
 
-/// What the offer of reserve at a place is paid.
-fn paid_for_reserve(money: &Money<Frac>, offer: usize) -> Option<Frac> {
-    Some(money.reserve.slice().get(offer)?.paid)
+/// Whether the two offers of reserve are paid 200 and 100, and nothing is left.
+fn is_all_paid(money: &Money<Frac>) -> bool {
+    match money.reserve.slice() {
+        [first, second] => {
+            first.paid == datum(200) && second.paid == datum(100) && money.surplus == datum(0)
+        }
+        _ => false,
+    }
+}
+
+/// Whether the settlement of the market comes to that.
+fn pays_reserve(alloc: Global) -> Result<bool, Stop<Frac>> {
+    let market = needing(alloc, 60)?;
+    match settled(alloc, &market) {
+        Ok(money) => Ok(is_all_paid(&money)),
+        Err(stop) => Err(stop),
+    }
 }
 
 #[test]
 fn offers_of_reserve_are_paid(rt: HostRuntime) -> Result<(), Fail> {
-    let alloc = rt.alloc();
-    let market = needing(alloc, 60)?;
-    let money = settled(alloc, &market)?;
-    assert_eq!(rt; paid_for_reserve(&money, 0), Some(datum(200)));
-    assert_eq!(rt; paid_for_reserve(&money, 1), Some(datum(100)));
-    assert_eq!(rt; money.surplus, datum(0));
+    assert!(rt; pays_reserve(rt.alloc())?);
     Ok(())
 }

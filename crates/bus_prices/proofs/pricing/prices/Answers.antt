@@ -6,7 +6,7 @@ use Rattle.market_model.specs.declared.limits.Row.{Row}
 use Rattle.market_model.specs.LimitRows.{row_factor}
 use Rattle.market_model.specs.Optimality.{named_rows, price_terms}
 use Rattle.market_model.specs.RightAnswers.{price_of_parts}
-use Rattle.market_model.specs.SumTables.{price_at as total_at, price_of_bus}
+use Rattle.market_model.specs.SumTables.{price_at as total_at}
 use Rattle.market_model.specs.Valued.{dual_at, duals_at, passed_at}
 use Rattle.limit_rows.proofs.DualLemmas.{named_count, dual_one_sided, dual_row}
 use Rattle.bus_prices.proofs.PriceLemmas.{added_refused, congestion_all, congestion_step, congestion_to, made_of_parts, same_parts, total_refused}
@@ -71,5 +71,5 @@ returns-clause-cause g c =
     IfErr-weaker c.put_totals.result _ _
     (λ p why.
     let inside : why.0 < length m.buses = omega (arith, why.1, c.loop-dual.auto.out, c.requires.out) in
-    inl (price_terms m d why.0, price_of_bus why.0 _ inside total_at, total_refused m d why.0 (congestion_to m d why.0 k) g.N.Exact.bound (passed_at g.N.Exact.value p) (congestion_all m d why.0 k all) why.2))
+    inl (why.0, inside, price_terms m d why.0, total_at, total_refused m d why.0 (congestion_to m d why.0 k) g.N.Exact.bound (passed_at g.N.Exact.value p) (congestion_all m d why.0 k all) why.2))
     (c.put_totals.ensures.cause d.energy (λ bus. congestion_to m d bus k) c.loop-dual.invariant)

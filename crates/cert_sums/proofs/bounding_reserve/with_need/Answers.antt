@@ -12,7 +12,7 @@ returns-then-reserve-clause-sum g c = λ d price start.
     let m = c.args.market.now in
     let value = g.N.Exact.value in
     let listed : m.reserve.listed ≡ true = ap (λ (r : Reserve). r.listed) (sym c.reserve.ensures.reserve) ∙ c.if-reserve.true in
-    let need = c.neg.ensures ∙ ap neg_ℚ (c.need_of-need.ensures ∙ ap (λ (r : Reserve). whole r.need) c.reserve-then-reserve.ensures.reserve) in
+    let need = c.neg.ensures ∙ ap neg_ℚ (c.need_quantity-need.ensures ∙ ap (λ (r : Reserve). whole r.need) c.reserve-then-reserve.ensures.reserve) in
     MatchResult-weaker c.plus_product.result c.plus_product.ensures
     (λ r is. need_made m d listed (value c.args.of_limits) (value r) start (is.exact ∙ ap₂ (λ s t. value c.args.of_limits +ℚ s *ℚ t) price need)) (λ _ _. tt)
 
@@ -21,7 +21,7 @@ returns-then-reserve-clause-cause g c = λ d price start.
     let m = c.args.market.now in
     let value = g.N.Exact.value in
     let listed : m.reserve.listed ≡ true = ap (λ (r : Reserve). r.listed) (sym c.reserve.ensures.reserve) ∙ c.if-reserve.true in
-    let need = c.neg.ensures ∙ ap neg_ℚ (c.need_of-need.ensures ∙ ap (λ (r : Reserve). whole r.need) c.reserve-then-reserve.ensures.reserve) in
+    let need = c.neg.ensures ∙ ap neg_ℚ (c.need_quantity-need.ensures ∙ ap (λ (r : Reserve). whole r.need) c.reserve-then-reserve.ensures.reserve) in
     MatchResult-weaker c.plus_product.result c.plus_product.ensures (λ _ _. tt)
     (λ p is. need_refused m d listed (value c.args.of_limits) g.N.Exact.bound (passed_at value p) start
     (share_refused value g.N.Exact.bound c.args.of_limits c.args.reserve c.neg.result p _ _ _ is refl price need))

@@ -1,19 +1,12 @@
 use Rattle.std.proofs.Common.{rules, Err, ◌≡◌}
 use Rattle.market_model.specs.Valued.{duals_at, passed_at}
 use Rattle.market_model.proofs.StopLemmas.{on_passed_weaker}
-use Rattle.clear_loop.proofs.FarkasSums.{flows_refused, prices_refused}
+use Rattle.clear_loop.proofs.FarkasSums.{prices_refused}
 use Rattle.clear_loop.proofs.bounding.farkas_bound.Goals as goal
-
-pub returns-in_err-flows-clause-cause : goal.returns-in_err-flows-clause-cause
-returns-in_err-flows-clause-cause g c =
-    let value = g.N.Exact.value in
-    let given : c.from_residual.result ≡ Err c.in_err-flows.field-0.0 = search rules in
-    rw given
-    (on_passed_weaker c.in_err-flows.field-0.0 _ _ (λ p h. flows_refused c.args.market.now (duals_at value c.args.duals.now) g.N.Exact.bound (passed_at value p) h) c.in_err-flows.ensures.cause)
 
 pub returns-in_err-own-clause-cause : goal.returns-in_err-own-clause-cause
 returns-in_err-own-clause-cause g c =
     let value = g.N.Exact.value in
-    let given : c.from_residual-in_err-own.result ≡ Err c.in_err-own.field-0.0 = search rules in
+    let given : c.from_residual.result ≡ Err c.in_err-own.field-0.0 = search rules in
     rw given
     (on_passed_weaker c.in_err-own.field-0.0 _ _ (λ p h. prices_refused c.args.market.now (duals_at value c.args.duals.now) g.N.Exact.bound (passed_at value p) h) c.in_err-own.ensures.cause)

@@ -21,8 +21,8 @@ nothing_found g c =
     let ts = c.args.hand.taken.takings in
     subst (λ (f : Found g.row.N.Denot). IsFound g.N.Exact.value m ts f) c.in-Nothing.is (c.in_ok-dict.ensures.found ts c.requires.start c.requires.posing)
 
-pub bound_of-requires : goal.bound_of-requires
-bound_of-requires g c = (c.args.hand.taken.takings, (nothing_found g (goal.at.bound_of-requires g c).In-Nothing).1)
+pub bound_of-requires-clause-stuck : goal.bound_of-requires-clause-stuck
+bound_of-requires-clause-stuck g c = (c.args.hand.taken.takings, (nothing_found g (goal.at.bound_of-requires-clause-stuck g c).In-Nothing).1)
 
 pub returns-in_ok-bound-in-Nothing-clause-round : goal.returns-in_ok-bound-in-Nothing-clause-round
 returns-in_ok-bound-in-Nothing-clause-round g c =

@@ -1,15 +1,8 @@
-use Rattle.std.proofs.Common.{◌≡◌, ◌∙◌, ap, false, sym}
-use Rattle.market_model.specs.declared.participants.Reserve.{Reserve}
-use Rattle.market_model.specs.declared.participants.ReserveOffer.{ReserveOffer}
-use Rattle.market_model.specs.Reserves.{offers_among, offers_reserve}
+use Rattle.std.proofs.Common.{◌∙◌, sym}
 use Rattle.market_model.specs.Valued.{duals_at}
-use Rattle.std.specs.Prelude.{List}
 use Rattle.clear_loop.proofs.FarkasSums.{no_room_price}
 use Rattle.clear_loop.proofs.worths.less_room.Goals as goal
 
-pub returns-else-is_offered-clause-less : goal.returns-else-is_offered-clause-less
-returns-else-is_offered-clause-less g c =
-    let m = c.args.market.now in
-    let offers = c.slice.ensures ∙ ap (λ (r : Reserve). r.offers) c.reserve.ensures.reserve in
-    let none : offers_reserve m c.args.unit ≡ false = sym (c.is_offered.ensures ∙ ap (λ (os : List ReserveOffer). offers_among os c.args.unit) offers) ∙ c.if-is_offered.false in
-    no_room_price m (duals_at g.N.Exact.value c.args.duals.now) c.args.unit (g.N.Exact.value c.args.price) none
+pub returns-else-offers_reserve-clause-less : goal.returns-else-offers_reserve-clause-less
+returns-else-offers_reserve-clause-less g c =
+    no_room_price c.args.market.now (duals_at g.N.Exact.value c.args.duals.now) c.args.unit (g.N.Exact.value c.args.price) (sym c.offers_reserve.ensures ∙ c.if-offers_reserve.false)

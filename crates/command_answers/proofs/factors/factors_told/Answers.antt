@@ -1,4 +1,3 @@
-use Rattle.std.specs.Prelude.{option_map}
 use Rattle.command_answers.specs.Factors.{TellsFactors}
 use Rattle.command_answers.specs.Inputs.{IsFactorWork}
 use Rattle.command_answers.specs.Tellings.{telling_of}
@@ -15,6 +14,6 @@ returns-in-Ok-clause-tells c =
 pub returns-in-Err-Refused-clause-tells : goal.returns-in-Err-Refused-clause-tells
 returns-in-Err-Refused-clause-tells c =
     if_ok-map _ _ c.refused.result
-    (λ told is. refused-tells (IsFactorWork c.args.case.now (option_map (λ bytes. bytes.now) c.args.contingencies)) (TellsFactors c.args.wanted c.args.places) c.in-Err-Refused.field-0 c.in-Err-Refused.refusal (telling_of told)
+    (λ told is. refused-tells (IsFactorWork c.args.case.now c.args.contingencies.now) (TellsFactors c.args.wanted c.args.places) c.in-Err-Refused.field-0 c.in-Err-Refused.refusal (telling_of told)
     c.in-Err-Refused.field-0-is c.in-Err-Refused.ensures.told is)
     c.refused.ensures.telling

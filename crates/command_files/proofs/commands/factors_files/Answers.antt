@@ -1,4 +1,4 @@
-use Rattle.std.proofs.Common.{◌∙◌, Some, subst, sym}
+use Rattle.std.proofs.Common.{◌∙◌, subst, sym}
 use Rattle.factor_tables.specs.OutageNumbers.{outage_header}
 use Rattle.outside_store.specs.Files.{Reads}
 use Rattle.command_answers.specs.Factors.{TellsFactors}
@@ -21,5 +21,5 @@ returns-clause-right g c =
     told-ok _ _ c.or_memory.result c.factors_told.result c.or_memory.ensures
     (if_ok-map _ _ c.factors_told.result
     (λ told is. files-factors files names c.as_slice.result.now c.as_slice-2.result.now (telling_of told) case outages
-    (subst (λ loss. Tells (IsFactorWork c.as_slice.result.now (Some c.as_slice-2.result.now)) (TellsFactors loss names.places) (telling_of told)) wanted is))
+    (subst (λ loss. Tells (IsFactorWork c.as_slice.result.now c.as_slice-2.result.now) (TellsFactors loss names.places) (telling_of told)) wanted is))
     c.factors_told.ensures.tells)

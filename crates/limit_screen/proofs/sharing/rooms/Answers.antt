@@ -1,7 +1,7 @@
 use Rattle.std.proofs.Common.{arith, refl, length, ap}
 use Rattle.market_data.specs.declared.participants.Unit as unit
 use Rattle.market_model.proofs.PutInSteps.{unit_read}
-use Rattle.limit_screen.proofs.RoomLemmas.{listed-inside}
+use Rattle.market_model.proofs.RoomLemmas.{listed-inside}
 use Rattle.limit_screen.proofs.sharing.rooms.Goals as goal
 
 pub at-requires : goal.at-requires

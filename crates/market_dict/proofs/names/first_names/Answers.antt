@@ -23,7 +23,7 @@ loop-place-2-preserved c =
     let m = c.args.market.now in
     let k = c.loop-place-2.place in
     let blocks = map (name m) (block_columns m) in
-    c.in_ok-push-2.ensures ∙ ap₂ (λ (xs : List ℕ) (n : ℕ). xs ++ n ∷ []) c.loop-place-2.invariant c.name_of-in-loop-place-2.ensures
+    c.in_ok-push-2.ensures ∙ ap₂ (λ (xs : List ℕ) (n : ℕ). xs ++ n ∷ []) c.loop-place-2.invariant c.offer_name_behind.ensures
     ∙ append_assoc blocks (map (offer_name m) (places k)) (offer_name m k ∷ [])
     ∙ ap (λ (xs : List ℕ). blocks ++ xs) (sym (ap (map (offer_name m)) (places_more k) ∙ map-append (offer_name m) (places k) (k ∷ [])))
 

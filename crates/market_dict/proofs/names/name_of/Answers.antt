@@ -2,7 +2,8 @@ use Rattle.std.proofs.Common.{◌≡◌, ◌<◌, ◌∙◌, ◌+◌, ℕ, ap, s
 use Rattle.market_model.specs.Optimality.{all_of}
 use Rattle.market_system.specs.MarketSystem.{name, IsVariableOf}
 use Rattle.market_system.specs.declared.variables.Variable.TheVariants.{Over, Under, Room}
-use Rattle.market_dict.proofs.EntryLemmas.{name_at_place, over_small, unit_inside}
+use Rattle.market_model.proofs.RoomLemmas.{listed-inside}
+use Rattle.market_dict.proofs.EntryLemmas.{name_at_place, over_small}
 use Rattle.limit_rows.proofs.WalkLemmas.{rows_few}
 use Rattle.market_dict.proofs.names.name_of.Goals as goal
 
@@ -53,31 +54,8 @@ overflow_cast-result-in-Under c =
     let here : IsVariableOf m (all_of m) (Under c.in-Under.row) = subst (IsVariableOf m (all_of m)) c.in-Under.is c.requires in
     omega (arith, over_small m c.lines-lines.ensures.market c.in-Under.row here.0, c.over_name-in-Under.ensures)
 
-pub overflow_mul-result : goal.overflow_mul-result
-overflow_mul-result c = omega (arith, rows_few c.args.market.now c.lines-lines.ensures.market, c.count.ensures)
-
-pub overflow_add-result-in-Offer-2 : goal.overflow_add-result-in-Offer-2
-overflow_add-result-in-Offer-2 c =
-    let m = c.args.market.now in
-    let market = c.lines-lines.ensures.market in
-    let blocks : c.len-blocks.result ≡ length m.blocks = c.len-blocks.ensures ∙ ap length c.blocks-2.ensures.list in
-    omega (arith, rows_few m market, market.block_count, blocks, c.count.ensures)
-
-pub overflow_add-result-in-Offer-3 : goal.overflow_add-result-in-Offer-3
-overflow_add-result-in-Offer-3 c =
-    let m = c.args.market.now in
-    let market = c.lines-lines.ensures.market in
-    let inside : c.in-Offer.place < length m.reserve.offers = subst (IsVariableOf m (all_of m)) c.in-Offer.is c.requires in
-    let blocks : c.len-blocks.result ≡ length m.blocks = c.len-blocks.ensures ∙ ap length c.blocks-2.ensures.list in
-    omega (arith, inside, rows_few m market, market.block_count, market.reserve.count, blocks, c.count.ensures)
-
-pub overflow_cast-result-in-Offer : goal.overflow_cast-result-in-Offer
-overflow_cast-result-in-Offer c =
-    let m = c.args.market.now in
-    let market = c.lines-lines.ensures.market in
-    let inside : c.in-Offer.place < length m.reserve.offers = subst (IsVariableOf m (all_of m)) c.in-Offer.is c.requires in
-    let blocks : c.len-blocks.result ≡ length m.blocks = c.len-blocks.ensures ∙ ap length c.blocks-2.ensures.list in
-    omega (arith, inside, rows_few m market, market.block_count, market.reserve.count, blocks, c.count.ensures)
+pub offer_name_behind-requires-clause-place : goal.offer_name_behind-requires-clause-place
+offer_name_behind-requires-clause-place c = subst (IsVariableOf c.args.market.now (all_of c.args.market.now)) c.in-Offer.is c.requires
 
 pub overflow_cast-result-in-Need : goal.overflow_cast-result-in-Need
 overflow_cast-result-in-Need c =
@@ -96,11 +74,11 @@ overflow_add-result-in-Room-2 c =
     let m = c.args.market.now in
     let market = c.lines-lines.ensures.market in
     let here : IsVariableOf m (all_of m) (Room c.in-Room.unit) = subst (IsVariableOf m (all_of m)) c.in-Room.is c.requires in
-    omega (arith, unit_inside m c.in-Room.unit here, rows_few m market, market.block_count, market.unit_count, market.reserve.count, c.need_name-in-Room.ensures)
+    omega (arith, listed-inside m c.in-Room.unit here, rows_few m market, market.block_count, market.unit_count, market.reserve.count, c.need_name-in-Room.ensures)
 
 pub overflow_cast-result-in-Room : goal.overflow_cast-result-in-Room
 overflow_cast-result-in-Room c =
     let m = c.args.market.now in
     let market = c.lines-lines.ensures.market in
     let here : IsVariableOf m (all_of m) (Room c.in-Room.unit) = subst (IsVariableOf m (all_of m)) c.in-Room.is c.requires in
-    omega (arith, unit_inside m c.in-Room.unit here, rows_few m market, market.block_count, market.unit_count, market.reserve.count, c.need_name-in-Room.ensures)
+    omega (arith, listed-inside m c.in-Room.unit here, rows_few m market, market.block_count, market.unit_count, market.reserve.count, c.need_name-in-Room.ensures)

@@ -3,20 +3,14 @@ use Rattle.limit_rows.proofs.WalkLemmas.{rows_few}
 use Rattle.market_model.specs.declared.participants.Reserve.{Reserve}
 use Rattle.market_dict.proofs.names.need_name.Goals as goal
 
-pub overflow_mul-result : goal.overflow_mul-result
-overflow_mul-result c = omega (arith, rows_few c.args.market.now c.lines-lines.ensures.market, c.count.ensures)
-
-pub overflow_add-result-2 : goal.overflow_add-result-2
-overflow_add-result-2 c =
+pub overflow_add-result : goal.overflow_add-result
+overflow_add-result c =
     let m = c.args.market.now in
     let market = c.lines-lines.ensures.market in
-    let blocks : c.len.result ≡ length m.blocks = c.len.ensures ∙ ap length c.blocks-2.ensures.list in
-    omega (arith, rows_few m market, market.block_count, blocks, c.count.ensures)
+    let offers : c.len.result ≡ length m.reserve.offers = c.len.ensures ∙ ap (λ (r : Reserve). length r.offers) c.reserve.ensures.reserve in
+    omega (arith, rows_few m market, market.block_count, market.reserve.count, offers, c.first_offer_name.ensures)
 
-pub overflow_add-result-3 : goal.overflow_add-result-3
-overflow_add-result-3 c =
-    let m = c.args.market.now in
-    let market = c.lines-lines.ensures.market in
-    let blocks : c.len.result ≡ length m.blocks = c.len.ensures ∙ ap length c.blocks-2.ensures.list in
-    let offers : c.len-2.result ≡ length m.reserve.offers = c.len-2.ensures ∙ ap (λ (r : Reserve). length r.offers) c.reserve.ensures.reserve in
-    omega (arith, rows_few m market, market.block_count, market.reserve.count, blocks, offers, c.count.ensures)
+pub returns : goal.returns
+returns c =
+    let offers : c.len.result ≡ length c.args.market.now.reserve.offers = c.len.ensures ∙ ap (λ (r : Reserve). length r.offers) c.reserve.ensures.reserve in
+    omega (arith, offers, c.first_offer_name.ensures)

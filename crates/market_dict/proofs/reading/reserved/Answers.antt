@@ -19,7 +19,7 @@ note-requires-clause-named g c =
     let m = c.args.market.now in
     let h = c.requires.holds in
     let lt : c.loop-offer.offer < length m.reserve.offers = omega (arith, c.loop-offer-test.true, c.len-offer-end.ensures, ap (λ (r : Reserve). length r.offers) c.reserve.ensures.reserve) in
-    subst (Contains c.args.dict.now.names) (sym c.name_of-name.ensures) (variable_named m h.0 c.args.dict.now h.1.holds (Offer c.loop-offer.offer) lt)
+    subst (Contains c.args.dict.now.names) (sym c.offer_name_behind-name.ensures) (variable_named m h.0 c.args.dict.now h.1.holds (Offer c.loop-offer.offer) lt)
 
 pub loop-offer-preserved : goal.loop-offer-preserved
 loop-offer-preserved g c =
@@ -27,7 +27,7 @@ loop-offer-preserved g c =
     let d = c.args.dict.now in
     let noted : ℕ → Fraction = λ j. (note_of d (name m (Offer j))).value in
     subst (λ (xs : List g.row.N.Denot). map g.N.Exact.value xs ≡ map noted (places (c.loop-offer.offer + 1))) (sym c.in_ok-push.ensures)
-    (places_filled g.N.Exact.value noted c.loop-offer.values c.loop-offer.offer c.note.result.value c.loop-offer.invariant (ap Noted.value (c.note.ensures ∙ ap (note_of d) c.name_of-name.ensures)))
+    (places_filled g.N.Exact.value noted c.loop-offer.values c.loop-offer.offer c.note.result.value c.loop-offer.invariant (ap Noted.value (c.note.ensures ∙ ap (note_of d) c.offer_name_behind-name.ensures)))
 
 pub returns : goal.returns
 returns g c = λ ts holds.

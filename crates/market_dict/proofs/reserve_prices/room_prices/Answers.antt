@@ -9,7 +9,7 @@ use Rattle.market_model.proofs.PutInSteps.{unit_read}
 use Rattle.market_system.specs.declared.variables.Variable.TheVariants.{Room}
 use Rattle.market_system.specs.MarketSystem.{need_name, taken_in_order, room_dual_by, variables, IsVariableOf}
 use Rattle.market_dict.specs.Takings.{taken_of}
-use Rattle.market_dict.proofs.EntryLemmas.{unit_inside}
+use Rattle.market_model.proofs.RoomLemmas.{listed-inside}
 use Rattle.market_dict.proofs.ReadingLemmas.{at_rank, name_count, rank_is, rank_inside, rank_cost, rank_room, rank_no_room, room_dual_of, no_room_dual, room_duals_all, listed_step}
 use Rattle.market_dict.proofs.reserve_prices.room_prices.Goals as goal
 use Rattle.market_dict.proofs.reserve_prices.room_prices.Goals.{then-name-need+in_ok-push_room_dual, else-name-need}
@@ -25,7 +25,7 @@ at-unit-requires g c =
     let behind : need_name m < c.ranked-name.result = omega (arith, c.if-name-need.true, c.need_name-need.ensures) in
     let r = rank_room m h.0 d market h.1 k c.ranked-name.result lt c.ranked-name.ensures behind in
     let is : IsVariableOf m (all_of m) (Room r.0) = subst (IsVariableOf m (all_of m)) r.1 (rank_is m h.0 d market h.1 k lt) in
-    omega (arith, unit_inside m r.0 is, r.2, c.need_name-need.ensures, ap length c.units.ensures.list)
+    omega (arith, listed-inside m r.0 is, r.2, c.need_name-need.ensures, ap length c.units.ensures.list)
 
 pub loop-rank-preserved : goal.loop-rank-preserved
 loop-rank-preserved g c =

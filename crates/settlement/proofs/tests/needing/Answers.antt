@@ -8,5 +8,5 @@ use Rattle.settlement.proofs.tests.needing.Goals as goal
 pub assemble-requires : goal.assemble-requires
 assemble-requires c =
     let given : to_z w64 (of_z w64 c.args.need) ≡ c.args.need = search rules in
-    rw (c.in_ok-one_bus.ensures, c.in_ok-two_units.ensures, c.in_ok-two_blocks.ensures, c.in_ok-two_offers.ensures, c.new.ensures, c.new-2.ensures, c.new-3.ensures, c.new-4.ensures, c.new-5.ensures, c.new-6.ensures)
+    rw (c.in_ok-offers.ensures, c.in_ok-parts.ensures)
     (subst (λ (n : ℤ). IsMarket (needing n)) (sym given) (needing_is_market c.args.need c.requires))

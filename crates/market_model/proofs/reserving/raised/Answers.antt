@@ -7,8 +7,8 @@ use Rattle.market_model.specs.PutIn.{dispatch_of}
 use Rattle.market_model.specs.Reserves.{offers_of, reserved_term, room_terms}
 use Rattle.market_model.specs.Valued.{passed_at}
 use Rattle.market_model.proofs.PutInSteps.{accepted_is}
-use Rattle.cert_sums.proofs.RoomLemmas.{counted_refused, counted_step}
-use Rattle.cert_sums.proofs.reserving.raised.Goals as goal
+use Rattle.market_model.proofs.RoomLemmas.{counted_refused, counted_step}
+use Rattle.market_model.proofs.reserving.raised.Goals as goal
 
 pub loop-at-preserved : goal.loop-at-preserved
 loop-at-preserved g c =

@@ -8,7 +8,7 @@ use Rattle.market_model.specs.Valued.{passed_at}
 use Rattle.market_model.proofs.MorePlaces.{total-places_more}
 use Rattle.market_model.proofs.PutInSteps.{accepted_is}
 use Rattle.market_model.proofs.SumSteps.{plus_at, refusal, terms_at}
-use Rattle.cert_sums.proofs.reserving.reserve_in_all.Goals as goal
+use Rattle.market_model.proofs.reserving.reserve_in_all.Goals as goal
 
 pub loop-mw-preserved : goal.loop-mw-preserved
 loop-mw-preserved g c =

@@ -2,8 +2,8 @@ use Rattle.std.proofs.Common.{◌≡◌, map}
 use Rattle.std.specs.Prelude.{◌==◌}
 use Rattle.fraction_theory.specs.Sums.{total}
 use Rattle.market_model.specs.Dispatch.{block_term, blocks_of, dispatch_with, offer_at, reserved}
-use Rattle.limit_screen.proofs.RoomLemmas.{counted_to}
-use Rattle.limit_screen.proofs.sharing.used.Given as goal
+use Rattle.market_model.proofs.RoomLemmas.{counted_to}
+use Rattle.market_model.proofs.reserving.room_used.Given as goal
 
 abbrev pub invariant-loop-at : goal.invariant-loop-at
 invariant-loop-at g l =

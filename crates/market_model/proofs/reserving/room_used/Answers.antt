@@ -8,8 +8,8 @@ use Rattle.market_model.specs.Dispatch.{block_term, blocks_of, dispatch_with, of
 use Rattle.market_model.specs.Reserves.{room_terms, room_used}
 use Rattle.market_model.specs.Valued.{passed_at}
 use Rattle.market_model.proofs.PutInSteps.{accepted_is}
-use Rattle.limit_screen.proofs.RoomLemmas.{counted_refused, counted_step, counted_to}
-use Rattle.limit_screen.proofs.sharing.used.Goals as goal
+use Rattle.market_model.proofs.RoomLemmas.{counted_refused, counted_step, counted_to}
+use Rattle.market_model.proofs.reserving.room_used.Goals as goal
 
 pub loop-at-preserved : goal.loop-at-preserved
 loop-at-preserved g c =

@@ -1,19 +1,57 @@
-//! The reserve that is accepted in all, and what units use of their rooms.
+//! What is needed and offered of reserve, what is accepted of it, and what units have and use of their rooms, as numbers.
 
-ghost use Rattle.std.specs.Prelude.{◌≡◌, List, true, length, map, Contains, IfOk, IfErr, if◌then◌else◌};
-ghost use Rattle.fraction_theory.specs.Fraction.{Fraction, ◌+ℚ◌};
+ghost use Rattle.std.specs.Prelude.{◌≡◌, ◌<◌, ℤ, pos, ◌≤ℤ◌, List, true, length, map, IfOk, IfErr, if◌then◌else◌};
+ghost use Rattle.fraction_theory.specs.Fraction.{Fraction, whole, ◌+ℚ◌};
 ghost use Rattle.fraction_theory.specs.Sums.{total};
 ghost use Rattle.exact_fraction.specs.declared.Op.TheVariants.{Plus};
-ghost use Rattle.market_model.specs.declared.participants.Parts.{Parts};
+ghost use Rattle.market_data.specs.Participants.{IsDatum};
 ghost use Rattle.market_model.specs.Dispatch.{zero, block_term, blocks_of, dispatch_with};
 ghost use Rattle.market_model.specs.NamedSums.{IsRefusal, IsRefusedIn};
 ghost use Rattle.market_model.specs.PutIn.{dispatch_of};
-ghost use Rattle.market_model.specs.Reserves.{offers_among, offers_reserve as offers_reserve_of, reserve as reserve_of, reserve_terms, reserve_units, room_terms, room_used as room_used_of};
-ghost use Rattle.market_model.specs.SumTables.{IsRefusedAmong, RoomSum};
+ghost use Rattle.market_model.specs.Reserves.{offers_among, offers_reserve as offers_reserve_of, reserve as reserve_of, reserve_terms, room, room_terms, room_used as room_used_of};
 ghost use Rattle.market_model.specs.Valued.{passed_at};
 
+use crate::amounts::datum;
+use crate::blocks::by_side;
+use crate::{Market, Parts, Reserve, ReserveOffer};
 use exact_fraction::{Exact, Passed, exact_sum};
-use market_model::{Market, ReserveOffer, by_side, datum};
+
+/// How much reserve is needed, in 10^-9 MW.
+#[tactic(auto, using(market_data::proofs::Data::datum_read))]
+pub fn need_quantity<N: Exact>(reserve: &Reserve) -> N
+    requires { pos 0 ≤ℤ reserve.now.need }
+    ensures { N.value result ≡ whole reserve.now.need }
+{
+    datum(reserve.need)
+}
+
+/// All that an offer of reserve has, in 10^-9 MW.
+#[tactic(auto, using(market_data::proofs::Data::datum_read))]
+pub fn offer_quantity<N: Exact>(offer: &ReserveOffer) -> N
+    requires { pos 0 ≤ℤ offer.now.quantity }
+    ensures { N.value result ≡ whole offer.now.quantity }
+{
+    datum(offer.quantity)
+}
+
+/// Its price, in 10^-6 per MWh.
+#[tactic(auto, using(market_data::proofs::Data::datum_read))]
+pub fn offer_price<N: Exact>(offer: &ReserveOffer) -> N
+    requires { IsDatum offer.now.price }
+    ensures { N.value result ≡ whole offer.now.price }
+{
+    datum(offer.price)
+}
+
+/// The room of the unit at a place, in 10^-9 MW: by how much it may raise its fixed part in all.
+#[tactic(auto, using(market_data::proofs::Data::datum_read))]
+pub fn room_quantity<N: Exact>(market: &Market, unit: usize) -> N
+    requires { unit < length market.now.units }
+    ensures room { N.value result ≡ room market.now unit }
+    ensures least { (mw : ℤ) × (pos 0 ≤ℤ mw) × (N.value result ≡ whole mw) }
+{
+    datum(market.units().at(unit).up)
+}
 
 /// Whether one of these offers is of a unit.
 fn is_offered(offers: &[ReserveOffer], unit: usize) -> bool
@@ -72,18 +110,17 @@ fn raised<N: Exact>(market: &Market, unit: usize, dispatch: &[N]) -> Result<N, P
     Ok(mw)
 }
 
-/// What a unit that offers reserve uses of its room, in 10^-9 MW: what it sells, less what it buys, and its reserve.
+/// What a unit uses of its room, in 10^-9 MW: what it sells, less what it buys, and its reserve.
 pub fn room_used<N: Exact>(
     market: &Market,
     unit: usize,
     dispatch: &[N],
     reserve: &[N],
 ) -> Result<N, Passed<N>>
-    requires unit { Contains (reserve_units market.now) unit }
     requires dispatch { length dispatch.now ≡ length market.now.blocks }
     requires reserve { length reserve.now ≡ length market.now.reserve.offers }
-    ensures used { IfOk result (λ used. N.value used ≡ room_used_of market.now (dispatch_with (map N.value dispatch.now) (map N.value reserve.now)) unit) }
-    ensures cause { IfErr result (λ passed. IsRefusedAmong (RoomSum market.now (dispatch_with (map N.value dispatch.now) (map N.value reserve.now))) N.bound (passed_at N.value passed)) }
+    ensures used { let x = dispatch_with (map N.value dispatch.now) (map N.value reserve.now) in IfOk result (λ used. N.value used ≡ room_used_of market.now x unit) }
+    ensures cause { let x = dispatch_with (map N.value dispatch.now) (map N.value reserve.now) in IfErr result (λ passed. IsRefusedIn (room_terms market.now x unit) N.bound (passed_at N.value passed)) }
 {
     let mut mw = raised(market, unit, dispatch)?;
     for (at, offer) in market.reserve().offers.slice().iter().enumerate() {

@@ -1,6 +1,0 @@
-use Rattle.std.proofs.Common.{◌≡◌, drop}
-use Rattle.market_model.specs.Reserves.{offers_among}
-use Rattle.cert_sums.proofs.reserving.is_offered.Given as goal
-
-abbrev pub invariant-loop-offer : goal.invariant-loop-offer
-invariant-loop-offer l = offers_among l.offers l.unit ≡ offers_among (drop l.offer-index l.offers) l.unit

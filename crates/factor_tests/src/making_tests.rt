@@ -1,0 +1,143 @@
+//! Tables that are made, with texts worked by hand.
+
+use crate::triangle::TRIANGLE;
+use command_answers::{Status, check_told, factors_told};
+use market_data::FactorPlaces;
+use market_tables::GridTables;
+use std::process::Abort;
+use std::test::Fail;
+
+const SHIFT: &str =
+    "branch,bus,factor\n1,1,0\n1,2,-0.5\n1,3,-0.25\n2,1,0\n2,2,-0.5\n2,3,-0.75\n3,1,0\n3,2,0.5\n3,3,-0.25\n";
+
+const LOSS: &str = "branch,outage,factor\n2,1,1\n3,1,-1\n";
+
+/// Those of three branches of one reactance, which are thirds.
+const THIRDS: &str =
+    "branch,bus,factor\n1,1,0\n1,2,-0.666667\n1,3,-0.333333\n2,1,0\n2,2,-0.333333\n2,3,-0.666667\n3,1,0\n3,2,0.333333\n3,3,-0.333333\n";
+
+/// No outages are lost, and so there are no records of outage factors.
+const NO_OUTAGES: &str = "branch\n";
+
+const NO_LOSS: &str = "branch,outage,factor\n";
+
+const THIRDS_RESIDUALS: &str =
+    "bus most 0 at 1 for 1\nbus within\nloop most -0.0000001 at 3 for 2\nloop within\noutage bus none\noutage loop none\n";
+
+/// What is to be told: no table is written where its text is empty.
+#[derive(Clone, Copy)]
+struct Want {
+    status: Status,
+    text: &'static str,
+    shift: &'static str,
+    loss: &'static str,
+}
+
+/// Makes tables of the case with this start of its first branch, and compares.
+fn makes<R: Abort + AllocGlobal>(
+    rt: &R,
+    branch: &str,
+    outages: &str,
+    wanted: bool,
+    want: Want,
+) -> Result<(), Fail> {
+    let case = TRIANGLE.replace(rt.alloc(), "1 2 0 0.2", branch)?;
+    let told = factors_told(
+        rt.alloc(),
+        case.as_bytes(),
+        outages.as_bytes(),
+        wanted,
+        FactorPlaces::Six,
+    )?;
+    assert_eq!(rt; told.status, want.status);
+    assert_eq!(rt; told.text.as_slice(), want.text.as_bytes());
+    let shift = told.outputs.ptdf.as_deref().unwrap_or(b"".as_slice());
+    assert_eq!(rt; shift, want.shift.as_bytes());
+    let loss = told.outputs.lodf.as_deref().unwrap_or(b"".as_slice());
+    assert_eq!(rt; loss, want.loss.as_bytes());
+    Ok(())
+}
+
+#[test]
+fn makes_tables(rt: HostRuntime) -> Result<(), Fail> {
+    for (branch, outages, wanted, want) in [
+        (
+            "1 2 0 0.2",
+            "branch\n1\n",
+            true,
+            Want {
+                status: Status::Done,
+                text: "shift records 9\noutage records 2\n",
+                shift: SHIFT,
+                loss: LOSS,
+            },
+        ),
+        (
+            "1 2 0 0.2",
+            "branch\n1\n",
+            false,
+            Want {
+                status: Status::Done,
+                text: "shift records 9\n",
+                shift: SHIFT,
+                loss: "",
+            },
+        ),
+        (
+            "1 2 0 0.1",
+            NO_OUTAGES,
+            true,
+            Want {
+                status: Status::Done,
+                text: "shift records 9\noutage records 0\n",
+                shift: THIRDS,
+                loss: NO_LOSS,
+            },
+        ),
+    ] {
+        makes(&rt, branch, outages, wanted, want)?;
+    }
+    Ok(())
+}
+
+#[test]
+fn refuses_to_make(rt: HostRuntime) -> Result<(), Fail> {
+    for (branch, outages, text) in [
+        (
+            "1 2 0 0",
+            NO_OUTAGES,
+            "refused factors NotPositive branch 1\n",
+        ),
+        ("1 1 0 0.2", NO_OUTAGES, "refused case SameEnds row 1\n"),
+        (
+            "1 2 0 0.2",
+            "branch\n4\n",
+            "refused contingencies NoBranch line 2\n",
+        ),
+    ] {
+        let want = Want {
+            status: Status::Refused,
+            text,
+            shift: "",
+            loss: "",
+        };
+        makes(&rt, branch, outages, true, want)?;
+    }
+    Ok(())
+}
+
+/// Round the loop there is 0.1 of what three thirds of six places miss.
+#[test]
+fn checks_what_is_made(rt: HostRuntime) -> Result<(), Fail> {
+    let case = TRIANGLE.replace(rt.alloc(), "1 2 0 0.2", "1 2 0 0.1")?;
+    let grid = GridTables {
+        case: case.as_bytes(),
+        ptdf: THIRDS.as_bytes(),
+        lodf: NO_LOSS.as_bytes(),
+        contingencies: NO_OUTAGES.as_bytes(),
+    };
+    let told = check_told(rt.alloc(), &grid, FactorPlaces::Six)?;
+    assert_eq!(rt; told.status, Status::Done);
+    assert_eq!(rt; told.text.as_slice(), THIRDS_RESIDUALS.as_bytes());
+    Ok(())
+}
