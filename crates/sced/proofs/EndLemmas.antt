@@ -72,6 +72,11 @@ keeps-one (Ok _) name bytes before now wrote = inr (now, whole _ name bytes befo
 keeps-one (Err e) name bytes before now wrote = inl (refl, wrote)
 
 -- ---- outputs one behind another
+-- what is told to be well has not failed
+pub not-failed : (r : Result (Unit {0}) Failed) (done : Unit {0}) → r ≡ Ok done → ¬ (IsErr r)
+not-failed (Ok _) done is = λ bad. cc bad
+not-failed (Err e) done is = λ bad. cc is
+
 -- where an output is kept, those behind it are kept from there
 pub keeps-then : (first failed : Type 0) (name bytes : Option (List ℕ)) (rest : List (List ℕ × List ℕ)) (a b c : Option Files) → ¬ first
     → Keeps first (named_bytes name bytes []) a b → Keeps failed rest b c → Keeps failed (named_bytes name bytes rest) a c
