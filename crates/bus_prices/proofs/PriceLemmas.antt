@@ -121,11 +121,8 @@ module _ (m : Parts) (d : Duals Fraction) where
   pub added_refused : (k : ℕ) (e : Dual Fraction) (r s : Row) (price : Fraction) (bound : ℕ) (p : Passed Fraction) → IsRowOfDual m d k e r → price ≡ neg_ℚ (e.up -ℚ e.down) → s ≡ r
       → ((bus : ℕ) × (bus < length m.buses) × IsShareRefusal (congestion_to m d bus k) price (row_factor m s bus) bound p)
       ⊎ ((bus : ℕ) × (bus < length m.buses) × IsRefusedIn (factor_terms m s bus) bound p) → IsRefusedInBusPrices m d bound p
-  added_refused k e r s price bound p h is same (inl (bus, inside, why)) = inl (
-    bus,
-    inside,
-    congestion_terms m d bus,
-    congestion_at,
-    congestion_refused m d bus k e r price (row_factor m s bus) (congestion_to m d bus k) bound p h is (ap (λ (t : Row). row_factor m t bus) same) refl why,
-  )
-  added_refused k e r s price bound p h is same (inr why) = inr (r, (k, h.inside, sym h.at), why.0, why.1, subst (λ (t : Row). IsRefusedIn (factor_terms m t why.0) bound p) same why.2)
+  added_refused k e r s price bound p h is same (inl (bus, inside, why)) =
+      let refused = congestion_refused m d bus k e r price (row_factor m s bus) (congestion_to m d bus k) bound p h is (ap (λ (t : Row). row_factor m t bus) same) refl why in
+      inl (bus, inside, (congestion_terms m d bus, congestion_at, refused))
+  added_refused k e r s price bound p h is same (inr why) =
+      inr (r, (k, h.inside, sym h.at), (why.0, why.1, subst (λ (t : Row). IsRefusedIn (factor_terms m t why.0) bound p) same why.2))

@@ -81,8 +81,8 @@ no_room m u x more none_ = sym (+ℚ_nil x) ∙ ap (λ (b : Bool). x +ℚ (if b 
 
 -- what is refused in the prices at buses is refused in prices
 pub bus_prices_refused : (m : Parts) (d : Duals Fraction) (bound : ℕ) (p : Passed Fraction) → IsRefusedInBusPrices m d bound p → IsRefusedInPrices m d bound p
-bus_prices_refused m d bound p (inl (i, lt, terms, sum, why)) = inl (terms, price_of_bus i terms lt sum, why)
-bus_prices_refused m d bound p (inr (r, named, i, lt, why)) = inr (r, named, factor_terms m r i, factor_at_bus i lt, why)
+bus_prices_refused m d bound p (inl (i, lt, (terms, sum, why))) = inl (terms, price_of_bus i terms lt sum, why)
+bus_prices_refused m d bound p (inr (r, named, (i, lt, why))) = inr (r, named, (factor_terms m r i, factor_at_bus i lt, why))
 
 -- own prices at the bus prices of duals
 module _ (m : Parts) (d : Duals Fraction) (price : ℕ → Fraction) (are : ArePricesOf m d price) (market : IsMarket m) where
@@ -97,7 +97,7 @@ module _ (m : Parts) (d : Duals Fraction) (price : ℕ → Fraction) (are : AreP
 
   pub own_refused : (bound : ℕ) (p : Passed Fraction) → IsRefusedAmong (OwnPriceSum m d price) bound p ⊎ IsPickupRefusal m (named_rows m d) bound p → IsRefusedInPrices m d bound p
   own_refused bound p (inl (_, own_price_of_unit u lt, why)) = inl (_, price_of_unit _ (own_price_of_unit u lt), subst (λ (ts : List Term). IsRefusedIn ts bound p) (terms_same u lt) why)
-  own_refused bound p (inr (r, named, terms, sum, why)) = inr (r, named, terms, factor_of_pickup terms sum, why)
+  own_refused bound p (inr (r, named, (terms, sum, why))) = inr (r, named, (terms, factor_of_pickup terms sum, why))
 
 module _ (m : Parts) (d : Duals Fraction) where
   abbrev energy_term : Term

@@ -69,4 +69,4 @@ module _ (m : Parts) (x : Dispatch) (price : ℕ → Fraction) (d : Duals Fracti
   -- own prices of units
   pub own_refusal : IsRefusedAmong (OwnPriceSum m d price) bound p ⊎ IsPickupRefusal m (named_rows m d) bound p → IsMoneyRefusal m x price d bound p
   own_refusal (inl (terms, sum, a)) = inl (terms, paid_price terms sum, a)
-  own_refusal (inr (r, named, terms, sum, a)) = inr (r, named, terms, factor_of_pickup terms sum, a)
+  own_refusal (inr (r, named, (terms, sum, a))) = inr (r, named, (terms, factor_of_pickup terms sum, a))

@@ -71,5 +71,5 @@ returns-clause-cause g c =
     IfErr-weaker c.put_totals.result _ _
     (λ p why.
     let inside : why.0 < length m.buses = omega (arith, why.1, c.loop-dual.auto.out, c.requires.out) in
-    inl (why.0, inside, price_terms m d why.0, total_at, total_refused m d why.0 (congestion_to m d why.0 k) g.N.Exact.bound (passed_at g.N.Exact.value p) (congestion_all m d why.0 k all) why.2))
+    inl (why.0, inside, (price_terms m d why.0, total_at, total_refused m d why.0 (congestion_to m d why.0 k) g.N.Exact.bound (passed_at g.N.Exact.value p) (congestion_all m d why.0 k all) why.2)))
     (c.put_totals.ensures.cause d.energy (λ bus. congestion_to m d bus k) c.loop-dual.invariant)
