@@ -11,4 +11,5 @@ pub mod PositionLemmas
 pub mod NameLemmas
 pub mod TestMarkets
 pub mod WalkLemmas
+pub mod WholeLemmas
 pub mod WideFactors

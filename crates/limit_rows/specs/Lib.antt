@@ -1,3 +1,4 @@
 pub mod Naming
 pub mod NamesApart
 pub mod Walk
+pub mod Wholes

@@ -10,11 +10,13 @@ ghost use Rattle.market_model.specs.NamedSums.{IsRefusedIn, IsShareRefusal};
 ghost use Rattle.market_model.specs.PutIn.{carried_in, dispatch_of, put_in};
 ghost use Rattle.market_model.specs.SumTables.{IsFlowRefusal, IsRefusedAmong, LineFlowSum, LostOutputSum};
 ghost use Rattle.market_model.specs.Valued.{passed_at};
+ghost use Rattle.limit_rows.specs.Wholes.{AreWholes};
 
 use crate::causes::lost_unit;
 use crate::factors::{loss_of, pickup_factor, shift_of, with_product};
+use crate::wholes::{flow_by_wholes, put_wholes};
 use exact_fraction::{Exact, Passed};
-use market_data::FACTOR_ONE;
+use market_data::{FACTOR_ONE, MOST_BUSES};
 use market_model::{Cause, Market, Row, datum, output};
 
 /// A sum plus a number times a factor, of shift or outage, in 10^-9. A factor of 0 adds nothing.
@@ -31,7 +33,7 @@ pub(crate) fn with_share<N: Exact>(sum: N, share: i64, number: N) -> Result<N, P
 }
 
 /// The offset of a line, in 10^-9 MW.
-fn offset_of<N: Exact>(market: &Market, line: usize) -> N
+pub(crate) fn offset_of<N: Exact>(market: &Market, line: usize) -> N
     requires { line < length market.now.lines }
     ensures { N.value result ≡ line_offset market.now line }
 {
@@ -52,6 +54,26 @@ fn line_flow<N: Exact>(market: &Market, line: usize, injections: &[N]) -> Result
     Ok(flow)
 }
 
+/// The same flow, by those that put in whole numbers where these tell it.
+fn flow_at<N: Exact>(
+    market: &Market,
+    line: usize,
+    injections: &[N],
+    wholes: &[Option<i64>],
+) -> Result<N, Passed<N>>
+    requires line { line < length market.now.lines }
+    requires injections { length injections.now ≡ length market.now.buses }
+    requires count { length wholes.now ≡ length market.now.buses }
+    requires wholes { AreWholes (put_in (map N.value injections.now)) wholes.now }
+    ensures flow { IfOk result (λ mw. N.value mw ≡ line_flow market.now (put_in (map N.value injections.now)) line) }
+    ensures cause { IfErr result (λ passed. IsRefusedIn (line_terms market.now (put_in (map N.value injections.now)) line) N.bound (passed_at N.value passed)) }
+{
+    match flow_by_wholes(market, line, injections, wholes) {
+        Some(mw) => Ok(mw),
+        None => line_flow(market, line, injections),
+    }
+}
+
 /// Puts in the flow of each line where buses put in so much, in 10^-9 MW.
 pub fn put_line_flows<N: Exact>(
     market: &Market,
@@ -64,8 +86,12 @@ pub fn put_line_flows<N: Exact>(
     ensures flows { IfOk result (λ _. map N.value out.new ≡ map (line_flow market.now (put_in (map N.value injections.now))) (places (length market.now.lines))) }
     ensures cause { IfErr result (λ passed. IsRefusedAmong (LineFlowSum market.now (put_in (map N.value injections.now))) N.bound (passed_at N.value passed)) }
 {
+    let _buses = market.buses();
+    let mut room = [None; MOST_BUSES];
+    let wholes = &mut room[..injections.len()];
+    put_wholes(injections, wholes);
     for (line, mw) in out.iter_mut().enumerate() {
-        *mw = line_flow(market, line, injections)?;
+        *mw = flow_at(market, line, injections, wholes)?;
     }
     Ok(())
 }

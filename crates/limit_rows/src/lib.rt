@@ -9,6 +9,7 @@ mod numbering;
 mod places;
 mod softness;
 mod walk;
+mod wholes;
 
 pub use causes::lost_unit;
 pub use factors::{

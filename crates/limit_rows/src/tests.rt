@@ -5,8 +5,8 @@ ghost use Rattle.market_model.specs.Lines.{hard_line};
 ghost use Rattle.market_model.specs.Market.{bare_parts};
 
 use crate::causes::{cause_at, cause_count, has_row};
-use crate::{coefficient, count, id, limit_at, name_at, position, row_named};
-use exact_fraction::{Exact, Frac};
+use crate::{coefficient, count, id, limit_at, name_at, position, put_line_flows, row_named};
+use exact_fraction::{Exact, Frac, Frac63};
 use market_data::{FACTOR_ONE, FactorPlaces};
 use market_model::{Bus, Factor, Line, List, Market, Memory, Parts, Reserve, RowId, assemble};
 use std::alloc::Global;
@@ -219,5 +219,48 @@ fn rows_and_factors_after_one_outage(rt: HostRuntime) -> Result<(), Fail> {
     assert!(rt; are_factors(&market));
     assert!(rt; by_place(&market, row(2, 1)) == Some((row(2, 1), 45)));
     assert!(rt; by_place(&market, row(3, 1)).is_none());
+    Ok(())
+}
+
+/// The flows of the three branches where the three buses put in so much.
+fn flows_at<N: Exact>(market: &Market, injections: [N; 3]) -> Option<[N; 3]> {
+    let mut flows = [N::of_parts(0, 1); 3];
+    if market.buses().len() == 3 && market.lines().len() == 3 {
+        match put_line_flows(market, &injections, &mut flows) {
+            Ok(()) => Some(flows),
+            Err(_) => None,
+        }
+    } else {
+        None
+    }
+}
+
+/// Halves and thirds.
+fn sixths(number: i32) -> Frac {
+    Frac::of_parts(i64::from(number), 6)
+}
+
+#[test]
+fn flows_of_whole_numbers_and_of_others(rt: HostRuntime) -> Result<(), Fail> {
+    let market = one_outage(rt.alloc())?;
+    let wholes = flows_at(&market, [sixths(60), sixths(-24), sixths(-36)]);
+    assert!(rt; wholes == Some([sixths(21), sixths(39), sixths(0)]));
+    let some = flows_at(&market, [sixths(6), sixths(2), sixths(-8)]);
+    assert!(rt; some == Some([sixths(1), sixths(5), sixths(0)]));
+    Ok(())
+}
+
+/// So many times 10^18, in 63 bits.
+fn large(number: i8) -> Frac63 {
+    Frac63::of_parts(i64::from(number) * 1_000_000_000_000_000_000, 1)
+}
+
+#[test]
+fn flows_that_are_too_large(rt: HostRuntime) -> Result<(), Fail> {
+    let market = one_outage(rt.alloc())?;
+    let fits = flows_at(&market, [large(0), large(8), large(-8)]);
+    assert!(rt; fits == Some([large(-2), large(2), large(0)]));
+    let three = Frac63::of_parts(3, 1);
+    assert!(rt; flows_at(&market, [large(0), large(8), three]).is_none());
     Ok(())
 }

@@ -1,4 +1,5 @@
-use Rattle.std.proofs.Common.{rules, Err, ◌≡◌, ◌∙◌, length, map, arith}
+use Rattle.std.proofs.Common.{◌≡◌, ◌∙◌, ◌<◌, length, map, arith}
+use Rattle.std.proofs.lemmas.Result.{err_from_is_err_and}
 use Rattle.market_model.specs.LimitRows.{line_flow}
 use Rattle.market_model.specs.PutIn.{put_in}
 use Rattle.market_model.specs.SumTables.{flow_of_line}
@@ -17,5 +18,6 @@ returns-clause-flows g c =
 
 pub returns-in_err-mw-clause-cause : goal.returns-in_err-mw-clause-cause
 returns-in_err-mw-clause-cause g c =
-    let given : c.from_residual.result ≡ Err c.in_err-mw.field-0.0 = search rules in
-    rw given (_, flow_of_line c.loop-line.line (omega (arith, c.loop-line-test.true, c.requires.out)), c.in_err-mw.ensures.cause)
+    let told = err_from_is_err_and c.from_residual.result c.from_residual.ensures.1 in
+    let inside : c.loop-line.line < length c.args.market.now.lines = omega (arith, c.loop-line-test.true, c.requires.out) in
+    rw (told.1, told.2) (_, flow_of_line c.loop-line.line inside, c.in_err-mw.ensures.cause)
