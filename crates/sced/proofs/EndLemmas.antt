@@ -3,6 +3,7 @@ use Rattle.std.proofs.Common.{◌≡◌, ◌∙◌, ℕ, List, [], ◌∷◌, Op
 use Rattle.std.specs.Prelude.{◌⊎◌, IsErr, take}
 use Rattle.outside_store.specs.Causes.{Rose}
 use Rattle.outside_store.specs.Files.{Files, SameFiles, Wrote}
+use Rattle.outside_store.specs.Sinks.{Took}
 use Rattle.outside_store.specs.declared.Store.{Ghosts}
 use Rattle.outside_store.specs.declared.Failed.{Failed}
 use Rattle.command_answers.specs.Tellings.{Telling}
@@ -28,6 +29,16 @@ keeps-surely failed ((name, bytes) ∷ rest) before now bad (inr (between, wrote
 pub ends-cut : (failed : Type 0) (t : Telling) (w : List (List ℕ × List ℕ)) (before now : Option Files) (taken : Option (List ℕ)) → failed → Keeps failed w before now
     → Ends t w before now taken taken status.WriteFailed
 ends-cut failed t w before now taken bad kept = unwritten (keeps-surely failed w before now bad kept) refl refl
+
+-- files of which no write failed are all written
+keeps-all : (failed : Type 0) (w : List (List ℕ × List ℕ)) (before now : Option Files) → ¬ failed → Keeps failed w before now → Keeps ⊥ w before now
+keeps-all failed [] before now fine (good, same) = (λ never. never, same)
+keeps-all failed ((name, bytes) ∷ rest) before now fine (inl (bad, wrote)) = absurd (fine bad)
+keeps-all failed ((name, bytes) ∷ rest) before now fine (inr (between, wrote, kept)) = inr (between, wrote, keeps-all failed rest between now fine kept)
+
+pub ends-told : (failed : Type 0) (t : Telling) (w : List (List ℕ × List ℕ)) (before now : Option Files) (had has : Option (List ℕ)) (s : Status) → ¬ failed → Keeps failed w before now
+    → Took (s ≡ status.WriteFailed) t.text had has → (s ≡ t.status) ⊎ (s ≡ status.WriteFailed) → Ends t w before now had has s
+ends-told failed t w before now had has s fine kept took right = told (keeps-all failed w before now fine kept) took right
 
 -- what was written to files is written to those that are the same
 cut-from : (failed : Type 0) (name bytes : List ℕ) (e f h : Files) → ((n : List ℕ) → f n ≡ e n) → (failed → (h name ≡ f name) ⊎ ((k : ℕ) × (h name ≡ Some (take k bytes))))
@@ -72,6 +83,11 @@ keeps-one (Ok _) name bytes before now wrote = inr (now, whole _ name bytes befo
 keeps-one (Err e) name bytes before now wrote = inl (refl, wrote)
 
 -- ---- outputs one behind another
+-- what is told to be well has not failed
+pub not-failed : (r : Result (Unit {0}) Failed) (done : Unit {0}) → r ≡ Ok done → ¬ (IsErr r)
+not-failed (Ok _) done is = λ bad. cc bad
+not-failed (Err e) done is = λ bad. cc is
+
 -- where an output is kept, those behind it are kept from there
 pub keeps-then : (first failed : Type 0) (name bytes : Option (List ℕ)) (rest : List (List ℕ × List ℕ)) (a b c : Option Files) → ¬ first
     → Keeps first (named_bytes name bytes []) a b → Keeps failed rest b c → Keeps failed (named_bytes name bytes rest) a c

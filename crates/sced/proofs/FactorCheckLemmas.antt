@@ -12,14 +12,13 @@ use Rattle.factor_tables.specs.OutageNumbers.{outage_header}
 use Rattle.factor_tables.specs.Tables.{loss_header, loss_of, shift_of}
 use Rattle.factor_text.specs.Texts.{table_text}
 use Rattle.market_data.specs.declared.scales.FactorPlaces.{FactorPlaces}
-use Rattle.market_inputs.specs.Checking.{AreInputs}
+use Rattle.market_inputs.specs.Checking.{AreInputs, inputs_of}
 use Rattle.market_inputs.specs.Files.{most_file, sized, sized_grid}
 use Rattle.market_inputs.specs.Making.{AreFactorInputs, AreFitToMake}
 use Rattle.market_inputs.specs.Steps.{Is, Onward, Then}
 use Rattle.market_inputs.specs.Tables.{loss_in, shift_in}
 use Rattle.market_inputs.specs.declared.checking.Inputs.{Inputs}
 use Rattle.market_inputs.specs.declared.making.FactorInputs.{FactorInputs}
-use Rattle.market_inputs.specs.declared.tables.Tables.{Tables}
 use Rattle.market_inputs.proofs.OnceLemmas.{factor-inputs-once}
 use Rattle.market_tables.specs.Tables.{GridTexts}
 use Rattle.net_case.specs.Networks.{LiveNetwork}
@@ -83,7 +82,7 @@ check-parts places texts checked h =
     let (outages, o, of-tables) = then-made _ _ tables in-loss in
     let parts = one-made _ tables of-tables in
     let whole = one-made _ checked all in
-    subst (AreCheckParts places texts) whole (subst (λ (t : Tables). AreCheckParts places texts (record { network = network; reactances = reactances; shift = t.shift; loss = t.loss; outages = t.outages })) parts (record {
+    subst (AreCheckParts places texts) whole (subst (λ t. AreCheckParts places texts (inputs_of network reactances t)) parts (record {
       work = record { made = Ok matrices; is = m; rest = record { made = Ok network; is = n; rest = record { made = Ok reactances; is = x; rest = record { made = Ok outages; is = o; rest = refl } } } };
       shift = sh;
       loss = l;

@@ -19,11 +19,12 @@ use Rattle.refusal_text.specs.declared.refusals.FactorFault.TheVariants as facto
 use Rattle.refusal_text.specs.declared.refusals.Refusal.{Refusal}
 use Rattle.refusal_text.specs.declared.refusals.Refusal.TheVariants as refusal
 use Rattle.refusal_text.specs.Refusals.{refusal_line}
+use Rattle.report_text.specs.Reports.{range_text}
 use Rattle.command_words.specs.Words.{AsksFactors, FactorNames}
 use Rattle.command_words.proofs.WordsLemmas.{factors-once}
 use Rattle.command_answers.specs.Clearing.{most_size}
 use Rattle.command_answers.specs.Factors.{AreTables, IsFactorsStop, IsLossIfWanted, IsLossTable, TellsStop, made, stopped, tables_telling}
-use Rattle.command_answers.specs.Tellings.{Telling, certified, refusal_of, tabled}
+use Rattle.command_answers.specs.Tellings.{Telling, certified, refusal_of, tabled, uncertified}
 use Rattle.command_answers.specs.declared.factors.MadeTables.{MadeTables}
 use Rattle.command_answers.specs.declared.status.Status.{Status}
 use Rattle.command_answers.specs.declared.status.Status.TheVariants as status
@@ -103,7 +104,7 @@ module _ (shift_back : ShiftTablesAreReadBack) (loss_back : LossTablesAreReadBac
   of-stop : (why : MakeStop Fraction) → IsFactorsStop most_size inputs (is_some names.lodf_out) names.places why → TellsStop most_size why t → Kept t → IsFactored names inputs files later text s
   of-stop (make_stop.TooMany count) stops is = as-told _ is (λ kept. refused_tables (factor_fault.TooMany count) stops refl (untouched (refusal_of (refusal.Factors (factor_fault.TooMany count))) refl kept))
   of-stop (make_stop.NotPositive branch) stops is = as-told _ is (λ kept. refused_tables (factor_fault.NotPositive branch) stops refl (untouched (refusal_of (refusal.Factors (factor_fault.NotPositive branch))) refl kept))
-  of-stop (make_stop.Passed p) stops (within, is) = as-told _ is (λ kept. passed_tables p stops within refl (untouched _ refl kept))
+  of-stop (make_stop.Passed p) stops (within, is) = as-told _ is (λ kept. passed_tables p stops within refl (untouched (uncertified status.Range (range_text p)) refl kept))
   of-stop make_stop.Memory stops never = absurd never
 
   abbrev shift_text : MadeTables → List ℕ
