@@ -26,8 +26,8 @@ fn put_room<N: Exact>(
     ensures unit { OnOk result (dual.now.unit < 2 ^ 32) }
 {
     let unit = dual.unit;
-    put_fraction(alloc, members, "dual", dual.price)?;
-    put_number(alloc, members, "unit", unit)
+    put_number(alloc, members, "unit", unit)?;
+    put_fraction(alloc, members, "dual", dual.price)
 }
 
 fn room_value<N: Exact>(alloc: Global, dual: &RoomDual<N>) -> Result<Value, AllocError>
@@ -61,8 +61,8 @@ fn put_duals<N: Exact>(
     ensures value { OnOk result (object (members_view members.new.entries) ≡ reserve_duals_data (reserve_duals_at N.value (record { price = price; rooms = rooms.now }))) }
     ensures units { OnOk result (All (λ d. d.unit < 2 ^ 32) rooms.now) }
 {
-    put_fraction(alloc, members, "price", price)?;
-    put(members, alloc, "units", rooms_value(alloc, rooms)?)
+    put(members, alloc, "units", rooms_value(alloc, rooms)?)?;
+    put_fraction(alloc, members, "price", price)
 }
 
 fn duals_value<N: Exact>(
