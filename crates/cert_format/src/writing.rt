@@ -203,32 +203,7 @@ pub fn to_json<N: Exact>(alloc: Global, cert: &Cert<N>) -> Result<Vec<u8>, Memor
     }
 }
 
-/// Puts the certificate of an answer into an object that has no members.
-fn put_answer<N: Exact>(
-    alloc: Global,
-    members: &mut Members,
-    places: FactorPlaces,
-    listed: bool,
-    answer: &Answer<N>,
-) -> Result<(), AllocError>
-    requires { members.old.entries ≡ [] }
-    ensures value { OnOk result (object (members_view members.new.entries) ≡ cert_data (cert_at N.value (cert_of places listed answer.now))) }
-    ensures names { OnOk result (NamesFit (cert_of places listed answer.now)) }
-{
-    let part = answer_part(alloc, listed, answer)?;
-    let duals = &answer.duals;
-    let blocks = &answer.dispatch;
-    put_optimal(
-        alloc,
-        members,
-        blocks,
-        duals.energy,
-        &duals.limits,
-        places,
-        part,
-    )
-}
-
+/// The text of the certificate of an answer.
 fn answer_text<N: Exact>(
     alloc: Global,
     places: FactorPlaces,
@@ -238,36 +213,23 @@ fn answer_text<N: Exact>(
     ensures text { IfOk result (λ bytes. bytes.items ≡ cert_text (cert_at N.value (cert_of places listed answer.now))) }
     ensures names { OnOk result (NamesFit (cert_of places listed answer.now)) }
 {
+    let part = answer_part(alloc, listed, answer)?;
+    let duals = &answer.duals;
+    let blocks = &answer.dispatch;
     let mut members = Members::new(alloc);
-    put_answer(alloc, &mut members, places, listed, answer)?;
-    text_of(alloc, members)
-}
-
-/// Puts the certificate of duals that show that no dispatch is feasible into an object that has no members.
-fn put_against<N: Exact>(
-    alloc: Global,
-    members: &mut Members,
-    places: FactorPlaces,
-    listed: bool,
-    farkas: &Farkas<N>,
-) -> Result<(), AllocError>
-    requires { members.old.entries ≡ [] }
-    ensures value { OnOk result (object (members_view members.new.entries) ≡ cert_data (cert_at N.value (cert_against places listed farkas.now))) }
-    ensures names { OnOk result (NamesFit (cert_against places listed farkas.now)) }
-{
-    let duals = &farkas.duals;
-    let part = farkas_part(alloc, listed, duals)?;
-    put_common(
+    put_optimal(
         alloc,
-        members,
-        "farkas",
+        &mut members,
+        blocks,
         duals.energy,
         &duals.limits,
         places,
         part,
-    )
+    )?;
+    text_of(alloc, members)
 }
 
+/// The text of the certificate of duals that show that no dispatch is feasible.
 fn against_text<N: Exact>(
     alloc: Global,
     places: FactorPlaces,
@@ -277,8 +239,18 @@ fn against_text<N: Exact>(
     ensures text { IfOk result (λ bytes. bytes.items ≡ cert_text (cert_at N.value (cert_against places listed farkas.now))) }
     ensures names { OnOk result (NamesFit (cert_against places listed farkas.now)) }
 {
+    let duals = &farkas.duals;
+    let part = farkas_part(alloc, listed, duals)?;
     let mut members = Members::new(alloc);
-    put_against(alloc, &mut members, places, listed, farkas)?;
+    put_common(
+        alloc,
+        &mut members,
+        "farkas",
+        duals.energy,
+        &duals.limits,
+        places,
+        part,
+    )?;
     text_of(alloc, members)
 }
 
