@@ -9,7 +9,7 @@ use market_data::FactorPlaces;
 use serde_json::Value;
 
 /// The versions of the grammar.
-#[derive(Clone, Copy, PartialEq, Eq, Debug)]
+#[derive(Clone, Copy)]
 pub(crate) enum Version {
     /// It does not tell how many places factors had: they are six.
     First,
@@ -20,7 +20,7 @@ pub(crate) enum Version {
 }
 
 /// What a certificate shows.
-#[derive(Clone, Copy, PartialEq, Eq, Debug)]
+#[derive(Clone, Copy)]
 pub(crate) enum Kind {
     Optimal,
     Farkas,

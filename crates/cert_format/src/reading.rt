@@ -137,7 +137,31 @@ fn add_row(rows: &mut IndexSet<(u32, u32, u32)>, row: RowId) -> Result<bool, Mem
     }
 }
 
-/// Limits, of which no two are of one row.
+/// Reads limits, of which no two are of one row, into a list that is empty. Beside it stand their rows.
+fn read_limits<N: Exact>(
+    version: Version,
+    values: &[Value],
+    rows: &mut IndexSet<(u32, u32, u32)>,
+    limits: &mut List<Dual<N>>,
+) -> Result<(), CertFault>
+    requires rows { rows.old.keys ≡ [] }
+    requires limits { limits.old ≡ [] }
+    ensures { Gives (λ _. map (dual_at N.value) limits.new) result
+        (need key.Limits (option_and_then if_distinct (each (limit_in N.bound version) (items_view values.now))) Ok) }
+{
+    for value in values {
+        let Some(limit) = limit_in::<N>(version, value) else {
+            return Err(CertFault::Key { key: Key::Limits });
+        };
+        let is_new = add_row(rows, limit.row)?;
+        if !is_new {
+            return Err(CertFault::Key { key: Key::Limits });
+        }
+        limits.push(limit)?;
+    }
+    Ok(())
+}
+
 fn limits_of<N: Exact>(
     alloc: Global,
     version: Version,
@@ -148,16 +172,7 @@ fn limits_of<N: Exact>(
 {
     let mut rows = IndexSet::new(alloc);
     let mut limits = List::new(alloc);
-    for value in values {
-        let Some(limit) = limit_in::<N>(version, value) else {
-            return Err(CertFault::Key { key: Key::Limits });
-        };
-        let is_new = add_row(&mut rows, limit.row)?;
-        if !is_new {
-            return Err(CertFault::Key { key: Key::Limits });
-        }
-        limits.push(limit)?;
-    }
+    read_limits(version, values, &mut rows, &mut limits)?;
     Ok(limits)
 }
 

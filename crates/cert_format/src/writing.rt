@@ -6,12 +6,9 @@ ghost use Rattle.serde_json.specs.Data.{member, object, string};
 ghost use Rattle.serde_json.specs.View.{members_view, view};
 ghost use Rattle.market_model.specs.Valued.{dual_at, outcome_at};
 ghost use Rattle.cert_format.specs.declared.certificate.Cert.{Cert};
-ghost use Rattle.cert_format.specs.declared.certificate.Cert.TheVariants as cert;
-ghost use Rattle.cert_format.specs.declared.certificate.ClearedReserve.{ClearedReserve};
-ghost use Rattle.cert_format.specs.declared.certificate.ReserveDuals.{ReserveDuals};
 ghost use Rattle.cert_format.specs.Certificates.{NamesFit, NumbersFit, RowFits, RowsAreDistinct, cert_against, cert_at, cert_of, cert_of_outcome, most_part};
 ghost use Rattle.cert_format.specs.Grammar.{cert_read};
-ghost use Rattle.cert_format.specs.Written.{cert_text, certificate_of, cleared_reserve_data, ending, farkas_data, fraction_data, fractions_data, limit_data, limits_data, optimal_data, reserve_duals_data, with_version};
+ghost use Rattle.cert_format.specs.Written.{cert_data, cert_text, certificate_of, ending, fraction_data, fractions_data, limit_data, limits_data, optimal_data, with_version};
 
 use crate::Cert;
 use crate::object::{Members, put_fraction, put_number};
@@ -44,10 +41,10 @@ fn put_limit<N: Exact>(
     ensures row { OnOk result (RowFits dual.now.row) }
 {
     let row = dual.row;
-    put_number(alloc, members, "branch", row.branch)?;
-    put_fraction(alloc, members, "down", dual.down)?;
-    put_number(alloc, members, "outage", row.outage)?;
     put_fraction(alloc, members, "up", dual.up)?;
+    put_number(alloc, members, "outage", row.outage)?;
+    put_fraction(alloc, members, "down", dual.down)?;
+    put_number(alloc, members, "branch", row.branch)?;
     if row.unit != 0 {
         put_number(alloc, members, "unit", row.unit)?;
     }
@@ -104,9 +101,9 @@ fn put_common<N: Exact>(
 {
     put_version(alloc, members, reserve)?;
     put_number(alloc, members, "places", u32::from(places.count()))?;
-    put_fraction(alloc, members, "energy", energy)?;
+    put(members, alloc, "limits", limits_value(alloc, limits)?)?;
     put(members, alloc, "kind", Value::try_from_str(alloc, kind)?)?;
-    put(members, alloc, "limits", limits_value(alloc, limits)?)
+    put_fraction(alloc, members, "energy", energy)
 }
 
 /// Puts the part on reserve, where there is one, and the version.
@@ -144,78 +141,14 @@ fn put_optimal<N: Exact>(
     put(members, alloc, "blocks", fractions_value(alloc, blocks)?)
 }
 
-/// A dispatch with the prices that support it, and the part on reserve where there is one.
-fn optimal_value<N: Exact>(
+/// Puts what a certificate tells into an object that has no members.
+fn put_cert<N: Exact>(
     alloc: Global,
-    blocks: &List<N>,
-    energy: N,
-    limits: &List<Dual<N>>,
-    places: FactorPlaces,
-    reserve: Option<Value>,
-) -> Result<Value, AllocError>
-    ensures value { IfOk result (λ v. view v ≡ optimal_data (map N.value blocks.now) (N.value energy) (map (dual_at N.value) limits.now) places (option_map view reserve)) }
-    ensures rows { OnOk result (All (λ d. RowFits d.row) limits.now) }
-{
-    let mut members = Members::new(alloc);
-    put_optimal(alloc, &mut members, blocks, energy, limits, places, reserve)?;
-    Ok(Value::Object(members))
-}
-
-/// Duals that show that no dispatch is feasible, and the part on reserve where there is one.
-fn farkas_value<N: Exact>(
-    alloc: Global,
-    energy: N,
-    limits: &List<Dual<N>>,
-    places: FactorPlaces,
-    reserve: Option<Value>,
-) -> Result<Value, AllocError>
-    ensures value { IfOk result (λ v. view v ≡ farkas_data (N.value energy) (map (dual_at N.value) limits.now) places (option_map view reserve)) }
-    ensures rows { OnOk result (All (λ d. RowFits d.row) limits.now) }
-{
-    let mut members = Members::new(alloc);
-    put_common(
-        alloc,
-        &mut members,
-        "farkas",
-        energy,
-        limits,
-        places,
-        reserve,
-    )?;
-    Ok(Value::Object(members))
-}
-
-fn optimal_text<N: Exact>(
-    alloc: Global,
-    blocks: &List<N>,
-    energy: N,
-    limits: &List<Dual<N>>,
-    places: FactorPlaces,
-    reserve: Option<Value>,
-) -> Result<Vec<u8>, AllocError>
-    ensures text { (r : Option (ClearedReserve Fraction)) → option_map view reserve ≡ option_map cleared_reserve_data r
-        → IfOk result (λ bytes. bytes.items ≡ cert_text (cert.Optimal (map N.value blocks.now) (N.value energy) (map (dual_at N.value) limits.now) places r)) }
-    ensures rows { OnOk result (All (λ d. RowFits d.row) limits.now) }
-{
-    optimal_value(alloc, blocks, energy, limits, places, reserve)?.to_vec(alloc)
-}
-
-fn farkas_text<N: Exact>(
-    alloc: Global,
-    energy: N,
-    limits: &List<Dual<N>>,
-    places: FactorPlaces,
-    reserve: Option<Value>,
-) -> Result<Vec<u8>, AllocError>
-    ensures text { (r : Option (ReserveDuals Fraction)) → option_map view reserve ≡ option_map reserve_duals_data r
-        → IfOk result (λ bytes. bytes.items ≡ cert_text (cert.Farkas (N.value energy) (map (dual_at N.value) limits.now) places r)) }
-    ensures rows { OnOk result (All (λ d. RowFits d.row) limits.now) }
-{
-    farkas_value(alloc, energy, limits, places, reserve)?.to_vec(alloc)
-}
-
-fn cert_bytes<N: Exact>(alloc: Global, cert: &Cert<N>) -> Result<Vec<u8>, AllocError>
-    ensures text { IfOk result (λ bytes. bytes.items ≡ cert_text (cert_at N.value cert.now)) }
+    members: &mut Members,
+    cert: &Cert<N>,
+) -> Result<(), AllocError>
+    requires { members.old.entries ≡ [] }
+    ensures value { OnOk result (object (members_view members.new.entries) ≡ cert_data (cert_at N.value cert.now)) }
     ensures names { OnOk result (NamesFit cert.now) }
 {
     match cert {
@@ -227,7 +160,7 @@ fn cert_bytes<N: Exact>(alloc: Global, cert: &Cert<N>) -> Result<Vec<u8>, AllocE
             reserve,
         } => {
             let part = cleared_part(alloc, reserve)?;
-            optimal_text(alloc, blocks, *energy, limits, *places, part)
+            put_optimal(alloc, members, blocks, *energy, limits, *places, part)
         }
         Cert::Farkas {
             energy,
@@ -236,9 +169,25 @@ fn cert_bytes<N: Exact>(alloc: Global, cert: &Cert<N>) -> Result<Vec<u8>, AllocE
             reserve,
         } => {
             let part = duals_part(alloc, reserve)?;
-            farkas_text(alloc, *energy, limits, *places, part)
+            put_common(alloc, members, "farkas", *energy, limits, *places, part)
         }
     }
+}
+
+/// The text of an object.
+fn text_of(alloc: Global, members: Members) -> Result<Vec<u8>, AllocError>
+    ensures { (c : Cert Fraction) → object (members_view members.entries) ≡ cert_data c → IfOk result (λ bytes. bytes.items ≡ cert_text c) }
+{
+    Value::Object(members).to_vec(alloc)
+}
+
+fn cert_bytes<N: Exact>(alloc: Global, cert: &Cert<N>) -> Result<Vec<u8>, AllocError>
+    ensures text { IfOk result (λ bytes. bytes.items ≡ cert_text (cert_at N.value cert.now)) }
+    ensures names { OnOk result (NamesFit cert.now) }
+{
+    let mut members = Members::new(alloc);
+    put_cert(alloc, &mut members, cert)?;
+    text_of(alloc, members)
 }
 
 /// The text of a certificate, without a line end: of the third version where it has a part on reserve, and else of the second. Where no row
@@ -266,14 +215,18 @@ fn answer_text<N: Exact>(
 {
     let part = answer_part(alloc, listed, answer)?;
     let duals = &answer.duals;
-    optimal_text(
+    let blocks = &answer.dispatch;
+    let mut members = Members::new(alloc);
+    put_optimal(
         alloc,
-        &answer.dispatch,
+        &mut members,
+        blocks,
         duals.energy,
         &duals.limits,
         places,
         part,
-    )
+    )?;
+    text_of(alloc, members)
 }
 
 /// The text of the certificate of duals that show that no dispatch is feasible.
@@ -288,7 +241,17 @@ fn against_text<N: Exact>(
 {
     let duals = &farkas.duals;
     let part = farkas_part(alloc, listed, duals)?;
-    farkas_text(alloc, duals.energy, &duals.limits, places, part)
+    let mut members = Members::new(alloc);
+    put_common(
+        alloc,
+        &mut members,
+        "farkas",
+        duals.energy,
+        &duals.limits,
+        places,
+        part,
+    )?;
+    text_of(alloc, members)
 }
 
 /// A text that there is, where memory was not refused.

@@ -15,27 +15,15 @@ use market_model::{Answer, Duals, List, RoomDual};
 use serde_json::{Value, put};
 use std::alloc::{AllocError, Global};
 
-/// Puts the price of a unit's room into an object that has no members.
-fn put_room<N: Exact>(
-    alloc: Global,
-    members: &mut Members,
-    dual: &RoomDual<N>,
-) -> Result<(), AllocError>
-    requires { members.old.entries ≡ [] }
-    ensures value { OnOk result (object (members_view members.new.entries) ≡ room_data (room_dual_at N.value dual.now)) }
-    ensures unit { OnOk result (dual.now.unit < 2 ^ 32) }
-{
-    let unit = dual.unit;
-    put_fraction(alloc, members, "dual", dual.price)?;
-    put_number(alloc, members, "unit", unit)
-}
-
+/// The price of a unit's room.
 fn room_value<N: Exact>(alloc: Global, dual: &RoomDual<N>) -> Result<Value, AllocError>
     ensures value { IfOk result (λ v. view v ≡ room_data (room_dual_at N.value dual.now)) }
     ensures unit { OnOk result (dual.now.unit < 2 ^ 32) }
 {
+    let unit = dual.unit;
     let mut members = Members::new(alloc);
-    put_room(alloc, &mut members, dual)?;
+    put_number(alloc, &mut members, "unit", unit)?;
+    put_fraction(alloc, &mut members, "dual", dual.price)?;
     Ok(Value::Object(members))
 }
 
@@ -61,8 +49,8 @@ fn put_duals<N: Exact>(
     ensures value { OnOk result (object (members_view members.new.entries) ≡ reserve_duals_data (reserve_duals_at N.value (record { price = price; rooms = rooms.now }))) }
     ensures units { OnOk result (All (λ d. d.unit < 2 ^ 32) rooms.now) }
 {
-    put_fraction(alloc, members, "price", price)?;
-    put(members, alloc, "units", rooms_value(alloc, rooms)?)
+    put(members, alloc, "units", rooms_value(alloc, rooms)?)?;
+    put_fraction(alloc, members, "price", price)
 }
 
 fn duals_value<N: Exact>(
@@ -79,26 +67,6 @@ fn duals_value<N: Exact>(
 }
 
 /// The same with what is accepted of each offer.
-fn put_cleared<N: Exact>(
-    alloc: Global,
-    members: &mut Members,
-    quantities: &List<N>,
-    price: N,
-    rooms: &List<RoomDual<N>>,
-) -> Result<(), AllocError>
-    requires { members.old.entries ≡ [] }
-    ensures value { OnOk result (object (members_view members.new.entries) ≡ cleared_reserve_data (cleared_reserve_at N.value (record { quantities = quantities.now; duals = record { price = price; rooms = rooms.now } }))) }
-    ensures units { OnOk result (All (λ d. d.unit < 2 ^ 32) rooms.now) }
-{
-    put_duals(alloc, members, price, rooms)?;
-    put(
-        members,
-        alloc,
-        "quantities",
-        fractions_value(alloc, quantities)?,
-    )
-}
-
 fn cleared_value<N: Exact>(
     alloc: Global,
     quantities: &List<N>,
@@ -109,7 +77,9 @@ fn cleared_value<N: Exact>(
     ensures units { OnOk result (All (λ d. d.unit < 2 ^ 32) rooms.now) }
 {
     let mut members = Members::new(alloc);
-    put_cleared(alloc, &mut members, quantities, price, rooms)?;
+    put_duals(alloc, &mut members, price, rooms)?;
+    let quantities = fractions_value(alloc, quantities)?;
+    put(&mut members, alloc, "quantities", quantities)?;
     Ok(Value::Object(members))
 }
 

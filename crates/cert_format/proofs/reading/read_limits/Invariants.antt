@@ -4,7 +4,7 @@ use Rattle.market_model.specs.Valued.{dual_at}
 use Rattle.cert_format.specs.Grammar.{distinct, each, limit_in}
 use Rattle.cert_format.proofs.EachLemmas.{rest_of}
 use Rattle.cert_format.specs.Certificates.{name_of}
-use Rattle.cert_format.proofs.reading.limits_of.Given as goal
+use Rattle.cert_format.proofs.reading.read_limits.Given as goal
 
 -- the limits so far, with their rows, no two of which are one, and those of the values that are left
 abbrev pub invariant-loop-value : goal.invariant-loop-value
