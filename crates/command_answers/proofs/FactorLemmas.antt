@@ -1,5 +1,5 @@
 -- Tables of factors that are made, and why none are.
-use Rattle.std.proofs.Common.{◌≡◌, ◌∙◌, ◌++◌, ℕ, ℤ, List, ap, cc, subst, sym, refl, tt, Bool, true, false, Option, Some, None, Result, Ok, Err, inl, inr}
+use Rattle.std.proofs.Common.{◌≡◌, ◌∙◌, ◌++◌, ℕ, ℤ, List, ap, subst, sym, refl, Bool, true, false, Option, Some, None, Result, Ok, Err, inl, inr}
 use Rattle.std.specs.Prelude.{IfErr, IfSome, not, is_some, option_map, ◌&&◌, ◌⊎◌, if◌then◌else◌}
 use Rattle.fraction_theory.specs.Fraction.{Fraction}
 use Rattle.market_data.specs.declared.scales.FactorPlaces.{FactorPlaces}
@@ -39,17 +39,19 @@ module _ {N : Type 0} (value : N → Fraction) (bound : ℕ) (network : LiveNetw
   pub loss-stop : (outages : List ℕ) (why : MakeStop N) → IsLossStop value bound network xs outages why → IsLossStop (λ x. x) bound network xs outages (stop_at value why)
   loss-stop outages (stop.TooMany count) h = h
   loss-stop outages (stop.NotPositive row) h = h
-  loss-stop outages (stop.Passed e) (few, positive, row, k, there, of, pair) = (
+  loss-stop outages (stop.Passed e) (few, positive, (row, k, there, of, pair)) = (
     few,
     positive,
-    row,
-    k,
-    there,
-    of,
-    elim pair [
-      | inl flow ↦ inl flow
-      | inr d ↦ inr (record { branch = d.branch; there = d.there; op_is = d.op_is; from_source = d.from_source; from_sink = d.from_sink; passes = d.passes })
-    ],
+    (
+      row,
+      k,
+      there,
+      of,
+      elim pair [
+        | inl flow ↦ inl flow
+        | inr d ↦ inr (record { branch = d.branch; there = d.there; op_is = d.op_is; from_source = d.from_source; from_sink = d.from_sink; passes = d.passes })
+      ],
+    ),
   )
   loss-stop outages stop.Memory h = tt
 

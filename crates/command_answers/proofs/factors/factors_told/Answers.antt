@@ -1,8 +1,7 @@
 use Rattle.command_answers.specs.Factors.{TellsFactors}
 use Rattle.command_answers.specs.Inputs.{IsFactorWork}
-use Rattle.command_answers.specs.Tellings.{telling_of}
 use Rattle.command_answers.proofs.IfOkLemmas.{if_ok-map}
-use Rattle.command_answers.proofs.TellingLemmas.{refused-tells}
+use Rattle.command_answers.proofs.TellingLemmas.{refusal-tells}
 use Rattle.command_answers.proofs.factors.factors_told.Goals as goal
 
 pub returns-in-Ok-clause-tells : goal.returns-in-Ok-clause-tells
@@ -13,7 +12,5 @@ returns-in-Ok-clause-tells c =
 
 pub returns-in-Err-Refused-clause-tells : goal.returns-in-Err-Refused-clause-tells
 returns-in-Err-Refused-clause-tells c =
-    if_ok-map _ _ c.refused.result
-    (λ told is. refused-tells (IsFactorWork c.args.case.now c.args.contingencies.now) (TellsFactors c.args.wanted c.args.places) c.in-Err-Refused.field-0 c.in-Err-Refused.refusal (telling_of told)
-    c.in-Err-Refused.field-0-is c.in-Err-Refused.ensures.told is)
-    c.refused.ensures.telling
+    refusal-tells (IsFactorWork c.args.case.now c.args.contingencies.now) (TellsFactors c.args.wanted c.args.places) c.in-Err-Refused.field-0 c.in-Err-Refused.refusal _ c.refused.result c.refused.ensures.telling
+    c.in-Err-Refused.refusal-is c.in-Err-Refused.field-0-is c.in-Err-Refused.ensures.told

@@ -5,8 +5,8 @@ use Rattle.command_answers.proofs.factors.make_tables.Goals as goal
 pub returns-in_err-shift-clause-stop : goal.returns-in_err-shift-clause-stop
 returns-in_err-shift-clause-stop c =
     let why = c.in_err-shift.field-0.0 in
-    let given : c.from_residual-in_err-shift.result ≡ Err why = search rules in
-    shift-stopped _ _ c.args.inputs.now c.args.wanted c.args.places c.make_shift.result c.from_residual-in_err-shift.result why c.make_shift.ensures.stop c.in_err-shift.was given
+    let given : c.from_residual.result ≡ Err why = search rules in
+    shift-stopped _ _ c.args.inputs.now c.args.wanted c.args.places c.make_shift.result c.from_residual.result why c.make_shift.ensures.stop c.in_err-shift.was given
 
 pub returns-in_err-loss-clause-stop : goal.returns-in_err-loss-clause-stop
 returns-in_err-loss-clause-stop c =
