@@ -1,5 +1,5 @@
 -- A check of tables that were made says that all is within what rounding explains.
-use Rattle.std.specs.Prelude.{◌≡◌, ◌≢◌, ℕ, ℤ, Bool, true, false, nat_lt, if◌then◌else◌, List, [], length, is_some, Option, Some, None, Result, Ok, Err}
+use Rattle.std.specs.Prelude.{◌≡◌, ℕ, Bool, true, false, nat_lt, if◌then◌else◌, List, [], length, is_some, Option, Some, None, Result, Ok, Err}
 use Rattle.std.proofs.Common.{inl, inr, refl, sym, subst, ap, ◌∙◌}
 use Rattle.outside_store.specs.Files.{Files}
 use Rattle.record_reading.specs.Records.{Record}
@@ -15,31 +15,30 @@ use Rattle.market_data.specs.declared.scales.FactorPlaces.{FactorPlaces}
 use Rattle.market_inputs.specs.Checking.{AreInputs, inputs_of}
 use Rattle.market_inputs.specs.Files.{most_file, sized, sized_grid}
 use Rattle.market_inputs.specs.Making.{AreFactorInputs, AreFitToMake}
-use Rattle.market_inputs.specs.Steps.{Is, Onward, Then}
+use Rattle.market_inputs.specs.Steps.{Onward, Then}
 use Rattle.market_inputs.specs.Tables.{loss_in, shift_in}
 use Rattle.market_inputs.specs.declared.checking.Inputs.{Inputs}
 use Rattle.market_inputs.specs.declared.making.FactorInputs.{FactorInputs}
 use Rattle.market_inputs.proofs.OnceLemmas.{factor-inputs-once}
 use Rattle.market_tables.specs.Tables.{GridTexts}
-use Rattle.net_case.specs.Networks.{LiveNetwork}
 use Rattle.refusal_text.specs.declared.refusals.Input.TheVariants as input
 use Rattle.refusal_text.specs.declared.refusals.Refusal.{Refusal}
 use Rattle.refusal_text.specs.declared.refusals.Refusal.TheVariants as refusal
 use Rattle.command_words.specs.Words.{FactorNames, IsFactorFile, IsFactorTable}
-use Rattle.command_answers.specs.Checking.{AreResiduals, are_within, check_status_of}
+use Rattle.command_answers.specs.Checking.{AreResiduals, check_status_of}
 use Rattle.command_answers.specs.Factors.{AreTables, IsLossIfWanted, IsLossTable}
 use Rattle.command_answers.specs.Tellings.{Telling, tabled}
 use Rattle.command_answers.specs.declared.checking.Residuals.{Residuals}
 use Rattle.command_answers.specs.declared.factors.MadeTables.{MadeTables}
 use Rattle.command_answers.specs.declared.status.Status.{Status}
 use Rattle.command_answers.specs.declared.status.Status.TheVariants as status
-use Rattle.command_files.specs.Reading.{IsTable, Source, header_alone, in_file, source_of}
+use Rattle.command_files.specs.Reading.{IsTable, in_file, source_of}
 use Rattle.command_files.specs.Standing.{AreCheckFiles, AreFactorFiles}
 use Rattle.sced.specs.Headline.{AreFilesApart, HaveTables, IsFactored, LawOfFactorCheck, LawOfFactors, check_of, made_tables, passed_tables, refused_tables}
 use Rattle.sced.specs.Runs.{Keeps}
 use Rattle.sced.specs.Told.{named_outputs}
 use Rattle.sced.proofs.AskedLemmas.{check-told, factors-told, same-bytes, same-table}
-use Rattle.sced.proofs.FactorLemmas.{factors-kept, loss-made, sound}
+use Rattle.sced.proofs.FactorLemmas.{factors-kept, sound}
 use Rattle.sced.proofs.HeadlineLemmas.{AllNamed, bytes-named, kept-at}
 use Rattle.sced.proofs.RunLemmas.{printed}
 

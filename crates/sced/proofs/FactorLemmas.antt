@@ -16,20 +16,18 @@ use Rattle.market_data.specs.declared.scales.FactorPlaces.{FactorPlaces}
 use Rattle.market_inputs.specs.Making.{AreFitToMake}
 use Rattle.market_inputs.specs.declared.making.FactorInputs.{FactorInputs}
 use Rattle.refusal_text.specs.declared.refusals.FactorFault.TheVariants as factor_fault
-use Rattle.refusal_text.specs.declared.refusals.Refusal.{Refusal}
 use Rattle.refusal_text.specs.declared.refusals.Refusal.TheVariants as refusal
-use Rattle.refusal_text.specs.Refusals.{refusal_line}
 use Rattle.report_text.specs.Reports.{range_text}
 use Rattle.command_words.specs.Words.{AsksFactors, FactorNames}
 use Rattle.command_words.proofs.WordsLemmas.{factors-once}
 use Rattle.command_answers.specs.Clearing.{most_size}
-use Rattle.command_answers.specs.Factors.{AreTables, IsFactorsStop, IsLossIfWanted, IsLossTable, TellsStop, made, stopped, tables_telling}
+use Rattle.command_answers.specs.Factors.{IsFactorsStop, IsLossIfWanted, IsLossTable, TellsStop, made, stopped, tables_telling}
 use Rattle.command_answers.specs.Tellings.{Telling, certified, refusal_of, tabled, uncertified}
 use Rattle.command_answers.specs.declared.factors.MadeTables.{MadeTables}
 use Rattle.command_answers.specs.declared.status.Status.{Status}
 use Rattle.command_answers.specs.declared.status.Status.TheVariants as status
 use Rattle.command_files.specs.Standing.{TellsFactorsOf}
-use Rattle.sced.specs.Headline.{HaveTables, IsFactored, LawOfFactors, Prints, made_tables, passed_tables, refused_tables}
+use Rattle.sced.specs.Headline.{IsFactored, LawOfFactors, Prints, made_tables, passed_tables, refused_tables}
 use Rattle.sced.specs.Runs.{Keeps}
 use Rattle.sced.specs.Told.{AnswersTo, checked, cleared, entitled, factored, migrated, named_bytes, named_outputs, pooled, refused, replayed, verified}
 use Rattle.sced.specs.Told as told

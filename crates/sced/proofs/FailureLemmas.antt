@@ -2,7 +2,6 @@
 use Rattle.std.specs.Prelude.{◌≡◌, ◌⊎◌, ℕ, List, ◌++◌, Option, Some, None, Result, codes, take}
 use Rattle.std.proofs.Common.{inl, inr, refl, sym, subst, subst₂, ap, ◌∙◌}
 use Rattle.std.proofs.lemmas.List.{append-nil}
-use Rattle.outside_store.specs.Causes.{Rose}
 use Rattle.outside_store.specs.Files.{Files}
 use Rattle.outside_store.specs.Sinks.{Took}
 use Rattle.market_model.specs.declared.participants.Parts.{Parts}
@@ -11,7 +10,7 @@ use Rattle.market_inputs.specs.declared.making.FactorInputs.{FactorInputs}
 use Rattle.market_tables.specs.Tables.{GridTexts, MarketTexts}
 use Rattle.record_reading.specs.Records.{Record}
 use Rattle.refusal_text.specs.declared.refusals.Refusal.{Refusal}
-use Rattle.command_words.specs.Words.{AsksCheck, AsksClear, AsksFactors, AsksMigrate, AsksPool, AsksReplay, AsksRights, AsksVerify, CheckNames, FactorNames, GridNames, IsCheckFile, IsFactorFile, IsGridFile, IsMarketFile, IsPoolFile, IsReplayFile, IsRightsFile, IsVerifyFile, MarketNames, NamesFile, NamesToWrite}
+use Rattle.command_words.specs.Words.{AsksCheck, AsksClear, AsksFactors, AsksMigrate, AsksPool, AsksReplay, AsksRights, AsksVerify, CheckNames, FactorNames, GridNames, IsCheckFile, IsFactorFile, IsGridFile, IsMarketFile, IsPoolFile, IsReplayFile, IsRightsFile, IsVerifyFile, MarketNames, NamesFile}
 use Rattle.command_words.proofs.WordsLemmas.{asks-once, checks-once, clears-once, factors-once, migrates-once, replays-once, rights-once, verifies-once}
 use Rattle.command_answers.specs.Inputs.{MarketCertificate, MarketRights, MarketSteps}
 use Rattle.command_answers.specs.Tellings.{Telling}

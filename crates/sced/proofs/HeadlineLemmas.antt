@@ -53,7 +53,7 @@ use Rattle.market_inputs.specs.Replaying.{certificate_in}
 use Rattle.market_inputs.specs.Steps.{Is, Onward, Then}
 use Rattle.market_inputs.specs.declared.checking.Inputs.{Inputs}
 use Rattle.market_inputs.specs.declared.making.FactorInputs.{FactorInputs}
-use Rattle.command_words.specs.Words.{AsksClear, AsksFactors, AsksMigrate, AsksReplay, FactorNames, MarketNames, NamesToWrite}
+use Rattle.command_words.specs.Words.{AsksClear, AsksMigrate, AsksReplay, MarketNames, NamesToWrite}
 use Rattle.command_words.proofs.WordsLemmas.{clears-once, replays-once}
 use Rattle.command_answers.specs.Clearing.{ArePassedWithin, TellsClear, most_size, status_of}
 use Rattle.residual_text.specs.ResidualLines.{residuals_text}

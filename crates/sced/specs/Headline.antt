@@ -7,7 +7,7 @@ use Rattle.fraction_theory.specs.Fraction.{Fraction, ◌*ℚ◌}
 use Rattle.fraction_theory.specs.Order.{◌≤ℚ◌}
 use Rattle.fraction_theory.specs.Sums.{sum_by}
 use Rattle.exact_fraction.specs.declared.Passed.{Passed}
-use Rattle.outside_store.specs.Causes.{Rose, Still}
+use Rattle.outside_store.specs.Causes.{Still}
 use Rattle.outside_store.specs.Files.{Files, SameFiles}
 use Rattle.market_model.specs.declared.answered.Answer.{Answer}
 use Rattle.market_model.specs.declared.answered.Farkas.{Farkas}
@@ -29,7 +29,6 @@ use Rattle.market_model.specs.Valued.{total_at}
 use Rattle.market_system.specs.Outcomes.{IsDecided}
 use Rattle.market_system.specs.WorkingPairs.{AllNumbersFit, IsRangeOf, NoPairPasses}
 use Rattle.net_case.specs.Networks.{LiveNetwork}
-use Rattle.market_data.specs.declared.scales.FactorPlaces.{FactorPlaces}
 use Rattle.factor_tables.specs.declared.by_pair.Column.TheVariants as column
 use Rattle.factor_tables.specs.Factors.{FactorRecords}
 use Rattle.factor_tables.specs.Tables.{loss_of, shift_of}
