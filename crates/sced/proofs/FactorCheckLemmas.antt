@@ -1,14 +1,20 @@
 -- A check of tables that were made says that all is within what rounding explains.
-use Rattle.std.specs.Prelude.{◌≡◌, ℕ, Bool, true, false, nat_lt, if◌then◌else◌, List, [], length, is_some, Option, Some, None, Result, Ok, Err}
-use Rattle.std.proofs.Common.{inl, inr, refl, sym, subst, ap, ◌∙◌}
+use Rattle.std.specs.Prelude.{◌≡◌, ℕ, ℤ, Bool, true, false, nat_lt, if◌then◌else◌, List, [], length, is_some, Option, Some, None, Result, Ok, Err}
+use Rattle.std.specs.Option.{option_map_or}
+use Rattle.std.proofs.Common.{arith, inl, inr, refl, sym, subst, ap, ◌∙◌}
+use Rattle.std.proofs.lemmas.List.{append-nil}
+use Rattle.csv.proofs.OnLiterals.{csv_on_literals}
+use Rattle.csv_table.specs.Table.{frame_of, header_line, table_of}
 use Rattle.outside_store.specs.Files.{Files}
-use Rattle.record_reading.specs.Records.{Record}
+use Rattle.record_reading.specs.Records.{Record, first_ragged}
+use Rattle.record_reading.specs.Rows.{gather}
 use Rattle.record_reading.specs.Steps.{and_then, or_as}
-use Rattle.factor_laws.specs.Laws.{LossTablesAreExplained, ShiftTablesAreExplained}
+use Rattle.factor_laws.specs.Laws.{LossTablesAreExplained, LossTablesAreReadBack, ShiftTablesAreExplained}
+use Rattle.factor_maker.specs.Made.{IsMadeLoss}
 use Rattle.factor_tables.specs.declared.by_pair.Column.TheVariants as column
 use Rattle.factor_tables.specs.declared.table_fault.TableFault.{TableFault}
 use Rattle.factor_tables.specs.Factors.{FactorRecords}
-use Rattle.factor_tables.specs.OutageNumbers.{outage_header}
+use Rattle.factor_tables.specs.OutageNumbers.{outage_header, outage_rows_of}
 use Rattle.factor_tables.specs.Tables.{loss_header, loss_of, shift_of}
 use Rattle.factor_text.specs.Texts.{table_text}
 use Rattle.market_data.specs.declared.scales.FactorPlaces.{FactorPlaces}
@@ -16,17 +22,19 @@ use Rattle.market_inputs.specs.Checking.{AreInputs, inputs_of}
 use Rattle.market_inputs.specs.Files.{most_file, sized, sized_grid}
 use Rattle.market_inputs.specs.Making.{AreFactorInputs, AreFitToMake}
 use Rattle.market_inputs.specs.Steps.{Onward, Then}
-use Rattle.market_inputs.specs.Tables.{loss_in, shift_in}
+use Rattle.market_inputs.specs.Tables.{AreOutagesIn, loss_in, numbers_in, shift_in}
 use Rattle.market_inputs.specs.declared.checking.Inputs.{Inputs}
 use Rattle.market_inputs.specs.declared.making.FactorInputs.{FactorInputs}
 use Rattle.market_inputs.proofs.OnceLemmas.{factor-inputs-once}
 use Rattle.market_tables.specs.Tables.{GridTexts}
+use Rattle.net_case.specs.Networks.{LiveNetwork}
+use Rattle.outage_list.specs.Listing.{AreOutages}
 use Rattle.refusal_text.specs.declared.refusals.Input.TheVariants as input
 use Rattle.refusal_text.specs.declared.refusals.Refusal.{Refusal}
 use Rattle.refusal_text.specs.declared.refusals.Refusal.TheVariants as refusal
 use Rattle.command_words.specs.Words.{FactorNames, IsFactorFile, IsFactorTable}
 use Rattle.command_answers.specs.Checking.{AreResiduals, check_status_of}
-use Rattle.command_answers.specs.Factors.{AreTables, IsLossIfWanted, IsLossTable}
+use Rattle.command_answers.specs.Factors.{AreTables, IsLossIfWanted, IsLossTable, IsShiftTable}
 use Rattle.command_answers.specs.Tellings.{Telling, tabled}
 use Rattle.command_answers.specs.declared.checking.Residuals.{Residuals}
 use Rattle.command_answers.specs.declared.factors.MadeTables.{MadeTables}
@@ -147,55 +155,141 @@ loss-there inputs places file (Some f) (Some loss) named is = (loss, refl, is)
 loss-there inputs places file (Some f) None named is = absurd is
 loss-there inputs places file None made named is = let wrong : no_name ≡ Some file = named in cc wrong
 
-module _ (shift_explained : ShiftTablesAreExplained) (loss_explained : LossTablesAreExplained) (names : FactorNames) (inputs : FactorInputs) (checked : Inputs) (files later : Files) (t : Telling)
-    (kept : Keeps ⊥ (named_outputs (tabled names.ptdf_out names.lodf_out) t.outputs) (Some files) (Some later)) (apart : AreFilesApart names) (file : List ℕ) (named : names.lodf_out ≡ Some file)
-    (fit : AreFitToMake inputs) (stand : AreFactorFiles files names (Ok inputs)) (again : AreCheckFiles later (check_of names) (Ok checked)) where
-  same-inputs : makings checked ≡ inputs
-  same-inputs =
-      let case : again.texts.case ≡ stand.case =
-      same-bytes again.texts.case stand.case (files names.case) (sym (stays names files later t kept apart names.case (inl refl)) ∙ again.have.case) stand.case_is in
-      let outages : again.texts.contingencies ≡ stand.outages =
-      same-table files (source_of outage_header names.contingencies) again.texts.contingencies stand.outages
-      (table-stays names files later t kept apart names.contingencies outage_header again.texts.contingencies (λ name is. inr is) again.have.contingencies) stand.outages_are in
-      let work : AreFactorInputs stand.case stand.outages (Ok (makings checked)) =
-      subst (λ o. AreFactorInputs stand.case o (Ok (makings checked))) outages
-      (subst (λ c. AreFactorInputs c again.texts.contingencies (Ok (makings checked))) case (check-parts names.places again.texts checked again.inputs).work) in
-      one-made (makings checked) inputs (factor-inputs-once stand.case stand.outages (Ok (makings checked)) (Ok inputs) work stand.work)
+-- ---- shift factors alone
+-- the header alone lists no outages
+no-numbers : (too_long : Refusal) → numbers_in (sized too_long (header_line outage_header)) ≡ Ok []
+unfolding csv_on_literals first_ragged frame_of table_of gather outage_rows_of sized
+no-numbers too_long = refl
 
-  same-network : checked.network ≡ inputs.network
-  same-network = ap (λ (x : FactorInputs). x.network) same-inputs
+none-listed : (network : LiveNetwork) → AreOutages network []
+none-listed network = record { each = λ i d lt. absurd (omega (arith, lt)); distinct = λ i j d p q. absurd (omega (arith, q)) }
 
-  same-shift : (tables : MadeTables) → HaveTables names inputs.network tables later → checked.shift ≡ tables.shift
-  same-shift tables have =
+header-lists-none : (network : LiveNetwork) (too_long : Refusal) → AreOutagesIn network (sized too_long (header_line outage_header)) (Ok [])
+header-lists-none network too_long = record {
+  made = Ok [];
+  is = no-numbers too_long;
+  rest = record { listed = Ok []; is = (refl, none-listed network); made = λ e. absurd (cc e); same = refl };
+}
+
+-- the same network without outages
+abbrev alone : FactorInputs → FactorInputs
+alone inputs = record { network = inputs.network; reactances = inputs.reactances; outages = [] }
+
+alone-work : (case outages : List ℕ) (inputs : FactorInputs) → AreFactorInputs case outages (Ok inputs) → AreFactorInputs case (header_line outage_header) (Ok (alone inputs))
+alone-work case outages inputs h =
+    let (matrices, m, in-case) = then-made _ _ inputs h in
+    let (network, n, in-network) = then-made _ _ inputs in-case in
+    let (reactances, x, in-reactances) = then-made _ _ inputs in-network in
+    let (listed, o, all) = then-made _ _ inputs in-reactances in
+    let whole = one-made _ inputs all in
+    subst (λ (i : FactorInputs). AreFactorInputs case (header_line outage_header) (Ok (alone i))) whole (record {
+      made = Ok matrices;
+      is = m;
+      rest = record { made = Ok network; is = n; rest = record { made = Ok reactances; is = x; rest = record { made = Ok []; is = header-lists-none network (refusal.TooLong input.Contingencies); rest = refl } } };
+    })
+
+alone-fit : (inputs : FactorInputs) → AreFitToMake inputs → AreFitToMake (alone inputs)
+alone-fit inputs fit = record { network = fit.network; joined = fit.joined; reactances = fit.reactances; outages = none-listed inputs.network }
+
+-- a table without records is that of the factors of no outages
+abbrev no_factors : FactorPlaces → FactorRecords
+no_factors places = record { places = places; entries = [] }
+
+none-made : (network : LiveNetwork) (xs : List ℤ) (places : FactorPlaces) → IsMadeLoss network xs [] places (no_factors places)
+none-made network xs places = record { places_are = refl; lost = []; lost_are = tt; entries = tt }
+
+no-text : table_text column.Outage [] ≡ header_line loss_header
+unfolding table_text
+no-text = append-nil (header_line loss_header)
+
+alone-tables : (inputs : FactorInputs) (places : FactorPlaces) (shift : FactorRecords) → IsShiftTable inputs places shift → AreTables (alone inputs) false places (record { shift = shift; loss = None })
+alone-tables inputs places shift is = record { shift = record { few = is.few; positive = is.positive; made = is.made }; loss = tt }
+
+none-there : (inputs : FactorInputs) (places : FactorPlaces) (shift : FactorRecords) → IsShiftTable inputs places shift → IsLossTable (alone inputs) places (no_factors places)
+none-there inputs places shift is = record { few = omega arith; positive = is.positive; made = none-made inputs.network inputs.reactances places }
+
+-- ---- what is read again
+module _ (names : FactorNames) (inputs : FactorInputs) (checked : Inputs) (files later : Files) (t : Telling) (kept : Keeps ⊥ (named_outputs (tabled names.ptdf_out names.lodf_out) t.outputs) (Some files) (Some later))
+    (apart : AreFilesApart names) (stand : AreFactorFiles files names (Ok inputs)) (again : AreCheckFiles later (check_of names) (Ok checked)) where
+  same-case : again.texts.case ≡ stand.case
+  same-case = same-bytes again.texts.case stand.case (files names.case) (sym (stays names files later t kept apart names.case (inl refl)) ∙ again.have.case) stand.case_is
+
+  parts : AreCheckParts names.places again.texts checked
+  parts = check-parts names.places again.texts checked again.inputs
+
+  -- the work of the case, with these outages
+  same-work : (outages : List ℕ) → again.texts.contingencies ≡ outages → AreFactorInputs stand.case outages (Ok (makings checked))
+  same-work outages same =
+      subst (λ o. AreFactorInputs stand.case o (Ok (makings checked))) same (subst (λ c. AreFactorInputs c again.texts.contingencies (Ok (makings checked))) same-case parts.work)
+
+  same-shift : checked.network ≡ inputs.network → (tables : MadeTables) → HaveTables names inputs.network tables later → checked.shift ≡ tables.shift
+  same-shift same_network tables have =
       let text : again.texts.ptdf ≡ table_text column.Bus tables.shift.entries = same-bytes again.texts.ptdf (table_text column.Bus tables.shift.entries) (later names.ptdf_out) again.have.ptdf (have.shift apart.outputs) in
-      let read = table-read (refusal.TooLong input.Ptdf) (refusal.Table input.Ptdf) (λ bytes. shift_of checked.network bytes names.places) again.texts.ptdf checked.shift (check-parts names.places again.texts checked again.inputs).shift in
+      let read = table-read (refusal.TooLong input.Ptdf) (refusal.Table input.Ptdf) (λ bytes. shift_of checked.network bytes names.places) again.texts.ptdf checked.shift parts.shift in
       let here : shift_of inputs.network (table_text column.Bus tables.shift.entries) names.places ≡ Ok checked.shift =
-      subst (λ bytes. shift_of inputs.network bytes names.places ≡ Ok checked.shift) text (subst (λ n. shift_of n again.texts.ptdf names.places ≡ Ok checked.shift) same-network read) in
+      subst (λ bytes. shift_of inputs.network bytes names.places ≡ Ok checked.shift) text (subst (λ n. shift_of n again.texts.ptdf names.places ≡ Ok checked.shift) same_network read) in
       one-table checked.shift tables.shift (shift_of inputs.network (table_text column.Bus tables.shift.entries) names.places) here have.shift_read
 
-  same-loss : (tables : MadeTables) (loss : FactorRecords) → tables.loss ≡ Some loss → HaveTables names inputs.network tables later → checked.loss ≡ loss
-  same-loss tables loss there have =
-      let was : IsTable later (in_file file) again.texts.lodf = subst (λ o. IsTable later (source_of loss_header o) again.texts.lodf) named again.have.lodf in
-      let text : again.texts.lodf ≡ table_text column.Outage loss.entries = same-bytes again.texts.lodf (table_text column.Outage loss.entries) (later file) was (have.loss file loss named there) in
-      let read = table-read (refusal.TooLong input.Lodf) (refusal.Table input.Lodf) (λ bytes. loss_of checked.network bytes names.places) again.texts.lodf checked.loss (check-parts names.places again.texts checked again.inputs).loss in
-      let here : loss_of inputs.network (table_text column.Outage loss.entries) names.places ≡ Ok checked.loss =
-      subst (λ bytes. loss_of inputs.network bytes names.places ≡ Ok checked.loss) text (subst (λ n. loss_of n again.texts.lodf names.places ≡ Ok checked.loss) same-network read) in
-      one-table checked.loss loss (loss_of inputs.network (table_text column.Outage loss.entries) names.places) here (have.loss_read loss there)
+  -- a table of outage factors, by its text
+  same-loss : checked.network ≡ inputs.network → (loss : FactorRecords) (text : List ℕ) → again.texts.lodf ≡ text → loss_of inputs.network text names.places ≡ Ok loss → checked.loss ≡ loss
+  same-loss same_network loss text is back =
+      let read = table-read (refusal.TooLong input.Lodf) (refusal.Table input.Lodf) (λ bytes. loss_of checked.network bytes names.places) again.texts.lodf checked.loss parts.loss in
+      let here : loss_of inputs.network text names.places ≡ Ok checked.loss =
+      subst (λ bytes. loss_of inputs.network bytes names.places ≡ Ok checked.loss) is (subst (λ n. loss_of n again.texts.lodf names.places ≡ Ok checked.loss) same_network read) in
+      one-table checked.loss loss (loss_of inputs.network text names.places) here back
 
-  within : (r : Residuals) → AreResiduals checked r → (text : List ℕ) (s : Status) → s ≡ status.Done → IsFactored names inputs files later text s → check_status_of r ≡ status.Done
-  within r residuals text _ done (made_tables tables are is have) =
-      let (loss, there, is-loss) = loss-there inputs names.places file names.lodf_out tables.loss named are.loss in
-      explained shift_explained loss_explained names inputs fit tables loss (is_some names.lodf_out) are is-loss checked r same-inputs (same-shift tables have) (same-loss tables loss there have) residuals
-  within r residuals text _ done (refused_tables fault stops is same) = let wrong : status.Refused ≡ status.Done = done in cc wrong
-  within r residuals text _ done (passed_tables p stops sides is same) = let wrong : status.Range ≡ status.Done = done in cc wrong
+  module _ (shift_explained : ShiftTablesAreExplained) (loss_explained : LossTablesAreExplained) (loss_back : LossTablesAreReadBack) (fit : AreFitToMake inputs) (tables : MadeTables) (have : HaveTables names inputs.network tables later)
+      (r : Residuals) (residuals : AreResiduals checked r) where
+    -- of both tables
+    both-within : (file : List ℕ) → names.lodf_out ≡ Some file → AreTables inputs (is_some names.lodf_out) names.places tables → check_status_of r ≡ status.Done
+    both-within file named are =
+        let (loss, there, is-loss) = loss-there inputs names.places file names.lodf_out tables.loss named are.loss in
+        let listed : IsTable later (source_of outage_header names.contingencies) again.texts.contingencies =
+        subst (λ o. IsTable later (source_of outage_header (option_map_or (λ _. names.contingencies) o None)) again.texts.contingencies) named again.have.contingencies in
+        let outages : again.texts.contingencies ≡ stand.outages =
+        same-table files (source_of outage_header names.contingencies) again.texts.contingencies stand.outages
+        (table-stays names files later t kept apart names.contingencies outage_header again.texts.contingencies (λ name is. inr is) listed) stand.outages_are in
+        let same = one-made (makings checked) inputs (factor-inputs-once stand.case stand.outages (Ok (makings checked)) (Ok inputs) (same-work stand.outages outages) stand.work) in
+        let network = ap (λ (x : FactorInputs). x.network) same in
+        let was : IsTable later (in_file file) again.texts.lodf = subst (λ o. IsTable later (source_of loss_header o) again.texts.lodf) named again.have.lodf in
+        let text = same-bytes again.texts.lodf (table_text column.Outage loss.entries) (later file) was (have.loss file loss named there) in
+        explained shift_explained loss_explained names inputs fit tables loss (is_some names.lodf_out) are is-loss checked r same (same-shift network tables have)
+        (same-loss network loss (table_text column.Outage loss.entries) text (have.loss_read loss there)) residuals
 
-pub law_of_factor_check : LawOfFactors → ShiftTablesAreExplained → LossTablesAreExplained → LawOfFactorCheck
-law_of_factor_check law_of_factors shift_explained loss_explained words again files later text answer s t inputs checked file run now asks done named apart verify check same_names =
+    -- and of shift factors alone
+    shift-within : names.lodf_out ≡ None → AreTables inputs (is_some names.lodf_out) names.places tables → check_status_of r ≡ status.Done
+    shift-within named are =
+        let outages : again.texts.contingencies ≡ header_line outage_header =
+        subst (λ o. IsTable later (source_of outage_header (option_map_or (λ _. names.contingencies) o None)) again.texts.contingencies) named again.have.contingencies in
+        let same = one-made (makings checked) (alone inputs)
+        (factor-inputs-once stand.case (header_line outage_header) (Ok (makings checked)) (Ok (alone inputs)) (same-work (header_line outage_header) outages) (alone-work stand.case stand.outages inputs stand.work)) in
+        let network = ap (λ (x : FactorInputs). x.network) same in
+        let is-sound = sound inputs fit are.shift.positive in
+        let read = loss_back inputs.network inputs.reactances [] names.places (no_factors names.places) is-sound (none-listed inputs.network) (none-made inputs.network inputs.reactances names.places) in
+        let back = subst (λ text. loss_of inputs.network text names.places ≡ Ok (no_factors names.places)) no-text read.1 in
+        let text : again.texts.lodf ≡ header_line loss_header = subst (λ o. IsTable later (source_of loss_header o) again.texts.lodf) named again.have.lodf in
+        explained shift_explained loss_explained names (alone inputs) (alone-fit inputs fit) (record { shift = tables.shift; loss = None }) (no_factors names.places) false (alone-tables inputs names.places tables.shift are.shift)
+        (none-there inputs names.places tables.shift are.shift) checked r same (same-shift network tables have) (same-loss network (no_factors names.places) (header_line loss_header) text back) residuals
+
+    within : (o : Option (List ℕ)) → names.lodf_out ≡ o → AreTables inputs (is_some names.lodf_out) names.places tables → check_status_of r ≡ status.Done
+    within (Some file) named are = both-within file named are
+    within None named are = shift-within named are
+
+-- where tables were made
+tables-of : (names : FactorNames) (inputs : FactorInputs) (files later : Files) (text : List ℕ) (s : Status) → s ≡ status.Done → IsFactored names inputs files later text s
+    → (tables : MadeTables) × AreTables inputs (is_some names.lodf_out) names.places tables × HaveTables names inputs.network tables later
+tables-of names inputs files later text _ done (made_tables tables are is have) = (tables, are, have)
+tables-of names inputs files later text _ done (refused_tables fault stops is same) = let wrong : status.Refused ≡ status.Done = done in cc wrong
+tables-of names inputs files later text _ done (passed_tables p stops sides is same) = let wrong : status.Range ≡ status.Done = done in cc wrong
+
+pub law_of_factor_check : LawOfFactors → ShiftTablesAreExplained → LossTablesAreExplained → LossTablesAreReadBack → LawOfFactorCheck
+law_of_factor_check law_of_factors shift_explained loss_explained loss_back words again files later text answer s t inputs checked run now asks done apart verify check same_names =
     let p = printed words files text s run in
     let q = printed again later answer t verify in
     let tells = factors-told files words p.telling p.written (Ok inputs) p.answers asks in
     let stand : AreCheckFiles later (check_of asks.names) (Ok checked) = subst (λ n. AreCheckFiles later n (Ok checked)) same_names check.stand in
     let (r, residuals, is) = check-told later again q.telling q.written (Ok checked) q.answers check in
+    let (tables, are, have) = tables-of asks.names inputs files later text s done (law_of_factors words files later text s inputs run now asks) in
     sym q.status_is ∙ ap (λ (x : Telling). x.status) is
-    ∙ within shift_explained loss_explained asks.names inputs checked files later p.telling (factors-kept words files later text s run now asks.names asks.asks) apart file named tells.0 asks.stand stand
-    r residuals text s done (law_of_factors words files later text s inputs run now asks)
+    ∙ within asks.names inputs checked files later p.telling (factors-kept words files later text s run now asks.names asks.asks) apart asks.stand stand shift_explained loss_explained loss_back tells.0 tables have r residuals
+    asks.names.lodf_out refl are

@@ -352,19 +352,18 @@ pub record AreFilesApart (names : FactorNames) : Type 0 where
   pub outputs : names.lodf_out ≢ Some names.ptdf_out
   pub inputs : (file : List ℕ) → IsFactorFile names file → ¬ (IsFactorTable names file)
 
--- the files of a check of the tables, whose factors have the places that were asked for
+-- the files of a check of the tables, whose factors have the places that were asked for; shift factors alone are checked without outages
 abbrev pub check_of : FactorNames → CheckNames
 check_of names = record {
-  tables = record { case = names.case; ptdf = names.ptdf_out; lodf = names.lodf_out; contingencies = names.contingencies };
+  tables = record { case = names.case; ptdf = names.ptdf_out; lodf = names.lodf_out; contingencies = option_map_or (λ _. names.contingencies) names.lodf_out None };
   places = names.places;
 }
 
--- of both tables that were made, with the case and the outages of which they were, `check` says that all is within what rounding explains
+-- of the tables that were made, with the case and the outages of which they were, `check` says that all is within what rounding explains
 abbrev pub LawOfFactorCheck : Type 0
 LawOfFactorCheck = (words again : List (List ℕ)) (files later : Files) (text answer : List ℕ) (s t : Status) (inputs : FactorInputs) (checked : Inputs)
-    (file : List ℕ) → (run : Prints words files text s) → run.after.files ≡ Some later → (asks : AsksForFactors files words (Ok inputs)) → s ≡ status.Done
-    → asks.names.lodf_out ≡ Some file → AreFilesApart asks.names → Prints again later answer t → (check : AsksToCheck later again (Ok checked))
-    → check.names ≡ check_of asks.names → t ≡ status.Done
+    → (run : Prints words files text s) → run.after.files ≡ Some later → (asks : AsksForFactors files words (Ok inputs)) → s ≡ status.Done → AreFilesApart asks.names
+    → Prints again later answer t → (check : AsksToCheck later again (Ok checked)) → check.names ≡ check_of asks.names → t ≡ status.Done
 
 -- ---- faults
 -- an edit among the steps that the words ask for is refused

@@ -97,13 +97,14 @@ pub fn factors()
     loss_tables_are_read_back();
 }
 
-/// `check` says of both tables that were made, with the case and the outages of which they were, that all is within what rounding explains.
+/// `check` says of the tables that were made, with the case and the outages of which they were, that all is within what rounding explains.
 pub fn factor_check()
     ensures { LawOfFactorCheck }
 {
     factors();
     shift_tables_are_explained();
     loss_tables_are_explained();
+    loss_tables_are_read_back();
 }
 
 /// The first fault of the files is told exactly where there is one, and no file is touched then; its status comes else only for an edit
