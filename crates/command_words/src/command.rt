@@ -48,7 +48,7 @@ const MIGRATED: &str = "The certificate that is written anew";
 const OUT: &str = "The file that it is written to";
 
 /// The kit that proves and builds the program, as `rt version` prints it.
-const VERSION: &str = "rattle-kit-13b logic dac8208d650f15bf";
+const VERSION: &str = "rattle-kit-13f logic dac8208d650f15bf";
 
 const STATUSES: &str =
     "Statuses: 0 done, 1 usage, 2 a file is refused, 3 infeasible, 4 range, 5 a read failed, 6 a write failed, 7 no memory, 8 `no`, beyond rounding, or rights that do not fit";

@@ -165,7 +165,7 @@ const TABLE: [(&str, &str); 48] = [
     ),
     (
         "sced --version",
-        "sced rattle-kit-13b logic dac8208d650f15bf",
+        "sced rattle-kit-13f logic dac8208d650f15bf",
     ),
     (
         "sced pool --help",
