@@ -1,5 +1,5 @@
 //! Tests of `command_answers`: each command on a case of three buses, the texts of the five-bus system, limits that give way at a
-//! penalty, outages of units, factors of nine places, and transmission rights.
+//! penalty, there and on the six-bus system, outages of units, factors of nine places, and transmission rights.
 #![tactic(auto)]
 
 #[cfg(test)]
@@ -8,6 +8,8 @@ mod network_tests;
 mod places_tests;
 #[cfg(test)]
 mod rights_tests;
+#[cfg(test)]
+mod six_tests;
 #[cfg(test)]
 mod soft_tests;
 #[cfg(test)]
