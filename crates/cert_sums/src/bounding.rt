@@ -6,13 +6,12 @@ ghost use Rattle.fraction_theory.specs.Fraction.{Fraction, ◌+ℚ◌, ◌-ℚ�
 ghost use Rattle.fraction_theory.specs.Sums.{total};
 ghost use Rattle.market_model.specs.declared.answered.Duals.{Duals};
 ghost use Rattle.market_model.specs.Dispatch.{Dispatch, places, balance, empty};
-ghost use Rattle.market_model.specs.Infeasibility.{block_most, farkas_bound, limit_terms, nothing_terms};
+ghost use Rattle.market_model.specs.Infeasibility.{block_most, energy_left_terms, farkas_bound, limit_terms, nothing_terms};
 ghost use Rattle.market_model.specs.LimitRows.{IsCauseOf, flow, limit};
 ghost use Rattle.market_model.specs.Stops.{StopsBy};
 ghost use Rattle.market_model.specs.Valued.{passed_at};
 ghost use Rattle.market_model.specs.NamedSums.{IsShareRefusal};
 ghost use Rattle.market_model.specs.PutIn.{AreCarried};
-ghost use Rattle.cert_sums.specs.Bounds.{energy_left_terms};
 ghost use Rattle.cert_sums.specs.Named.{AreNamed, AreNamedRooms, priced_at, priced_by};
 ghost use Rattle.cert_sums.specs.Pairs.{IsFarkasPair};
 ghost use Rattle.cert_sums.specs.Refusals.{IsAboveRefusal, IsBelowRefusal, IsLimitRefusal};

@@ -19,7 +19,7 @@ use Rattle.market_model.specs.declared.answered.Duals.{Duals}
 use Rattle.market_model.specs.declared.limits.Row.{Row}
 use Rattle.market_model.specs.declared.participants.Parts.{Parts}
 use Rattle.market_model.specs.Dispatch.{places, zero, balance, empty, quantity, reserve_quantity, unit_at}
-use Rattle.market_model.specs.Infeasibility.{block_most, block_weight, farkas_bound, farkas_terms, limit_terms, nothing_terms, offer_most, offer_weight, reserve_left_terms}
+use Rattle.market_model.specs.Infeasibility.{block_most, block_weight, energy_left_terms, farkas_bound, farkas_terms, limit_terms, need_terms, nothing_terms, offer_most, offer_weight, reserve_left_terms}
 use Rattle.market_model.specs.LimitRows.{factor_terms, flow, loses, most_flow, row_id, row_pickup, rows}
 use Rattle.market_model.specs.Market.{IsMarket}
 use Rattle.market_model.specs.NamedSums.{IsRefusal, IsRefusedIn, IsShareRefusal}
@@ -28,11 +28,12 @@ use Rattle.market_model.specs.Reserves.{offer_places, offers_reserve, reserve_ne
 use Rattle.market_model.specs.SumTables.{IsPickupRefusal, IsRefusedAmong, IsRefusedInBusPrices, IsRefusedInPrices, OwnPriceSum, energy_of_unit, factor_at_bus, factor_of_pickup, farkas_bound_of_all, flow_in_limits, limited_row, own_price_of_unit, price_of_bus, price_of_unit, reserve_of_unit}
 use Rattle.settlement.specs.Paying.{ArePricesOf}
 use Rattle.market_model.proofs.FarkasLaw.{total-flat_map}
+use Rattle.market_model.proofs.FarkasParts.{farkas_terms-parts, need_refused as need_refused_in_terms}
 use Rattle.market_model.proofs.MorePlaces.{sum_by_more, total-filter_more, total-places_more}
 use Rattle.market_model.proofs.RoomLemmas.{offers-listed}
 use Rattle.market_model.proofs.SumSteps.{minus_at, product_at, share_at, terms_at, tested_at, behind, in_front}
-use Rattle.limit_rows.proofs.DualLemmas.{IsRowOfDual, up_unnamed, down_unnamed, sum_named}
-use Rattle.clear_loop.specs.Bounding.{IsBoundRefusal, IsLimitRefusal, IsSideRefusal, in_bound, in_factor, in_flow, in_lower, in_most, in_price, in_row_flow, in_row_most, in_upper, in_worth, left_terms, need_terms, of_lower, of_most, of_upper}
+use Rattle.limit_rows.proofs.DualLemmas.{IsRowOfDual, energy_left-by_named, limit_unnamed, sum_named}
+use Rattle.clear_loop.specs.Bounding.{IsBoundRefusal, IsLimitRefusal, IsSideRefusal, in_bound, in_factor, in_flow, in_lower, in_most, in_price, in_row_flow, in_row_most, in_upper, in_worth, of_lower, of_most, of_upper}
 
 -- ---- prices of 0 make nothing
 pub nothing_made : (s price room : Fraction) → price ≡ whole (pos 0) → s ≡ s +ℚ price *ℚ room
@@ -116,22 +117,13 @@ module _ (m : Parts) (d : Duals Fraction) where
   abbrev behind_limits : List Term
   behind_limits = reserve_left_terms m d ++ (block_terms ++ offer_terms)
 
-  farkas_terms_are : farkas_terms m d ≡ left_terms m d ++ behind_limits
-  farkas_terms_are = append_assoc (nothing_terms m d) block_terms offer_terms ∙ append_assoc (left_terms m d) (reserve_left_terms m d) (block_terms ++ offer_terms)
-
   -- ---- the price of energy by the balance
   pub energy_refused : (b : Fraction) (bound : ℕ) (p : Passed Fraction) → b ≡ balance m (empty m) → IsRefusal Times d.energy b bound p → IsBoundRefusal m d bound p
   energy_refused b bound p is h =
       in_bound
-      (_, farkas_bound_of_all, product_at (farkas_terms m d) [] (flat_map (limit_terms m d) (rows m) ++ behind_limits) energy_term farkas_terms_are bound p d.energy b (ap (Product d.energy) (sym is)) refl h)
+      (_, farkas_bound_of_all, product_at (farkas_terms m d) [] (flat_map (limit_terms m d) (rows m) ++ behind_limits) energy_term (farkas_terms-parts m d) bound p d.energy b (ap (Product d.energy) (sym is)) refl h)
 
   -- ---- the limits
-  -- a row without prices makes nothing
-  unnamed : (r : Row) → names_row d.limits (row_id m r) ≡ false → left r ≡ whole (pos 0)
-  unnamed r h =
-      ap₂ (λ u v. u *ℚ (most_flow m r -ℚ flow m (empty m) r) +ℚ (v *ℚ (most_flow m r +ℚ flow m (empty m) r) +ℚ whole (pos 0))) (up_unnamed d.limits (row_id m r) h) (down_unnamed d.limits (row_id m r) h)
-      ∙ by_ring ring_ℚ (most_flow m r ∷ flow m (empty m) r ∷ []) (pnil ⊗ (at 0 ⊕ pneg (at 1)) ⊕ (pnil ⊗ (at 0 ⊕ at 1) ⊕ pnil)) pnil refl
-
   -- what the price of energy makes, with the first rows that duals name
   abbrev pub limits_to : ℕ → Fraction
   limits_to k = d.energy *ℚ balance m (empty m) +ℚ sum_by left (take k (named_rows m d))
@@ -139,10 +131,8 @@ module _ (m : Parts) (d : Duals Fraction) where
   pub limits_none : (s : Fraction) → s ≡ d.energy *ℚ balance m (empty m) → s ≡ limits_to 0
   limits_none s e = e ∙ sym (+ℚ_nil (d.energy *ℚ balance m (empty m)))
 
-  pub limits_all : (k : ℕ) → length (named_rows m d) ≤ k → limits_to k ≡ total (left_terms m d)
-  limits_all k h =
-      ap (λ t. d.energy *ℚ balance m (empty m) +ℚ t)
-      (ap (sum_by left) (take_all k (named_rows m d) h) ∙ sym (sum_named m d left (rows m) unnamed) ∙ sym (total-flat_map (limit_terms m d) (rows m)))
+  pub limits_all : (k : ℕ) → length (named_rows m d) ≤ k → limits_to k ≡ total (energy_left_terms m d)
+  limits_all k h = ap (λ (rs : List Row). d.energy *ℚ balance m (empty m) +ℚ sum_by left rs) (take_all k (named_rows m d) h) ∙ sym (energy_left-by_named m d)
 
   -- what the two prices of a row make, one added behind the other
   pub sides_sum : (r : Row) (up down sum above more l f g : Fraction) → up_of m d r ≡ up → down_of m d r ≡ down → l ≡ most_flow m r → f ≡ flow m (empty m) r → g ≡ neg_ℚ f → above ≡ sum +ℚ up *ℚ (l -ℚ f)
@@ -189,7 +179,7 @@ module _ (m : Parts) (d : Duals Fraction) where
 
       split : farkas_terms m d ≡ front ++ (limit_terms m d r ++ rest)
       split =
-          farkas_terms_are
+          (farkas_terms-parts m d)
           ∙ ap (λ (rs : List Row). energy_term ∷ (flat_map (limit_terms m d) rs ++ behind_limits)) (round.2 ∙ ap (λ (t : Row). round.0 ++ t ∷ round.1) (sym h.at))
           ∙ ap (λ ts. energy_term ∷ (ts ++ behind_limits)) (flat_map-append (limit_terms m d) round.0 (r ∷ round.1))
           ∙ ap (λ ts. energy_term ∷ ts) (append_assoc (flat_map (limit_terms m d) round.0) (limit_terms m d r ++ flat_map (limit_terms m d) round.1) behind_limits)
@@ -197,7 +187,7 @@ module _ (m : Parts) (d : Duals Fraction) where
       sum_is : sum ≡ total front
       sum_is =
           before
-          ∙ sym (ap (λ t. d.energy *ℚ balance m (empty m) +ℚ t) (total-flat_map (limit_terms m d) round.0 ∙ sum_named m d left round.0 unnamed ∙ ap (sum_by left) round.3))
+          ∙ sym (ap (λ t. d.energy *ℚ balance m (empty m) +ℚ t) (total-flat_map (limit_terms m d) round.0 ∙ sum_named m d left round.0 (limit_unnamed m d) ∙ ap (sum_by left) round.3))
 
       added : IsRefusedIn (farkas_terms m d) bound p → IsBoundRefusal m d bound p
       added why = in_bound (_, farkas_bound_of_all, why)
@@ -239,28 +229,13 @@ module _ (m : Parts) (d : Duals Fraction) where
   abbrev behind_rooms : List Term
   behind_rooms = block_terms ++ offer_terms
 
-  module _ (listed : m.reserve.listed ≡ true) where
-    need_is : need_terms m d ≡ Product d.reserve (neg_ℚ (reserve_need m)) ∷ []
-    need_is = ap (λ (b : Bool). if b then Product d.reserve (neg_ℚ (reserve_need m)) ∷ [] else []) listed
-
-    pub need_made : (old new : Fraction) → old ≡ total (left_terms m d) → new ≡ old +ℚ d.reserve *ℚ neg_ℚ (reserve_need m) → new ≡ total (left_terms m d ++ need_terms m d)
-    need_made old new before e =
-        e ∙ ap₂ ◌+ℚ◌ before (sym (+ℚ_nil (d.reserve *ℚ neg_ℚ (reserve_need m))))
-        ∙ sym (total-append (left_terms m d) (Product d.reserve (neg_ℚ (reserve_need m)) ∷ []))
-        ∙ ap (λ ts. total (left_terms m d ++ ts)) (sym need_is)
-
-    pub need_refused : (sum : Fraction) (bound : ℕ) (p : Passed Fraction) → sum ≡ total (left_terms m d) → IsShareRefusal sum d.reserve (neg_ℚ (reserve_need m)) bound p → IsBoundRefusal m d bound p
-    need_refused sum bound p before h = in_bound (
-      _,
-      farkas_bound_of_all,
-      share_at (farkas_terms m d) (left_terms m d) (room_terms ++ behind_rooms) (Product d.reserve (neg_ℚ (reserve_need m)))
-          (farkas_terms_are ∙ ap (λ ts. left_terms m d ++ ((ts ++ room_terms) ++ behind_rooms)) need_is)
-          bound p sum d.reserve (neg_ℚ (reserve_need m)) refl before h,
-    )
+  pub need_refused : m.reserve.listed ≡ true → (sum : Fraction) (bound : ℕ) (p : Passed Fraction) → sum ≡ total (energy_left_terms m d) → IsShareRefusal sum d.reserve (neg_ℚ (reserve_need m)) bound p
+      → IsBoundRefusal m d bound p
+  need_refused listed sum bound p before h = in_bound (_, farkas_bound_of_all, need_refused_in_terms m d listed sum bound p before h)
 
   -- ---- the rooms
   abbrev before_rooms : List Term
-  before_rooms = left_terms m d ++ need_terms m d
+  before_rooms = energy_left_terms m d ++ need_terms m d
 
   abbrev rooms_before : ℕ → List Term
   rooms_before k = map room_term (filter (offers_reserve m) (places k))
@@ -273,7 +248,7 @@ module _ (m : Parts) (d : Duals Fraction) where
   rooms_none s e = e ∙ sym (+ℚ_nil (total before_rooms))
 
   nothing_is : nothing_terms m d ≡ before_rooms ++ room_terms
-  nothing_is = sym (append_assoc (left_terms m d) (need_terms m d) room_terms)
+  nothing_is = sym (append_assoc (energy_left_terms m d) (need_terms m d) room_terms)
 
   pub rooms_all : rooms_to (length m.units) ≡ total (nothing_terms m d)
   rooms_all = sym (total-append before_rooms room_terms) ∙ ap total (sym nothing_is)
