@@ -23,7 +23,7 @@ use Rattle.market_model.specs.Dispatch.{Dispatch, IsDispatch, zero as nil, place
 use Rattle.market_model.specs.declared.limits.Cause.{Cause}
 use Rattle.market_model.specs.declared.limits.Cause.TheVariants.{Base, Branch, UnitOutage}
 use Rattle.market_model.specs.declared.limits.Row.{Row}
-use Rattle.market_model.specs.LimitRows.{rows, limit, is_soft, loses, lost_output, lost_unit, penalty, picked_up, pickup_factor, most_excess, most_flow, row_factor, row_offset, row_pickup, unit_factor, flow}
+use Rattle.market_model.specs.LimitRows.{rows, limit, is_soft, loses_unit, lost_output, lost_unit, penalty, picked_up, pickup_factor, most_excess, most_flow, row_factor, row_offset, row_pickup, unit_factor, flow}
 use Rattle.market_model.specs.Market.{IsMarket}
 use Rattle.market_model.specs.Optimality.{FeasibleFor, Taken, block_value, value_terms, penalty_terms, welfare_for}
 use Rattle.market_model.specs.Reserves.{offer_places, reserve, reserve_cost_terms, reserve_need, offer_price, reserve_units, room, room_used}
@@ -57,7 +57,7 @@ output-by_empty m x u =
 -- what is picked up of it: of each block of the lost unit what it raises, by the pickup factor
 picked_up-by_blocks : (m : Parts) (x : Dispatch) (l : ℕ) (c : Cause) → picked_up m (lost_output m x) (record { line = l; cause = c })
     ≡ picked_up m (lost_output m (empty m)) (record { line = l; cause = c })
-    +ℚ sum_by (λ j. kept (loses m (block_at m j).unit c) (row_pickup m l c) *ℚ raised_by m x j) (places (length m.blocks))
+    +ℚ sum_by (λ j. kept (loses_unit m (block_at m j).unit c) (row_pickup m l c) *ℚ raised_by m x j) (places (length m.blocks))
 picked_up-by_blocks m x l c = by c
   where
     none : nil ≡ nil +ℚ sum_by (λ j. nil *ℚ raised_by m x j) (places (length m.blocks))
@@ -78,7 +78,7 @@ picked_up-by_blocks m x l c = by c
 
     by : (c : Cause) → picked_up m (lost_output m x) (record { line = l; cause = c })
         ≡ picked_up m (lost_output m (empty m)) (record { line = l; cause = c })
-        +ℚ sum_by (λ j. kept (loses m (block_at m j).unit c) (row_pickup m l c) *ℚ raised_by m x j) (places (length m.blocks))
+        +ℚ sum_by (λ j. kept (loses_unit m (block_at m j).unit c) (row_pickup m l c) *ℚ raised_by m x j) (places (length m.blocks))
     by Base = none
     by (Branch k) = none
     by (UnitOutage k) =
@@ -106,7 +106,7 @@ flow-by_blocks m market x r =
     let a : ℕ → Fraction = row_factor m r in
     let at_bus : ℕ → Fraction = λ i. sum_by (raised_by m x) (filter (λ j. block_bus m j == i) blocks) in
     let start : Fraction = sum_by (λ i. a i *ℚ injection m (empty m) i) buses in
-    let taken : ℕ → Fraction = λ j. kept (loses m (block_at m j).unit r.cause) (row_pickup m r.line r.cause) in
+    let taken : ℕ → Fraction = λ j. kept (loses_unit m (block_at m j).unit r.cause) (row_pickup m r.line r.cause) in
     let by_bus : Fraction = sum_by (λ j. a (block_bus m j) *ℚ raised_by m x j) blocks in
     let by_loss : Fraction = sum_by (λ j. taken j *ℚ raised_by m x j) blocks in
     let picked : Fraction = picked_up m (lost_output m (empty m)) r in

@@ -34,7 +34,7 @@ use Rattle.limit_rows.proofs.ApartLemmas.{names_apart}
 use Rattle.market_model.specs.declared.limits.Cause.{Cause}
 use Rattle.market_model.specs.declared.limits.Row.{Row}
 use Rattle.market_model.specs.declared.limits.Cause.TheVariants.{Base, Branch, UnitOutage}
-use Rattle.market_model.specs.LimitRows.{IsCauseOf, carried, rows, loses, lost_output, lost_unit, most_flow, picked_up_terms, pickup_factor, pickup_terms, pickups_of, row_pickup, shift_factor, share_value, taker_terms, line_offset, line_terms, line_flow, flow_terms, terms_under, row_factor, factor_terms, flow}
+use Rattle.market_model.specs.LimitRows.{IsCauseOf, carried, rows, loses_unit, lost_output, lost_unit, most_flow, picked_up_terms, pickup_factor, pickup_terms, pickups_of, row_pickup, shift_factor, share_value, taker_terms, line_offset, line_terms, line_flow, flow_terms, terms_under, row_factor, factor_terms, flow}
 use Rattle.market_model.specs.Market.{IsMarket, IsPickup}
 use Rattle.market_model.specs.NamedSums.{SameSize, term_at, IsNextTerm, IsSumStep, IsRefusedIn, IsRefusal}
 use Rattle.market_model.specs.Optimality.{Taken, net_shadow_price, up_of, down_of, bus_price, own_terms, unit_price, room_price, room_price_in, worth_terms, energy_worth, reserve_worth_terms, reserve_worth, welfare_terms}
@@ -424,8 +424,8 @@ module _ (m : Parts) (taken : List Row) (g : Taken) (reached : Growth m taken g.
     prices_scaled terms (price_of_bus i same lt part) = bus_prices_scaled i lt terms part
     prices_scaled terms (price_of_unit same (own_price_of_unit u lt)) = (
       tt,
-      scaled_map kind (λ r. Product (neg_ℚ (net_shadow_price m d r)) (row_pickup m r.line r.cause)) (filter (λ r. loses m u r.cause) (rows m))
-          (λ r k. let c = (Contains-from_filter (λ s. loses m u s.cause) (rows m) r k).0 in inr (opposite_net r c, row_pickup_number r c)),
+      scaled_map kind (λ r. Product (neg_ℚ (net_shadow_price m d r)) (row_pickup m r.line r.cause)) (filter (λ r. loses_unit m u r.cause) (rows m))
+          (λ r k. let c = (Contains-from_filter (λ s. loses_unit m u s.cause) (rows m) r k).0 in inr (opposite_net r c, row_pickup_number r c)),
     )
 
   -- ---- the bound of duals that show that nothing is feasible
