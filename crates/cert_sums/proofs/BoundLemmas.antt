@@ -32,7 +32,7 @@ use Rattle.cert_sums.specs.Named.{PricedRow, priced_by}
 use Rattle.cert_sums.specs.Pairs.{IsFarkasPair, in_flow as flow_pair, in_bound as bound_pair, in_pickup, in_price, in_worth, of_limit_less, of_limit_more, of_most}
 use Rattle.market_model.specs.SumTables.{IsRefusedAmong, InjectionSum, balance_from_bus, balance_of_all, limited_line, limited_row, limited_unit, flow_in_balance, flow_in_limits, farkas_bound_of_all}
 use Rattle.market_model.specs.PutIn.{AreCarried, AreInjections}
-use Rattle.cert_sums.specs.Refusals.{IsAboveRefusal, IsBelowRefusal, IsCarriedRefusal, IsLimitRefusal, IsWorthRefusal, in_most, in_flow, in_above, in_below}
+use Rattle.cert_sums.specs.Refusals.{IsAboveRefusal, IsBelowRefusal, IsCarriedRefusal, IsRowShareRefusal, IsWorthRefusal, in_most, in_flow, in_above, in_below}
 use Rattle.cert_sums.proofs.BlockFlows.{carried_of_blocks, carried_refusal, injection_refusal, injections_by_blocks, injections_of_blocks}
 use Rattle.cert_sums.proofs.NamedLemmas.{IsNamedAt, filter_at, is_named_row, is_row}
 
@@ -60,10 +60,10 @@ left_sum m d e sum above more l f priced is flows first second =
 
 -- a refusal on either side of a row, by the most that its flow may be and the flow that were read
 module _ (m : Parts) (x : Dispatch) (e : PricedRow) (sum l f : Fraction) (bound : ℕ) (p : Passed Fraction) (is : l ≡ most_flow m e.row) (flows : f ≡ flow m x e.row) where
-  pub above_side : IsAboveRefusal sum e.up l f bound p → IsLimitRefusal m x e sum bound p
+  pub above_side : IsAboveRefusal sum e.up l f bound p → IsRowShareRefusal m x e sum bound p
   above_side h = in_above (subst₂ (λ a b. IsAboveRefusal sum e.up a b bound p) is flows h)
 
-  pub below_side : (above : Fraction) → above ≡ sum +ℚ e.up *ℚ (l -ℚ f) → IsBelowRefusal above e.down l f bound p → IsLimitRefusal m x e sum bound p
+  pub below_side : (above : Fraction) → above ≡ sum +ℚ e.up *ℚ (l -ℚ f) → IsBelowRefusal above e.down l f bound p → IsRowShareRefusal m x e sum bound p
   below_side above first h =
       in_below (subst₂ (λ a b. IsBelowRefusal (sum +ℚ e.up *ℚ (a -ℚ b)) e.down a b bound p) is flows (subst (λ t. IsBelowRefusal t e.down l f bound p) first h))
 
@@ -166,7 +166,7 @@ module _ (m : Parts) (d : Duals Fraction) where
       below_refused (inr c) = in_bound
           (share_at (farkas_terms m d) (s.front ++ above ∷ []) s.rest below second bound p (sum +ℚ e.up *ℚ room_above) e.down room_below (ap (λ u. Product u room_below) (sym h.down)) with_above c)
 
-      pub limit_refused : IsLimitRefusal m (empty m) e sum bound p → IsFarkasPair m d bound p
+      pub limit_refused : IsRowShareRefusal m (empty m) e sum bound p → IsFarkasPair m d bound p
       limit_refused (in_flow (inl (terms, part, c))) = flow_pair (terms, flow_in_limits terms (limited_row e.row terms (is_row m d k e h) part), c)
       limit_refused (in_flow (inr c)) = in_pickup e.row (is_named_row m d k e h) c
       limit_refused (in_most c) = of_most e.row (is_named_row m d k e h) c
