@@ -33,7 +33,7 @@ use Rattle.market_model.proofs.MorePlaces.{sum_by_more, total-filter_more, total
 use Rattle.market_model.proofs.RoomLemmas.{offers-listed}
 use Rattle.market_model.proofs.SumSteps.{minus_at, product_at, share_at, terms_at, tested_at, behind, in_front}
 use Rattle.limit_rows.proofs.DualLemmas.{IsRowOfDual, energy_left-by_named, limit_unnamed, sum_named}
-use Rattle.clear_loop.specs.Bounding.{IsBoundRefusal, IsLimitRefusal, IsSideRefusal, in_bound, in_factor, in_flow, in_lower, in_most, in_price, in_row_flow, in_row_most, in_upper, in_worth, of_lower, of_most, of_upper}
+use Rattle.clear_loop.specs.Bounding.{IsBoundRefusal, IsRowStepRefusal, IsSideRefusal, in_bound, in_factor, in_flow, in_lower, in_most, in_price, in_row_flow, in_row_most, in_upper, in_worth, of_lower, of_most, of_upper}
 
 -- ---- prices of 0 make nothing
 pub nothing_made : (s price room : Fraction) → price ≡ whole (pos 0) → s ≡ s +ℚ price *ℚ room
@@ -49,7 +49,7 @@ none_above s w room t is some = nothing_made s (part_above w) room (sym (ap (λ 
 
 -- the lower side, by the flow turned round
 pub lower_side : (m : Parts) (r : Row) (up down sum above l f g : Fraction) (bound : ℕ) (p : Passed Fraction) → above ≡ sum +ℚ up *ℚ (l -ℚ f) → l ≡ most_flow m r → f ≡ flow m (empty m) r → g ≡ neg_ℚ f
-    → IsSideRefusal above down l g bound p → IsLimitRefusal m r up down sum bound p
+    → IsSideRefusal above down l g bound p → IsRowStepRefusal m r up down sum bound p
 lower_side m r up down sum above l f g bound p first is flows turned h =
     in_lower
     (subst₂ (λ a b. IsSideRefusal (sum +ℚ up *ℚ (a -ℚ b)) down a (neg_ℚ b) bound p) is flows (subst₂ (λ a b. IsSideRefusal a down l b bound p) first turned h))
@@ -212,7 +212,7 @@ module _ (m : Parts) (d : Duals Fraction) where
       lower_refused (inr c) = added
           (share_at (farkas_terms m d) (front ++ above ∷ []) rest below second bound p (sum +ℚ e.up *ℚ room_above) e.down (most_flow m r -ℚ neg_ℚ (flow m (empty m) r)) (ap₂ Product h.down (sym turned_back)) with_above c)
 
-      pub limit_refused : IsLimitRefusal m r e.up e.down sum bound p → IsBoundRefusal m d bound p
+      pub limit_refused : IsRowStepRefusal m r e.up e.down sum bound p → IsBoundRefusal m d bound p
       limit_refused (in_row_flow (inl (terms, part, c))) = in_flow (terms, flow_in_limits terms (limited_row r terms h.row part), c)
       limit_refused (in_row_flow (inr (terms, part, c))) = in_factor (r, named_here, (terms, factor_of_pickup terms part, c))
       limit_refused (in_row_most c) = in_most r named_here (of_most c)

@@ -34,8 +34,8 @@ abbrev pub IsSideRefusal : Fraction → Fraction → Fraction → Fraction → �
 IsSideRefusal sum price most flow bound p = IsRefusal Minus most flow bound p ⊎ IsShareRefusal sum price (most -ℚ flow) bound p
 
 -- of a row: in its flow, for the most that this may be, or on either side at these prices
-pub data IsLimitRefusal (m : Parts) (r : Row) (up down sum : Fraction) (bound : ℕ) (p : Passed Fraction) : Type 0 where
-  in_row_flow : IsFlowRefusal m (carried m (empty m)) r bound p → IsLimitRefusal m r up down sum bound p
-  in_row_most : IsRefusal Plus (limit m r) (most_excess m r) bound p → IsLimitRefusal m r up down sum bound p
-  in_upper : IsSideRefusal sum up (most_flow m r) (flow m (empty m) r) bound p → IsLimitRefusal m r up down sum bound p
-  in_lower : IsSideRefusal (sum +ℚ up *ℚ (most_flow m r -ℚ flow m (empty m) r)) down (most_flow m r) (neg_ℚ (flow m (empty m) r)) bound p → IsLimitRefusal m r up down sum bound p
+pub data IsRowStepRefusal (m : Parts) (r : Row) (up down sum : Fraction) (bound : ℕ) (p : Passed Fraction) : Type 0 where
+  in_row_flow : IsFlowRefusal m (carried m (empty m)) r bound p → IsRowStepRefusal m r up down sum bound p
+  in_row_most : IsRefusal Plus (limit m r) (most_excess m r) bound p → IsRowStepRefusal m r up down sum bound p
+  in_upper : IsSideRefusal sum up (most_flow m r) (flow m (empty m) r) bound p → IsRowStepRefusal m r up down sum bound p
+  in_lower : IsSideRefusal (sum +ℚ up *ℚ (most_flow m r -ℚ flow m (empty m) r)) down (most_flow m r) (neg_ℚ (flow m (empty m) r)) bound p → IsRowStepRefusal m r up down sum bound p

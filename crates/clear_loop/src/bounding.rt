@@ -12,7 +12,7 @@ ghost use Rattle.market_model.specs.Optimality.{ProperDuals, down_of, unit_price
 ghost use Rattle.market_model.specs.Stops.{StopsBy};
 ghost use Rattle.market_model.specs.Valued.{duals_at, passed_at};
 ghost use Rattle.limit_screen.specs.Flows.{flows_at};
-ghost use Rattle.clear_loop.specs.Bounding.{IsBoundRefusal, IsLimitRefusal, IsSideRefusal};
+ghost use Rattle.clear_loop.specs.Bounding.{IsBoundRefusal, IsRowStepRefusal, IsSideRefusal};
 
 use crate::bounding_reserve::{with_need, with_offers, with_rooms};
 use crate::worths::{own_prices, with_blocks};
@@ -45,7 +45,7 @@ fn with_limit<N: Exact>(
     requires row { Contains (rows market.now) row }
     requires flows { map N.value flows.now ≡ flows_at market.now (empty market.now) }
     ensures sum { (d : DualsOf Fraction) → up_of market.now d row ≡ N.value dual.now.up → down_of market.now d row ≡ N.value dual.now.down → IfOk result (λ more. N.value more ≡ N.value sum +ℚ total (limit_terms market.now d row)) }
-    ensures cause { IfErr result (λ passed. IsLimitRefusal market.now row (N.value dual.now.up) (N.value dual.now.down) (N.value sum) N.bound (passed_at N.value passed)) }
+    ensures cause { IfErr result (λ passed. IsRowStepRefusal market.now row (N.value dual.now.up) (N.value dual.now.down) (N.value sum) N.bound (passed_at N.value passed)) }
 {
     let _lines = market.lines();
     let flow = row_flow(market, carried_flows(market, flows), row)?;
