@@ -34,15 +34,15 @@ pub(crate) struct UnitPickup {
 
 /// The share in the third cell of a record.
 #[tactic(auto, unfolding(crate::specs::PickupRecords::share_cell))]
-fn share_of(table: &Table, row: usize) -> Result<i64, UnitOutageFault>
-    requires { (row < length table.now) × (row + 2 < 2 ^ 64) }
+fn share_of(table: &Table, place: usize) -> Result<i64, UnitOutageFault>
+    requires { (place < length table.now) × (place + 2 < 2 ^ 64) }
     ensures size { IfOk result (λ share. unsigned_abs share ≤ most_share) }
-    ensures is { result ≡ share_cell (row + 2) (get_or table.now row []) }
+    ensures is { result ≡ share_cell (place + 2) (get_or table.now place []) }
 {
-    let share = table.number(row, 2, SHARE_PLACES)?;
+    let share = table.number(place, 2, SHARE_PLACES)?;
     if share.unsigned_abs() > MOST_SHARE {
         return Err(UnitOutageFault::Frame(FrameFault::Cell {
-            line: row + 2,
+            line: place + 2,
             col: 3,
             why: Why::Bounds,
         }));
@@ -52,14 +52,14 @@ fn share_of(table: &Table, row: usize) -> Result<i64, UnitOutageFault>
 
 /// The numbers of a record, from left to right.
 #[tactic(auto, unfolding(crate::specs::PickupRecords::record_in))]
-fn record_of(table: &Table, row: usize) -> Result<TakerRecord, UnitOutageFault>
-    requires { (row < length table.now) × (row + 2 < 2 ^ 64) }
+fn record_of(table: &Table, place: usize) -> Result<TakerRecord, UnitOutageFault>
+    requires { (place < length table.now) × (place + 2 < 2 ^ 64) }
     ensures size { IfOk result (λ numbers. unsigned_abs numbers.share ≤ most_share) }
-    ensures is { result ≡ record_in (row + 2) (get_or table.now row []) }
+    ensures is { result ≡ record_in (place + 2) (get_or table.now place []) }
 {
-    let unit = table.number(row, 0, 0)?;
-    let taker = table.number(row, 1, 0)?;
-    let share = share_of(table, row)?;
+    let unit = table.number(place, 0, 0)?;
+    let taker = table.number(place, 1, 0)?;
+    let share = share_of(table, place)?;
     Ok(TakerRecord { unit, taker, share })
 }
 
@@ -152,21 +152,21 @@ fn unit_pickup_of(
     network: &Network,
     done: &[UnitPickup],
     table: &Table,
-    row: usize,
+    place: usize,
 ) -> Result<UnitPickup, UnitOutageFault>
-    requires { (row < length table.now) × (row + 2 < 2 ^ 64) }
+    requires { (place < length table.now) × (place + 2 < 2 ^ 64) }
     ensures kept { IfOk result (IsUnitPickup (length network.now.units)) }
-    ensures is { result ≡ unit_pickup_in network.now done.now (row + 2) (get_or table.now row []) }
+    ensures is { result ≡ unit_pickup_in network.now done.now (place + 2) (get_or table.now place []) }
 {
-    let numbers = record_of(table, row)?;
-    check_unit_pickup(network, numbers, row + 2)?;
+    let numbers = record_of(table, place)?;
+    check_unit_pickup(network, numbers, place + 2)?;
     let unit_pickup = UnitPickup {
         lost: place_named(network, numbers.unit),
         taker: place_named(network, numbers.taker),
         share: numbers.share,
     };
     if stands(done, unit_pickup) {
-        return Err(UnitOutageFault::Twice { line: row + 2 });
+        return Err(UnitOutageFault::Twice { line: place + 2 });
     }
     Ok(unit_pickup)
 }
@@ -183,8 +183,8 @@ pub(crate) fn unit_pickups_of(
     ensures err { IfErr result (λ fault. fault ≢ UnitOutageFault.Memory → read_rows (unit_pickup_in network.now) [] 2 table.now ≡ Err fault) }
 {
     let mut unit_pickups = List::new(alloc);
-    for row in 0..table.len() {
-        let unit_pickup = unit_pickup_of(network, unit_pickups.slice(), table, row)?;
+    for place in 0..table.len() {
+        let unit_pickup = unit_pickup_of(network, unit_pickups.slice(), table, place)?;
         unit_pickups.push(unit_pickup)?;
     }
     Ok(unit_pickups)
