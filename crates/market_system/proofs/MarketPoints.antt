@@ -32,6 +32,7 @@ use Rattle.market_model.proofs.EnergyAlone.{no_need, nothing_reserved}
 use Rattle.market_model.proofs.Excesses.{penalty_least}
 use Rattle.market_model.proofs.MarketSums.{block_bus-in, fixed_part, injection-by_empty, output-by_parts, balance-by_empty, raised_by-empty}
 use Rattle.market_model.proofs.PlaceSums.{gather_times, places_all}
+use Rattle.market_model.proofs.RoomLemmas.{listed-inside}
 use Rattle.market_model.proofs.RowLaws.{along, law_of_the_flows, unit_factor-parts}
 use Rattle.market_system.specs.declared.variables.Variable.{Variable}
 use Rattle.market_system.specs.declared.variables.Variable.TheVariants.{Block, Balance, Limit, Over, Under, Offer, Need, Room}
@@ -39,7 +40,7 @@ use Rattle.market_system.specs.MarketSystem.{balance_name, row_name, over_name, 
 use Rattle.market_system.specs.SolvedLaws.{AreRows, AreTaken, PointsAreDispatches}
 use Rattle.market_system.proofs.RowSums.{sum_by-in_order}
 use Rattle.market_system.proofs.SoftRows.{excess-parts, kept_between, kept_where, kept_within, most_excess_least, part_most, spread_over, spread_under, spread_within}
-use Rattle.market_system.proofs.RoomBounds.{reserve-by_offers, reserve-at_most_kept, reserve_unit-in, room_used-by_columns, room_used-at_least}
+use Rattle.market_system.proofs.RoomBounds.{reserve-by_offers, reserve-at_most_kept, room_used-by_columns, room_used-at_least}
 use Rattle.market_system.proofs.RowOrder.{RowsApart, AreInOrder, in_order-in, in_order-from, rooms_in_order-in, rooms_in_order-from}
 use Rattle.market_system.proofs.SystemLaws.{signed-times}
 use Rattle.market_system.proofs.VariableLaws.{row_listed, column_listed, excess_listed, balance_in as balance_among, limit_in, need_in as need_among, room_in as room_among, from_places, by_variable, variable_in, variable_at, soft, over_in, under_in, column_in, offer_in as offer_column, sum-variables, taken-in_order, is_system_over, coefficient-at, price-at, low-at, high-at, activity-balance, activity-limit, activity-need, activity-room, objective-at}
@@ -400,7 +401,7 @@ module _ (m : Parts) (apart : RowsApart m) (g : Taken) where
       point_low (Under r) (c, e) = subst₂ ◌≤ℚ◌ (sym (low-under r c e)) (sym (point-under x r c e)) (part_least (neg_ℚ (flow m x r) -ℚ limit m r)).0
       point_low (Offer n) h = subst₂ ◌≤ℚ◌ (sym (low-offer n h)) (sym (point-offer x n h)) (f.blocks.reserve_above n h)
       point_low Need e = subst₂ ◌≤ℚ◌ (sym (low-need e)) (sym (point-need x e)) f.need
-      point_low (Room u) c = subst₂ ◌≤ℚ◌ (sym (low-room u c)) (sym (point-room x u c)) (room_used-at_least m x f.blocks market u (reserve_unit-in m u (ordered.units u c)))
+      point_low (Room u) c = subst₂ ◌≤ℚ◌ (sym (low-room u c)) (sym (point-room x u c)) (room_used-at_least m x f.blocks market u (listed-inside m u (ordered.units u c)))
 
       point_high : (v : Variable) → IsVariableOf m over v → point_of x (name m v) ≤ℚ s.high (name m v)
       point_high (Block j) h = subst₂ ◌≤ℚ◌ (sym (point-block x j h)) (sym (high-block j h)) (f.blocks.within j h)
