@@ -32,7 +32,8 @@ use Rattle.market_model.proofs.FarkasParts.{farkas_terms-parts, need_refused as 
 use Rattle.market_model.proofs.MorePlaces.{sum_by_more, total-filter_more, total-places_more}
 use Rattle.market_model.proofs.RoomLemmas.{offers-listed}
 use Rattle.market_model.proofs.SumSteps.{minus_at, product_at, share_at, terms_at, tested_at, behind, in_front}
-use Rattle.limit_rows.proofs.DualLemmas.{IsRowOfDual, energy_left-by_named, limit_unnamed, sum_named}
+use Rattle.limit_rows.proofs.DualLemmas.{IsRowOfDual, sum_named}
+use Rattle.limit_rows.proofs.NamedLimits.{energy_left-by_named, limit_unnamed}
 use Rattle.clear_loop.specs.Bounding.{IsBoundRefusal, IsRowStepRefusal, IsSideRefusal, in_bound, in_factor, in_flow, in_lower, in_most, in_price, in_row_flow, in_row_most, in_upper, in_worth, of_lower, of_most, of_upper}
 
 -- ---- prices of 0 make nothing

@@ -1,14 +1,12 @@
 -- The rows that duals name, and sums over them.
 use Rattle.std.specs.Prelude.{◌≡◌, ◌≢◌, ◌||◌, ℕ, ◌<◌, pos, Bool, true, false, cond, List, [], ◌∷◌, ◌++◌, map, filter, length, take, AllPairs, Contains, if◌then◌else◌, refl}
-use Rattle.std.proofs.Common.{zero, suc, arith, ap, ap₂, sym, subst, ◌∙◌, get_or}
+use Rattle.std.proofs.Common.{zero, suc, arith, ap, sym, subst, ◌∙◌, get_or}
 use Rattle.std.proofs.lemmas.Bool.{eq-eqb}
 use Rattle.std.proofs.lemmas.List.{get_or-map, map-append}
 use Rattle.std.proofs.lemmas.List.Kept.{AllPairs-filter}
-use Rattle.fraction_theory.specs.Fraction.{Fraction, whole, ◌+ℚ◌, ◌-ℚ◌, ◌*ℚ◌}
+use Rattle.fraction_theory.specs.Fraction.{Fraction, whole}
 use Rattle.fraction_theory.specs.Sums.{sum_by, Term, term_value, total}
-use Rattle.fraction_theory.proofs.FieldLaws.{ring_ℚ}
 use Rattle.fraction_theory.proofs.ListSums.{kept, sum_by-filter, Contains-from_filter}
-use Rattle.fraction_theory.proofs.Ring.{by_ring, at, pneg, pnil, ◌⊕◌, ◌⊗◌}
 use Rattle.fraction_theory.proofs.SumLaws.{sum_by-same, total-map}
 use Rattle.market_model.specs.declared.answered.Dual.{Dual}
 use Rattle.market_model.specs.declared.answered.Duals.{Duals}
@@ -16,14 +14,11 @@ use Rattle.market_model.specs.declared.answered.RowId.{RowId}
 use Rattle.market_model.specs.declared.participants.Parts.{Parts}
 use Rattle.market_model.specs.declared.limits.Row.{Row}
 use Rattle.market_model.specs.declared.limits.Cause.TheVariants.{Base}
-use Rattle.market_model.specs.Dispatch.{balance, empty}
-use Rattle.market_model.specs.Infeasibility.{energy_left_terms, limit_terms}
-use Rattle.market_model.specs.LimitRows.{flow, most_flow, rows, row_id}
+use Rattle.market_model.specs.LimitRows.{rows, row_id}
 use Rattle.market_model.specs.Market.{IsMarket}
 use Rattle.market_model.specs.Optimality.{IsOneSided, ProperDuals, same_id, up_in, down_in, up_of, down_of, names_row, named_rows}
 use Rattle.market_model.specs.Valued.{dual_at, duals_at}
 use Rattle.market_model.proofs.ChangeLemmas.{same_default}
-use Rattle.market_model.proofs.FarkasLaw.{total-flat_map}
 use Rattle.limit_rows.proofs.ApartLemmas.{names_apart}
 use Rattle.limit_rows.proofs.GroupLemmas.{length-map}
 use Rattle.limit_rows.proofs.PlaceLemmas.{same_name}
@@ -117,20 +112,6 @@ module _ (m : Parts) (d : Duals Fraction) where
         ap (map t) s.2 ∙ map-append t s.0 (get_or (named_rows m d) k r ∷ s.1) ∙ ap (λ (x : Row). map t s.0 ++ t x ∷ map t s.1) (sym at),
         total-map t s.0 ∙ sum_named (λ x. term_value (t x)) s.0 none ∙ ap (sum_by (λ x. term_value (t x))) s.3,
       )
-
-  -- ---- what flows leave where nothing is accepted
-  abbrev left : Row → Fraction
-  left r = total (limit_terms m d r)
-
-  -- the flow of a row without duals leaves nothing that counts
-  pub limit_unnamed : (r : Row) → names_row d.limits (row_id m r) ≡ false → left r ≡ whole (pos 0)
-  limit_unnamed r h =
-      ap₂ (λ u v. u *ℚ (most_flow m r -ℚ flow m (empty m) r) +ℚ (v *ℚ (most_flow m r +ℚ flow m (empty m) r) +ℚ whole (pos 0))) (up_unnamed d.limits (row_id m r) h) (down_unnamed d.limits (row_id m r) h)
-      ∙ by_ring ring_ℚ (most_flow m r ∷ flow m (empty m) r ∷ []) (pnil ⊗ (at 0 ⊕ pneg (at 1)) ⊕ (pnil ⊗ (at 0 ⊕ at 1) ⊕ pnil)) pnil refl
-
-  -- so the rows with duals make it all
-  pub energy_left-by_named : total (energy_left_terms m d) ≡ d.energy *ℚ balance m (empty m) +ℚ sum_by left (named_rows m d)
-  energy_left-by_named = ap (λ t. d.energy *ℚ balance m (empty m) +ℚ t) (total-flat_map (limit_terms m d) (rows m) ∙ sum_named left (rows m) limit_unnamed)
 
 -- ---- the row of a dual
 -- a row of the market with the prices of a dual, at its place
