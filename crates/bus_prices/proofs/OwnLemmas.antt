@@ -19,7 +19,7 @@ use Rattle.market_model.specs.declared.limits.Cause.TheVariants.{Base, Branch, U
 use Rattle.market_model.specs.declared.limits.Row.{Row}
 use Rattle.market_model.specs.declared.participants.Parts.{Parts}
 use Rattle.market_model.specs.Dispatch.{places, unit_at}
-use Rattle.market_model.specs.LimitRows.{IsCauseOf, loses, lost_unit, pickup_factor, row_id, row_pickup, rows, unit_of}
+use Rattle.market_model.specs.LimitRows.{IsCauseOf, loses_unit, lost_unit, pickup_factor, row_id, row_pickup, rows, unit_of}
 use Rattle.market_model.specs.Market.{IsMarket}
 use Rattle.market_model.specs.NamedSums.{IsRefusedIn, IsShareRefusal}
 use Rattle.market_model.specs.Optimality.{names_row, named_rows, net_shadow_price, own_price, own_terms}
@@ -57,7 +57,7 @@ own_read value f n i out x count inside all is = put_read value out i x (Prim.om
 module _ (m : Parts) (r : Row) (price : Fraction) where
   module _ (k : ℕ) (is : r.cause ≡ UnitOutage k) where
     added_at : (u : ℕ) → added_to_own m r price u ≡ (if lost_unit m k == u then price *ℚ pickup_factor m r.line k else whole (pos 0))
-    added_at u = ap (λ (cause : Cause). if loses m u cause then price *ℚ row_pickup m r.line cause else whole (pos 0)) is
+    added_at u = ap (λ (cause : Cause). if loses_unit m u cause then price *ℚ row_pickup m r.line cause else whole (pos 0)) is
 
     pub added_here : (u : ℕ) → u ≡ lost_unit m k → added_to_own m r price u ≡ price *ℚ pickup_factor m r.line k
     added_here u e = added_at u ∙ ap (λ (b : Bool). if b then price *ℚ pickup_factor m r.line k else whole (pos 0)) (eq-eqb (lost_unit m k) u (sym e))
@@ -66,23 +66,23 @@ module _ (m : Parts) (r : Row) (price : Fraction) where
     added_elsewhere u v e other =
         added_at u ∙ ap (λ (b : Bool). if b then price *ℚ pickup_factor m r.line k else whole (pos 0)) (ne_eqb (lost_unit m k) u (λ same. other (sym (e ∙ same))))
 
-    pub loses_here : (u : ℕ) → u ≡ lost_unit m k → loses m u r.cause ≡ true
-    loses_here u e = ap (loses m u) is ∙ eq-eqb (lost_unit m k) u (sym e)
+    pub loses_here : (u : ℕ) → u ≡ lost_unit m k → loses_unit m u r.cause ≡ true
+    loses_here u e = ap (loses_unit m u) is ∙ eq-eqb (lost_unit m k) u (sym e)
 
     pub pickup_here : row_pickup m r.line r.cause ≡ pickup_factor m r.line k
     pickup_here = ap (row_pickup m r.line) is
 
-  pub none_added : (u : ℕ) → loses m u r.cause ≡ false → added_to_own m r price u ≡ whole (pos 0)
+  pub none_added : (u : ℕ) → loses_unit m u r.cause ≡ false → added_to_own m r price u ≡ whole (pos 0)
   none_added u e = ap (λ (b : Bool). if b then price *ℚ row_pickup m r.line r.cause else whole (pos 0)) e
 
 -- a cause that is no loss of a unit loses none
-pub no_loss : (m : Parts) (cause : Cause) → ((k : ℕ) → cause ≢ UnitOutage k) → (u : ℕ) → loses m u cause ≡ false
+pub no_loss : (m : Parts) (cause : Cause) → ((k : ℕ) → cause ≢ UnitOutage k) → (u : ℕ) → loses_unit m u cause ≡ false
 no_loss m Base none u = refl
 no_loss m (Branch lost) none u = refl
 no_loss m (UnitOutage k) none u = absurd (none k refl)
 
 -- a cause of which the name tells no unit loses none
-pub no_unit : (m : Parts) → IsMarket m → (cause : Cause) → IsCauseOf m cause → unit_of m cause ≡ 0 → (u : ℕ) → loses m u cause ≡ false
+pub no_unit : (m : Parts) → IsMarket m → (cause : Cause) → IsCauseOf m cause → unit_of m cause ≡ 0 → (u : ℕ) → loses_unit m u cause ≡ false
 no_unit m market Base among e u = refl
 no_unit m market (Branch lost) among e u = refl
 no_unit m market (UnitOutage k) among e u =
@@ -112,11 +112,11 @@ module _ (m : Parts) (d : Duals Fraction) (price : ℕ → Fraction) (u : ℕ) w
   taken_term r = Product (neg_ℚ (net_shadow_price m d r)) (row_pickup m r.line r.cause)
 
   abbrev lost_in : Row → Bool
-  lost_in r = loses m u r.cause
+  lost_in r = loses_unit m u r.cause
 
   -- what a row adds to it
   abbrev share : Row → Fraction
-  share r = kept (loses m u r.cause) (term_value (taken_term r))
+  share r = kept (loses_unit m u r.cause) (term_value (taken_term r))
 
   unnamed : (r : Row) → names_row d.limits (row_id m r) ≡ false → share r ≡ whole (pos 0)
   unnamed r h =
@@ -144,7 +144,7 @@ module _ (m : Parts) (d : Duals Fraction) (price : ℕ → Fraction) (u : ℕ) w
         (ap (λ (s : Row). sum_by share (take k (named_rows m d)) +ℚ share s) h.at ∙ sym (sum_by_more share (named_rows m d) k r h.inside))
 
     -- after no loss of the unit nothing is added
-    pub own_same : loses m u r.cause ≡ false → own_to k ≡ own_to (k + 1)
+    pub own_same : loses_unit m u r.cause ≡ false → own_to k ≡ own_to (k + 1)
     own_same none = sym (+ℚ_nil (own_to k)) ∙ ap (λ t. own_to k +ℚ t) (sym (ap (λ (b : Bool). kept b (term_value (taken_term r))) none)) ∙ next_share
 
     module _ (s : Row) (net : Fraction) (net_is : net ≡ neg_ℚ (e.up -ℚ e.down)) (same : s ≡ r) where
@@ -154,7 +154,7 @@ module _ (m : Parts) (d : Duals Fraction) (price : ℕ → Fraction) (u : ℕ) w
       pub own_step : own_to k +ℚ added_to_own m s net u ≡ own_to (k + 1)
       own_step = ap₂ (λ (t : Row) v. own_to k +ℚ added_to_own m t v u) same net_price ∙ next_share
 
-      pub own_refused : (bound : ℕ) (p : Passed Fraction) → loses m u s.cause ≡ true → IsShareRefusal (own_to k) net (row_pickup m s.line s.cause) bound p → IsRefusedIn (own_terms m d price u) bound p
+      pub own_refused : (bound : ℕ) (p : Passed Fraction) → loses_unit m u s.cause ≡ true → IsShareRefusal (own_to k) net (row_pickup m s.line s.cause) bound p → IsRefusedIn (own_terms m d price u) bound p
       own_refused bound p lost why =
           share_at (own_terms m d price u) front_terms (map taken_term (filter lost_in around.1)) (taken_term r) split bound p (own_to k) net (row_pickup m s.line s.cause)
           (ap₂ (λ v (t : Row). Product v (row_pickup m t.line t.cause)) (sym net_price) (sym same)) sum_is why
@@ -189,7 +189,7 @@ module _ (m : Parts) (d : Duals Fraction) (price : ℕ → Fraction) (u : ℕ) w
 -- what a row adds is refused at the unit that it loses, or in its pickup factor
 pub share_refused : (m : Parts) (d : Duals Fraction) (price : ℕ → Fraction) (k : ℕ) (e : Dual Fraction) (r s : Row) (net : Fraction) (bound : ℕ) (p : Passed Fraction) → IsRowOfDual m d k e r
     → net ≡ neg_ℚ (e.up -ℚ e.down) → s ≡ r
-    → ((u : ℕ) × (u < length m.units) × (loses m u s.cause ≡ true) × IsShareRefusal (own_to m d price u k) net (row_pickup m s.line s.cause) bound p) ⊎ IsRefusedAmong (PickupSum m s) bound p
+    → ((u : ℕ) × (u < length m.units) × (loses_unit m u s.cause ≡ true) × IsShareRefusal (own_to m d price u k) net (row_pickup m s.line s.cause) bound p) ⊎ IsRefusedAmong (PickupSum m s) bound p
     → IsRefusedAmong (OwnPriceSum m d price) bound p ⊎ IsPickupRefusal m (named_rows m d) bound p
 share_refused m d price k e r s net bound p h is same (inl (u, inside, lost, why)) =
     inl (own_terms m d price u, own_price_of_unit u inside, own_refused m d price u k e r h s net is same bound p lost why)

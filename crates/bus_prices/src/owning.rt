@@ -3,7 +3,7 @@
 ghost use Rattle.std.specs.Prelude.{◌≡◌, ◌⊎◌, ◌<◌, ℕ, true, length, map, IfOk, IfErr};
 ghost use Rattle.fraction_theory.specs.Fraction.{Fraction, ◌+ℚ◌};
 ghost use Rattle.market_model.specs.Dispatch.{places, unit_at};
-ghost use Rattle.market_model.specs.LimitRows.{loses, row_pickup, IsCauseOf};
+ghost use Rattle.market_model.specs.LimitRows.{loses_unit, row_pickup, IsCauseOf};
 ghost use Rattle.market_model.specs.NamedSums.{IsShareRefusal};
 ghost use Rattle.market_model.specs.Optimality.{named_rows, own_price, ProperDuals};
 ghost use Rattle.market_model.specs.SumTables.{IsPickupRefusal, IsRefusedAmong, OwnPriceSum, PickupSum};
@@ -38,7 +38,7 @@ fn add_pickup<N: Exact>(market: &Market, row: Row, price: N, out: &mut [N]) -> R
     ensures own { (before : ℕ → Fraction) → map N.value out.old ≡ map before (places (length market.now.units))
         → IfOk result (λ _. map N.value out.new ≡ map (λ unit. before unit +ℚ added_to_own market.now row (N.value price) unit) (places (length market.now.units))) }
     ensures cause { (before : ℕ → Fraction) → map N.value out.old ≡ map before (places (length market.now.units))
-        → IfErr result (λ passed. ((unit : ℕ) × (unit < length market.now.units) × (loses market.now unit row.cause ≡ true) × IsShareRefusal (before unit) (N.value price) (row_pickup market.now row.line row.cause) N.bound (passed_at N.value passed))
+        → IfErr result (λ passed. ((unit : ℕ) × (unit < length market.now.units) × (loses_unit market.now unit row.cause ≡ true) × IsShareRefusal (before unit) (N.value price) (row_pickup market.now row.line row.cause) N.bound (passed_at N.value passed))
         ⊎ IsRefusedAmong (PickupSum market.now row) N.bound (passed_at N.value passed)) }
 {
     let Cause::UnitOutage(outage) = row.cause else {

@@ -1,5 +1,5 @@
 -- Steps of the Farkas bound: row by row, and block by block.
-use Rattle.std.specs.Prelude.{◌≡◌, ◌⊎◌, ℕ, ◌+◌, ◌<◌, ◌≤◌, pos, false, List, [], ◌∷◌, ◌++◌, map, length, take, replicate, refl}
+use Rattle.std.specs.Prelude.{◌≡◌, ◌⊎◌, ℕ, ◌+◌, ◌<◌, ◌≤◌, pos, List, [], ◌∷◌, ◌++◌, map, length, take, replicate, refl}
 use Rattle.std.specs.List.{flat_map}
 use Rattle.std.proofs.Common.{inl, inr, ap, ap₂, sym, subst, subst₂, ◌∙◌, append_assoc}
 use Rattle.std.proofs.lemmas.List.{take_all}
@@ -10,29 +10,30 @@ use Rattle.fraction_theory.specs.declared.Sign.{Sign}
 use Rattle.fraction_theory.specs.declared.Sign.TheVariants.{Below, Zero}
 use Rattle.fraction_theory.specs.Sums.{sum_by, Term, Product, total}
 use Rattle.fraction_theory.proofs.FieldLaws.{ring_ℚ, +ℚ_nil, +ℚ_assoc}
-use Rattle.fraction_theory.proofs.Ring.{by_ring, at, padd, pmul, pneg, pnil}
+use Rattle.fraction_theory.proofs.Ring.{by_ring, at, padd, pmul, pnil}
 use Rattle.fraction_theory.proofs.SumLaws.{total-append}
 use Rattle.exact_fraction.specs.declared.Op.TheVariants.{Times}
 use Rattle.exact_fraction.specs.declared.Passed.{Passed}
 use Rattle.market_model.specs.declared.answered.Duals.{Duals}
 use Rattle.market_model.specs.declared.participants.Parts.{Parts}
 use Rattle.market_model.specs.Dispatch.{Dispatch, places, balance, balance_terms, dispatch_by, dispatch_with, empty, quantity}
-use Rattle.market_model.specs.Infeasibility.{block_most, block_weight, limit_terms, nothing_terms, farkas_terms, offer_most, reserve_left_terms}
+use Rattle.market_model.specs.Infeasibility.{block_most, block_weight, energy_left_terms, limit_terms, nothing_terms, farkas_terms, offer_most, reserve_left_terms}
 use Rattle.market_model.specs.declared.limits.Row.{Row}
 use Rattle.market_model.specs.LimitRows.{rows, row_id, most_flow, flow}
 use Rattle.market_model.specs.NamedSums.{IsRefusal, IsRefusedIn, IsShareRefusal}
 use Rattle.market_model.specs.Optimality.{up_of, down_of, names_row, named_rows}
 use Rattle.market_model.specs.Reserves.{offer_places}
 use Rattle.market_model.proofs.FarkasLaw.{total-flat_map}
+use Rattle.market_model.proofs.FarkasParts.{farkas_terms-parts}
 use Rattle.market_model.proofs.MorePlaces.{sum_by_more, total-places_more}
 use Rattle.market_model.proofs.SumSteps.{product_at, share_at, terms_at, behind, in_front}
-use Rattle.limit_rows.proofs.DualLemmas.{up_unnamed, down_unnamed, sum_named}
-use Rattle.cert_sums.specs.Bounds.{energy_left_terms}
+use Rattle.limit_rows.proofs.DualLemmas.{sum_named}
+use Rattle.limit_rows.proofs.NamedLimits.{energy_left-by_named, limit_unnamed}
 use Rattle.cert_sums.specs.Named.{PricedRow, priced_by}
 use Rattle.cert_sums.specs.Pairs.{IsFarkasPair, in_flow as flow_pair, in_bound as bound_pair, in_pickup, in_price, in_worth, of_limit_less, of_limit_more, of_most}
 use Rattle.market_model.specs.SumTables.{IsRefusedAmong, InjectionSum, balance_from_bus, balance_of_all, limited_line, limited_row, limited_unit, flow_in_balance, flow_in_limits, farkas_bound_of_all}
 use Rattle.market_model.specs.PutIn.{AreCarried, AreInjections}
-use Rattle.cert_sums.specs.Refusals.{IsAboveRefusal, IsBelowRefusal, IsCarriedRefusal, IsLimitRefusal, IsWorthRefusal, in_most, in_flow, in_above, in_below}
+use Rattle.cert_sums.specs.Refusals.{IsAboveRefusal, IsBelowRefusal, IsCarriedRefusal, IsRowShareRefusal, IsWorthRefusal, in_most, in_flow, in_above, in_below}
 use Rattle.cert_sums.proofs.BlockFlows.{carried_of_blocks, carried_refusal, injection_refusal, injections_by_blocks, injections_of_blocks}
 use Rattle.cert_sums.proofs.NamedLemmas.{IsNamedAt, filter_at, is_named_row, is_row}
 
@@ -60,10 +61,10 @@ left_sum m d e sum above more l f priced is flows first second =
 
 -- a refusal on either side of a row, by the most that its flow may be and the flow that were read
 module _ (m : Parts) (x : Dispatch) (e : PricedRow) (sum l f : Fraction) (bound : ℕ) (p : Passed Fraction) (is : l ≡ most_flow m e.row) (flows : f ≡ flow m x e.row) where
-  pub above_side : IsAboveRefusal sum e.up l f bound p → IsLimitRefusal m x e sum bound p
+  pub above_side : IsAboveRefusal sum e.up l f bound p → IsRowShareRefusal m x e sum bound p
   above_side h = in_above (subst₂ (λ a b. IsAboveRefusal sum e.up a b bound p) is flows h)
 
-  pub below_side : (above : Fraction) → above ≡ sum +ℚ e.up *ℚ (l -ℚ f) → IsBelowRefusal above e.down l f bound p → IsLimitRefusal m x e sum bound p
+  pub below_side : (above : Fraction) → above ≡ sum +ℚ e.up *ℚ (l -ℚ f) → IsBelowRefusal above e.down l f bound p → IsRowShareRefusal m x e sum bound p
   below_side above first h =
       in_below (subst₂ (λ a b. IsBelowRefusal (sum +ℚ e.up *ℚ (a -ℚ b)) e.down a b bound p) is flows (subst (λ t. IsBelowRefusal t e.down l f bound p) first h))
 
@@ -85,16 +86,6 @@ module _ (m : Parts) (d : Duals Fraction) where
   abbrev pub reserve_terms : List Term
   reserve_terms = reserve_left_terms m d ++ (block_terms ++ offer_terms)
 
-  -- and the terms of the bound in front of these
-  pub farkas_terms_are : farkas_terms m d ≡ energy_left_terms m d ++ reserve_terms
-  farkas_terms_are = append_assoc (nothing_terms m d) block_terms offer_terms ∙ append_assoc (energy_left_terms m d) (reserve_left_terms m d) (block_terms ++ offer_terms)
-
-  -- a row without prices makes nothing
-  unnamed : (r : Row) → names_row d.limits (row_id m r) ≡ false → left r ≡ whole (pos 0)
-  unnamed r h =
-      ap₂ (λ u v. u *ℚ (most_flow m r -ℚ flow m (empty m) r) +ℚ (v *ℚ (most_flow m r +ℚ flow m (empty m) r) +ℚ whole (pos 0))) (up_unnamed d.limits (row_id m r) h) (down_unnamed d.limits (row_id m r) h)
-      ∙ by_ring ring_ℚ (most_flow m r ∷ flow m (empty m) r ∷ []) (padd (pmul pnil (padd (at 0) (pneg (at 1)))) (padd (pmul pnil (padd (at 0) (at 1))) pnil)) pnil refl
-
   -- what the price of energy makes, with the first rows that duals name
   abbrev pub limits_to : ℕ → Fraction
   limits_to k = d.energy *ℚ balance m (empty m) +ℚ sum_by left (take k (named_rows m d))
@@ -103,9 +94,7 @@ module _ (m : Parts) (d : Duals Fraction) where
   limits_none s e = e ∙ sym (+ℚ_nil (d.energy *ℚ balance m (empty m)))
 
   pub limits_all : (k : ℕ) → length (named_rows m d) ≤ k → limits_to k ≡ total (energy_left_terms m d)
-  limits_all k h =
-      ap (λ t. d.energy *ℚ balance m (empty m) +ℚ t)
-      (ap (sum_by left) (take_all k (named_rows m d) h) ∙ sym (sum_named m d left (rows m) unnamed) ∙ sym (total-flat_map (limit_terms m d) (rows m)))
+  limits_all k h = ap (λ (rs : List Row). d.energy *ℚ balance m (empty m) +ℚ sum_by left rs) (take_all k (named_rows m d) h) ∙ sym (energy_left-by_named m d)
 
   -- the terms of the bound round those of a named row
   record IsSplit (k : ℕ) (r : Row) : Type 0 where
@@ -124,13 +113,13 @@ module _ (m : Parts) (d : Duals Fraction) where
         front = energy_term ∷ flat_map (limit_terms m d) s.0;
         rest = flat_map (limit_terms m d) s.1 ++ reserve_terms;
         split =
-            farkas_terms_are
+            (farkas_terms-parts m d)
             ∙ ap (λ (rs : List Row). energy_term ∷ (flat_map (limit_terms m d) rs ++ reserve_terms)) rows_are
             ∙ ap (λ ts. energy_term ∷ (ts ++ reserve_terms)) (flat_map-append (limit_terms m d) s.0 (e.row ∷ s.1))
             ∙ ap (λ ts. energy_term ∷ ts) (append_assoc (flat_map (limit_terms m d) s.0) (limit_terms m d e.row ++ flat_map (limit_terms m d) s.1) reserve_terms);
         sum =
             ap (λ t. d.energy *ℚ balance m (empty m) +ℚ t)
-            (total-flat_map (limit_terms m d) s.0 ∙ sum_named m d left s.0 unnamed ∙ ap (sum_by left) s.3);
+            (total-flat_map (limit_terms m d) s.0 ∙ sum_named m d left s.0 (limit_unnamed m d) ∙ ap (sum_by left) s.3);
       }
 
   module _ (k : ℕ) (e : PricedRow) (h : IsNamedAt m d k e) where
@@ -178,7 +167,7 @@ module _ (m : Parts) (d : Duals Fraction) where
       below_refused (inr c) = in_bound
           (share_at (farkas_terms m d) (s.front ++ above ∷ []) s.rest below second bound p (sum +ℚ e.up *ℚ room_above) e.down room_below (ap (λ u. Product u room_below) (sym h.down)) with_above c)
 
-      pub limit_refused : IsLimitRefusal m (empty m) e sum bound p → IsFarkasPair m d bound p
+      pub limit_refused : IsRowShareRefusal m (empty m) e sum bound p → IsFarkasPair m d bound p
       limit_refused (in_flow (inl (terms, part, c))) = flow_pair (terms, flow_in_limits terms (limited_row e.row terms (is_row m d k e h) part), c)
       limit_refused (in_flow (inr c)) = in_pickup e.row (is_named_row m d k e h) c
       limit_refused (in_most c) = of_most e.row (is_named_row m d k e h) c
@@ -218,7 +207,7 @@ module _ (m : Parts) (d : Duals Fraction) where
   pub energy_refused : (b : Fraction) (bound : ℕ) (p : Passed Fraction) → b ≡ balance m (empty m) → IsRefusal Times d.energy b bound p → IsFarkasPair m d bound p
   energy_refused b bound p is h =
       bound_pair
-      (_, farkas_bound_of_all, product_at (farkas_terms m d) [] (flat_map (limit_terms m d) (rows m) ++ reserve_terms) energy_term farkas_terms_are bound p d.energy b (ap (Product d.energy) (sym is)) refl h)
+      (_, farkas_bound_of_all, product_at (farkas_terms m d) [] (flat_map (limit_terms m d) (rows m) ++ reserve_terms) energy_term (farkas_terms-parts m d) bound p d.energy b (ap (Product d.energy) (sym is)) refl h)
 
 -- ---- where nothing is accepted, of blocks and of reserve
 pub nothing_is : {N : Type 0} (value : N → Fraction) (m : Parts) (xs ys : List N) (n : ℕ) → xs ≡ ys → map value ys ≡ replicate n (whole (pos 0)) → n ≡ length m.blocks

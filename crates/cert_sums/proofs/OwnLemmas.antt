@@ -15,7 +15,7 @@ use Rattle.market_model.specs.declared.answered.Duals.{Duals}
 use Rattle.market_model.specs.declared.limits.Row.{Row}
 use Rattle.market_model.specs.declared.participants.Parts.{Parts}
 use Rattle.market_model.specs.Dispatch.{unit_at}
-use Rattle.market_model.specs.LimitRows.{loses, row_id, row_pickup, rows}
+use Rattle.market_model.specs.LimitRows.{loses_unit, row_id, row_pickup, rows}
 use Rattle.market_model.specs.Optimality.{up_of, down_of, net_shadow_price, names_row, named_rows, own_price, own_terms}
 use Rattle.market_model.specs.SumTables.{IsRefusedAmong, OwnPriceSum, PickupSum, factor_of_pickup, own_price_of_unit}
 use Rattle.market_model.proofs.MorePlaces.{sum_by_more}
@@ -27,7 +27,7 @@ use Rattle.cert_sums.proofs.NamedLemmas.{IsNamedAt, filter_at, is_named_row}
 
 module _ (m : Parts) (d : Duals Fraction) (price : ℕ → Fraction) (u : ℕ) where
   abbrev lost : Row → Bool
-  lost r = loses m u r.cause
+  lost r = loses_unit m u r.cause
 
   abbrev term : Row → Term
   term r = Product (neg_ℚ (net_shadow_price m d r)) (row_pickup m r.line r.cause)

@@ -16,18 +16,17 @@ use Rattle.market_model.specs.declared.answered.RoomDual.{RoomDual}
 use Rattle.market_model.specs.declared.participants.Parts.{Parts}
 use Rattle.market_model.specs.Dispatch.{zero, places, reserve_quantity, unit_at}
 use Rattle.fraction_theory.specs.Signs.{part_above}
-use Rattle.market_model.specs.Infeasibility.{farkas_bound, farkas_terms, nothing_terms, block_most, offer_most, offer_weight}
+use Rattle.market_model.specs.Infeasibility.{energy_left_terms, farkas_bound, farkas_terms, need_terms, nothing_terms, block_most, offer_most, offer_weight}
 use Rattle.market_model.specs.NamedSums.{IsRefusal, IsRefusedIn, IsShareRefusal}
 use Rattle.market_model.specs.Optimality.{named_rooms, names_room, reserve_worth_terms, room_price, room_price_in, unit_price, worth_terms}
 use Rattle.market_model.specs.Reserves.{offer_places, offers_reserve, reserve_need, reserve_units, room}
 use Rattle.market_model.specs.SumTables.{IsRefusedAmong, WorthSum, energy_of_unit, reserve_of_unit}
+use Rattle.market_model.proofs.FarkasParts.{farkas_terms-parts}
 use Rattle.market_model.proofs.MorePlaces.{sum_by_more, total-places_more}
 use Rattle.market_model.proofs.RoomLemmas.{listed-inside, offers-listed}
 use Rattle.market_model.proofs.SumSteps.{behind, in_front, minus_at, share_at, terms_at}
 use Rattle.cert_sums.specs.declared.worths.NamedRoom.{NamedRoom}
-use Rattle.cert_sums.specs.Bounds.{energy_left_terms, need_terms}
 use Rattle.cert_sums.specs.Named.{AreNamedRooms, PricedRoom, room_in, room_priced_at, room_priced_by}
-use Rattle.cert_sums.proofs.BoundLemmas.{farkas_terms_are}
 use Rattle.cert_sums.proofs.NamedLemmas.{filter_at}
 
 -- ---- a room that is not named is free
@@ -160,22 +159,6 @@ module _ (m : Parts) (d : Duals Fraction) where
   no_need sum none e =
       e ∙ ap total (sym (append-nil (energy_left_terms m d)) ∙ ap (λ (b : Bool). energy_left_terms m d ++ (if b then Product d.reserve (neg_ℚ (reserve_need m)) ∷ [] else [])) (sym none))
 
-  module _ (listed : m.reserve.listed ≡ true) where
-    need_is : need_terms m d ≡ Product d.reserve (neg_ℚ (reserve_need m)) ∷ []
-    need_is = ap (λ (b : Bool). if b then Product d.reserve (neg_ℚ (reserve_need m)) ∷ [] else []) listed
-
-    pub need_made : (old new : Fraction) → old ≡ total (energy_left_terms m d) → new ≡ old +ℚ d.reserve *ℚ neg_ℚ (reserve_need m) → new ≡ total (energy_left_terms m d ++ need_terms m d)
-    need_made old new before e =
-        e ∙ ap₂ ◌+ℚ◌ before (sym (+ℚ_nil (d.reserve *ℚ neg_ℚ (reserve_need m))))
-        ∙ sym (total-append (energy_left_terms m d) (Product d.reserve (neg_ℚ (reserve_need m)) ∷ []))
-        ∙ ap (λ ts. total (energy_left_terms m d ++ ts)) (sym need_is)
-
-    pub need_refused : (sum : Fraction) (bound : ℕ) (p : Passed Fraction) → sum ≡ total (energy_left_terms m d) → IsShareRefusal sum d.reserve (neg_ℚ (reserve_need m)) bound p → IsRefusedIn (farkas_terms m d) bound p
-    need_refused sum bound p before h =
-        share_at (farkas_terms m d) (energy_left_terms m d) (room_terms_of (reserve_units m) ++ behind_rooms) (Product d.reserve (neg_ℚ (reserve_need m)))
-        (farkas_terms_are m d ∙ ap (λ ts. energy_left_terms m d ++ ((ts ++ room_terms_of (reserve_units m)) ++ behind_rooms)) need_is)
-        bound p sum d.reserve (neg_ℚ (reserve_need m)) refl before h
-
   -- what a room makes at its price
   abbrev room_made : ℕ → Fraction
   room_made u = room_price m d u *ℚ room m u
@@ -222,7 +205,7 @@ module _ (m : Parts) (d : Duals Fraction) where
         let units : reserve_units m ≡ s.0 ++ e.unit ∷ s.1 = s.2 ∙ ap (λ (u : ℕ). s.0 ++ u ∷ s.1) (sym h.at) in
         let rooms : room_terms_of (reserve_units m) ≡ room_terms_of s.0 ++ room_term e.unit ∷ room_terms_of s.1 = ap room_terms_of units ∙ map-append room_term s.0 (e.unit ∷ s.1) in
         share_at (farkas_terms m d) (in_front_of_rooms ++ room_terms_of s.0) (room_terms_of s.1 ++ behind_rooms) (room_term e.unit)
-        (farkas_terms_are m d ∙ sym (append_assoc (energy_left_terms m d) (need_terms m d ++ room_terms_of (reserve_units m)) behind_rooms)
+        (farkas_terms-parts m d ∙ sym (append_assoc (energy_left_terms m d) (need_terms m d ++ room_terms_of (reserve_units m)) behind_rooms)
         ∙ ap (λ ts. ts ++ behind_rooms) (sym (append_assoc (energy_left_terms m d) (need_terms m d) (room_terms_of (reserve_units m))))
         ∙ in_front (in_front_of_rooms ++ room_terms_of (reserve_units m)) (in_front_of_rooms ++ room_terms_of s.0) (room_terms_of s.1) behind_rooms (room_term e.unit)
         (behind in_front_of_rooms (room_terms_of (reserve_units m)) (room_terms_of s.0) (room_terms_of s.1) (room_term e.unit) rooms))

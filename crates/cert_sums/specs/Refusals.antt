@@ -47,8 +47,8 @@ abbrev pub IsBelowRefusal : Fraction → Fraction → Fraction → Fraction → 
 IsBelowRefusal sum price limit flow bound p = IsRefusal Plus limit flow bound p ⊎ IsShareRefusal sum price (limit +ℚ flow) bound p
 
 -- the flow of a row or its pickup factor, the most that the flow may be, or what its prices make of what the flow leaves of that, on either side
-pub data IsLimitRefusal (m : Parts) (x : Dispatch) (e : PricedRow) (sum : Fraction) (bound : ℕ) (p : Passed Fraction) : Type 0 where
-  in_most : IsRefusal Plus (limit m e.row) (most_excess m e.row) bound p → IsLimitRefusal m x e sum bound p
-  in_flow : IsFlowRefusal m (carried m x) e.row bound p → IsLimitRefusal m x e sum bound p
-  in_above : IsAboveRefusal sum e.up (most_flow m e.row) (flow m x e.row) bound p → IsLimitRefusal m x e sum bound p
-  in_below : IsBelowRefusal (sum +ℚ e.up *ℚ (most_flow m e.row -ℚ flow m x e.row)) e.down (most_flow m e.row) (flow m x e.row) bound p → IsLimitRefusal m x e sum bound p
+pub data IsRowShareRefusal (m : Parts) (x : Dispatch) (e : PricedRow) (sum : Fraction) (bound : ℕ) (p : Passed Fraction) : Type 0 where
+  in_most : IsRefusal Plus (limit m e.row) (most_excess m e.row) bound p → IsRowShareRefusal m x e sum bound p
+  in_flow : IsFlowRefusal m (carried m x) e.row bound p → IsRowShareRefusal m x e sum bound p
+  in_above : IsAboveRefusal sum e.up (most_flow m e.row) (flow m x e.row) bound p → IsRowShareRefusal m x e sum bound p
+  in_below : IsBelowRefusal (sum +ℚ e.up *ℚ (most_flow m e.row -ℚ flow m x e.row)) e.down (most_flow m e.row) (flow m x e.row) bound p → IsRowShareRefusal m x e sum bound p

@@ -6,16 +6,15 @@ ghost use Rattle.fraction_theory.specs.Fraction.{Fraction, ◌+ℚ◌, ◌-ℚ�
 ghost use Rattle.fraction_theory.specs.Sums.{total};
 ghost use Rattle.market_model.specs.declared.answered.Duals.{Duals};
 ghost use Rattle.market_model.specs.Dispatch.{Dispatch, places, balance, empty};
-ghost use Rattle.market_model.specs.Infeasibility.{block_most, farkas_bound, limit_terms, nothing_terms};
+ghost use Rattle.market_model.specs.Infeasibility.{block_most, energy_left_terms, farkas_bound, limit_terms, nothing_terms};
 ghost use Rattle.market_model.specs.LimitRows.{IsCauseOf, flow, limit};
 ghost use Rattle.market_model.specs.Stops.{StopsBy};
 ghost use Rattle.market_model.specs.Valued.{passed_at};
 ghost use Rattle.market_model.specs.NamedSums.{IsShareRefusal};
 ghost use Rattle.market_model.specs.PutIn.{AreCarried};
-ghost use Rattle.cert_sums.specs.Bounds.{energy_left_terms};
 ghost use Rattle.cert_sums.specs.Named.{AreNamed, AreNamedRooms, priced_at, priced_by};
 ghost use Rattle.cert_sums.specs.Pairs.{IsFarkasPair};
-ghost use Rattle.cert_sums.specs.Refusals.{IsAboveRefusal, IsBelowRefusal, IsLimitRefusal};
+ghost use Rattle.cert_sums.specs.Refusals.{IsAboveRefusal, IsBelowRefusal, IsRowShareRefusal};
 ghost use Rattle.fraction_theory.specs.Signs.{part_above};
 
 use crate::bounding_reserve::{with_need, with_offers, with_rooms};
@@ -61,7 +60,7 @@ fn with_limit<N: Exact>(
     requires line { entry.now.row.line < length market.now.lines }
     requires lost { IsCauseOf market.now entry.now.row.cause }
     ensures sum { (d : Duals Fraction) → priced_at N.value entry.now ≡ priced_by market.now d entry.now.row → AreCarried market.now (empty market.now) (map N.value carried.now) → IfOk result (λ more. N.value more ≡ N.value sum +ℚ total (limit_terms market.now d entry.now.row)) }
-    ensures cause { (x : Dispatch) → AreCarried market.now x (map N.value carried.now) → IfErr result (λ passed. IsLimitRefusal market.now x (priced_at N.value entry.now) (N.value sum) N.bound (passed_at N.value passed)) }
+    ensures cause { (x : Dispatch) → AreCarried market.now x (map N.value carried.now) → IfErr result (λ passed. IsRowShareRefusal market.now x (priced_at N.value entry.now) (N.value sum) N.bound (passed_at N.value passed)) }
 {
     let flow = row_flow(market, carried, entry.row)?;
     let most = most_flow(market, entry.row)?;

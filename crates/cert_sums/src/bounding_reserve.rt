@@ -5,10 +5,9 @@ ghost use Rattle.fraction_theory.specs.Fraction.{Fraction};
 ghost use Rattle.fraction_theory.specs.Sums.{total};
 ghost use Rattle.market_model.specs.declared.answered.Duals.{Duals};
 ghost use Rattle.market_model.specs.Dispatch.{places};
-ghost use Rattle.market_model.specs.Infeasibility.{block_most, farkas_bound, farkas_terms, nothing_terms};
+ghost use Rattle.market_model.specs.Infeasibility.{block_most, energy_left_terms, farkas_bound, farkas_terms, need_terms, nothing_terms};
 ghost use Rattle.market_model.specs.NamedSums.{IsRefusedIn};
 ghost use Rattle.market_model.specs.Valued.{passed_at};
-ghost use Rattle.cert_sums.specs.Bounds.{energy_left_terms, need_terms};
 ghost use Rattle.cert_sums.specs.Named.{AreNamedRooms};
 ghost use Rattle.cert_sums.specs.Pairs.{IsFarkasPair};
 

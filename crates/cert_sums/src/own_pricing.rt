@@ -4,7 +4,7 @@ ghost use Rattle.std.specs.Prelude.{◌≡◌, ◌<◌, ℕ, length, IfOk, IfErr
 ghost use Rattle.fraction_theory.specs.Fraction.{Fraction};
 ghost use Rattle.market_model.specs.declared.answered.Duals.{Duals};
 ghost use Rattle.market_model.specs.Dispatch.{unit_at};
-ghost use Rattle.market_model.specs.LimitRows.{loses, row_pickup, IsCauseOf};
+ghost use Rattle.market_model.specs.LimitRows.{loses_unit, row_pickup, IsCauseOf};
 ghost use Rattle.market_model.specs.Optimality.{own_price};
 ghost use Rattle.market_model.specs.SumTables.{IsRefusedAmong, OwnPriceSum, PickupSum};
 ghost use Rattle.market_model.specs.Valued.{passed_at};
@@ -20,7 +20,7 @@ use market_model::{Cause, Market, Row, datum};
 /// Whether a cause loses the unit at a place.
 fn loses_unit(market: &Market, cause: Cause, unit: usize) -> bool
     requires { IsCauseOf market.now cause }
-    ensures { result ≡ loses market.now unit cause }
+    ensures { result ≡ loses_unit market.now unit cause }
 {
     match cause {
         Cause::Base | Cause::Branch(_) => false,

@@ -19,6 +19,7 @@ use Rattle.market_model.specs.Optimality.{ProperDuals, RoomSupported, named_room
 use Rattle.market_model.specs.Reserves.{offers_reserve, reserve_units, room, room_used}
 use Rattle.market_model.proofs.ChangeLemmas.{same_default}
 use Rattle.market_model.proofs.LostLemmas.{place_at}
+use Rattle.market_model.proofs.RoomLemmas.{listed-offers}
 use Rattle.limit_rows.proofs.ApartLemmas.{unit_of_row}
 use Rattle.limit_rows.proofs.GroupLemmas.{length-map}
 use Rattle.cert_verify.specs.declared.verdicts.Reason.TheVariants as reason
@@ -136,7 +137,7 @@ room_signs_to ds h row = by (priced ds row)
 -- the price of the room of a unit that offers reserve
 offered_price : (m : Parts) (d : Duals Fraction) (u : ℕ) → Contains (reserve_units m) u → room_price m d u ≡ room_price_in d.rooms (unit_at m u).row
 offered_price m d u c =
-    ap (λ (b : Bool). if b then room_price_in d.rooms (unit_at m u).row else zero) (Contains-from_filter (offers_reserve m) (places (length m.units)) u c).1
+    ap (λ (b : Bool). if b then room_price_in d.rooms (unit_at m u).row else zero) (listed-offers m u c)
 
 -- each dual has the price of the room of a unit that offers reserve
 dual_price : (m : Parts) (d : Duals Fraction) → NamesRooms m d.rooms → (e : RoomDual Fraction) → Contains d.rooms e → (u : ℕ) → Contains (reserve_units m) u → (unit_at m u).row ≡ e.unit → room_price m d u ≡ e.price

@@ -25,7 +25,7 @@ use Rattle.limit_rows.proofs.PlaceLemmas.{same_name}
 use Rattle.cert_verify.specs.declared.verdicts.Reason.TheVariants as reason
 use Rattle.cert_verify.specs.Certificates.{ProvesInfeasible, IsOptimum, NamesRows}
 use Rattle.limit_rows.specs.Naming.{has_name}
-use Rattle.cert_verify.specs.Reasons.{NoneOf, bound_reason, block_reason, breaks_row, breaks_side, breaks_support, count_reason, balance_reason, differ, farkas_reasons, first_of, gains, has_negative, has_no_row, has_slack, is_below, is_beyond, is_offer_beyond, is_offer_unsupported, is_overfull, is_overloaded, is_slack, is_unpriced, is_unsupported, limit_reason, limit_reasons, loses, need_reason, need_sign_reason, need_slack_reason, optimal_reasons, reserve_reason, reserve_support_reason, room_reason, room_sign_reason, room_slack_reason, row_reason, sign_reason, slack_reason, slack_reasons, sum_reasons, support_reason, unit_reason, unpriced_reason}
+use Rattle.cert_verify.specs.Reasons.{NoneOf, bound_reason, block_reason, breaks_row, breaks_side, breaks_support, count_reason, balance_reason, differ, farkas_reasons, first_of, is_gaining, has_negative, has_no_row, has_slack, is_below, is_beyond, is_offer_beyond, is_offer_unsupported, is_overfull, is_overloaded, is_slack, is_unpriced, is_unsupported, limit_reason, limit_reasons, is_losing, need_reason, need_sign_reason, need_slack_reason, optimal_reasons, reserve_reason, reserve_support_reason, room_reason, room_sign_reason, room_slack_reason, row_reason, sign_reason, slack_reason, slack_reasons, sum_reasons, support_reason, unit_reason, unpriced_reason}
 use Rattle.cert_verify.proofs.TestLemmas.{below_true, below_of, not_below, below_not, same_by, same_not, neither, not_both, then_not, not_false, not_true, any_true, any_of, any_false, any_none, all_by, in_places, from_places, none_of, of_none, not_so, so_none, all_none, none_first}
 use Rattle.cert_verify.proofs.RoomLemmas.{room_sign, room_signs_from, room_slack_from, rooms_from, rooms_to, used_up_to}
 use Rattle.market_model.specs.Overrun.{Within}
@@ -94,19 +94,19 @@ own_prices (d ∷ ds) apart e c = by (λ r h. own_prices ds r e h) (Contains-cas
     )
 
 -- ---- blocks
-gains_of : (s : Side) (p w : Fraction) → Gains s p w → gains s p w ≡ true
+gains_of : (s : Side) (p w : Fraction) → Gains s p w → is_gaining s p w ≡ true
 gains_of Sell p w h = below_of p w h
 gains_of Buy p w h = below_of w p h
 
-gains_true : (s : Side) (p w : Fraction) → gains s p w ≡ true → Gains s p w
+gains_true : (s : Side) (p w : Fraction) → is_gaining s p w ≡ true → Gains s p w
 gains_true Sell p w e = below_true p w e
 gains_true Buy p w e = below_true w p e
 
-loses_of : (s : Side) (p w : Fraction) → Loses s p w → loses s p w ≡ true
+loses_of : (s : Side) (p w : Fraction) → Loses s p w → is_losing s p w ≡ true
 loses_of Sell p w h = below_of w p h
 loses_of Buy p w h = below_of p w h
 
-loses_true : (s : Side) (p w : Fraction) → loses s p w ≡ true → Loses s p w
+loses_true : (s : Side) (p w : Fraction) → is_losing s p w ≡ true → Loses s p w
 loses_true Sell p w e = below_true w p e
 loses_true Buy p w e = below_true p w e
 
@@ -117,16 +117,16 @@ record IsSupported (s : Side) (p w q y : Fraction) : Type 0 where
 
 support_to : (s : Side) (p w q y : Fraction) → breaks_support s p w q y ≡ false → IsSupported s p w q y
 support_to s p w q y e =
-    let parts = or_parts (gains s p w && differ y q) (loses s p w && differ y zero) e in record {
-      full = λ h. same_by y q (then_not (gains s p w) (differ y q) parts.0 (gains_of s p w h));
-      empty = λ h. same_by y zero (then_not (loses s p w) (differ y zero) parts.1 (loses_of s p w h));
+    let parts = or_parts (is_gaining s p w && differ y q) (is_losing s p w && differ y zero) e in record {
+      full = λ h. same_by y q (then_not (is_gaining s p w) (differ y q) parts.0 (gains_of s p w h));
+      empty = λ h. same_by y zero (then_not (is_losing s p w) (differ y zero) parts.1 (loses_of s p w h));
     }
 
 support_from : (s : Side) (p w q y : Fraction) → IsSupported s p w q y → breaks_support s p w q y ≡ false
 support_from s p w q y h =
-    neither (gains s p w && differ y q) (loses s p w && differ y zero)
-    (not_both (gains s p w) (differ y q) (λ t. same_not y q (h.full (gains_true s p w t))))
-    (not_both (loses s p w) (differ y zero) (λ t. same_not y zero (h.empty (loses_true s p w t))))
+    neither (is_gaining s p w && differ y q) (is_losing s p w && differ y zero)
+    (not_both (is_gaining s p w) (differ y q) (λ t. same_not y q (h.full (gains_true s p w t))))
+    (not_both (is_losing s p w) (differ y zero) (λ t. same_not y zero (h.empty (loses_true s p w t))))
 
 module _ (m : Parts) (x : Dispatch) (d : Duals Fraction) where
   abbrev worth_of : ℕ → Fraction

@@ -44,17 +44,17 @@ abbrev pub has_negative : Dual Fraction → Bool
 has_negative e = is_below e.up zero || is_below e.down zero
 
 -- more of a block of this side and price gains, where a MW of its unit is worth `worth`; any of it loses
-abbrev pub gains : Side → Fraction → Fraction → Bool
-gains Sell price worth = is_below price worth
-gains Buy price worth = is_below worth price
+abbrev pub is_gaining : Side → Fraction → Fraction → Bool
+is_gaining Sell price worth = is_below price worth
+is_gaining Buy price worth = is_below worth price
 
-abbrev pub loses : Side → Fraction → Fraction → Bool
-loses Sell price worth = is_below worth price
-loses Buy price worth = is_below price worth
+abbrev pub is_losing : Side → Fraction → Fraction → Bool
+is_losing Sell price worth = is_below worth price
+is_losing Buy price worth = is_below price worth
 
 -- it gains and is not accepted whole, or loses and is accepted
 abbrev pub breaks_support : Side → Fraction → Fraction → Fraction → Fraction → Bool
-breaks_support side price worth quantity mw = (gains side price worth && differ mw quantity) || (loses side price worth && differ mw zero)
+breaks_support side price worth quantity mw = (is_gaining side price worth && differ mw quantity) || (is_losing side price worth && differ mw zero)
 
 -- ---- the same of a market
 abbrev pub has_no_row : Parts → Dual Fraction → Bool

@@ -4,7 +4,7 @@ ghost use Rattle.std.specs.Prelude.{◌≡◌, pos};
 ghost use Rattle.fraction_theory.specs.Fraction.{whole};
 ghost use Rattle.market_data.specs.Participants.{IsDatum};
 ghost use Rattle.market_model.specs.Valued.{dual_at};
-ghost use Rattle.cert_verify.specs.Reasons.{breaks_support, differ, gains, has_negative, is_below, is_outside, loses, passes};
+ghost use Rattle.cert_verify.specs.Reasons.{breaks_support, differ, has_negative, is_below, is_gaining, is_losing, is_outside, passes};
 
 use exact_fraction::Exact;
 use market_model::{Dual, Side, datum};
@@ -57,8 +57,8 @@ pub(crate) fn has_negative<N: Exact>(dual: &Dual<N>) -> bool
 }
 
 /// Whether more of a block of this side and price gains, where the price of its unit is so much.
-fn gains<N: Exact>(side: Side, price: N, worth: N) -> bool
-    ensures { result ≡ gains side (N.value price) (N.value worth) }
+fn is_gaining<N: Exact>(side: Side, price: N, worth: N) -> bool
+    ensures { result ≡ is_gaining side (N.value price) (N.value worth) }
 {
     match side {
         Side::Sell => is_below(price, worth),
@@ -67,8 +67,8 @@ fn gains<N: Exact>(side: Side, price: N, worth: N) -> bool
 }
 
 /// Whether any of it loses.
-fn loses<N: Exact>(side: Side, price: N, worth: N) -> bool
-    ensures { result ≡ loses side (N.value price) (N.value worth) }
+fn is_losing<N: Exact>(side: Side, price: N, worth: N) -> bool
+    ensures { result ≡ is_losing side (N.value price) (N.value worth) }
 {
     match side {
         Side::Sell => is_below(worth, price),
@@ -80,6 +80,6 @@ fn loses<N: Exact>(side: Side, price: N, worth: N) -> bool
 pub(crate) fn breaks_support<N: Exact>(side: Side, price: N, worth: N, quantity: N, mw: N) -> bool
     ensures { result ≡ breaks_support side (N.value price) (N.value worth) (N.value quantity) (N.value mw) }
 {
-    (gains(side, price, worth) && differ(mw, quantity))
-        || (loses(side, price, worth) && differ(mw, datum(0)))
+    (is_gaining(side, price, worth) && differ(mw, quantity))
+        || (is_losing(side, price, worth) && differ(mw, datum(0)))
 }

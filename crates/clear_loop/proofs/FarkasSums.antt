@@ -19,8 +19,8 @@ use Rattle.market_model.specs.declared.answered.Duals.{Duals}
 use Rattle.market_model.specs.declared.limits.Row.{Row}
 use Rattle.market_model.specs.declared.participants.Parts.{Parts}
 use Rattle.market_model.specs.Dispatch.{places, zero, balance, empty, quantity, reserve_quantity, unit_at}
-use Rattle.market_model.specs.Infeasibility.{block_most, block_weight, farkas_bound, farkas_terms, limit_terms, nothing_terms, offer_most, offer_weight, reserve_left_terms}
-use Rattle.market_model.specs.LimitRows.{factor_terms, flow, loses, most_flow, row_id, row_pickup, rows}
+use Rattle.market_model.specs.Infeasibility.{block_most, block_weight, energy_left_terms, farkas_bound, farkas_terms, limit_terms, need_terms, nothing_terms, offer_most, offer_weight, reserve_left_terms}
+use Rattle.market_model.specs.LimitRows.{factor_terms, flow, loses_unit, most_flow, row_id, row_pickup, rows}
 use Rattle.market_model.specs.Market.{IsMarket}
 use Rattle.market_model.specs.NamedSums.{IsRefusal, IsRefusedIn, IsShareRefusal}
 use Rattle.market_model.specs.Optimality.{bus_price, down_of, named_rows, names_row, net_shadow_price, own_price, own_terms, reserve_worth_terms, room_price, room_price_in, unit_price, up_of, worth_terms}
@@ -28,11 +28,13 @@ use Rattle.market_model.specs.Reserves.{offer_places, offers_reserve, reserve_ne
 use Rattle.market_model.specs.SumTables.{IsPickupRefusal, IsRefusedAmong, IsRefusedInBusPrices, IsRefusedInPrices, OwnPriceSum, energy_of_unit, factor_at_bus, factor_of_pickup, farkas_bound_of_all, flow_in_limits, limited_row, own_price_of_unit, price_of_bus, price_of_unit, reserve_of_unit}
 use Rattle.settlement.specs.Paying.{ArePricesOf}
 use Rattle.market_model.proofs.FarkasLaw.{total-flat_map}
+use Rattle.market_model.proofs.FarkasParts.{farkas_terms-parts, need_refused as need_refused_in_terms}
 use Rattle.market_model.proofs.MorePlaces.{sum_by_more, total-filter_more, total-places_more}
 use Rattle.market_model.proofs.RoomLemmas.{offers-listed}
 use Rattle.market_model.proofs.SumSteps.{minus_at, product_at, share_at, terms_at, tested_at, behind, in_front}
-use Rattle.limit_rows.proofs.DualLemmas.{IsRowOfDual, up_unnamed, down_unnamed, sum_named}
-use Rattle.clear_loop.specs.Bounding.{IsBoundRefusal, IsLimitRefusal, IsSideRefusal, in_bound, in_factor, in_flow, in_lower, in_most, in_price, in_row_flow, in_row_most, in_upper, in_worth, left_terms, need_terms, of_lower, of_most, of_upper}
+use Rattle.limit_rows.proofs.DualLemmas.{IsRowOfDual, sum_named}
+use Rattle.limit_rows.proofs.NamedLimits.{energy_left-by_named, limit_unnamed}
+use Rattle.clear_loop.specs.Bounding.{IsBoundRefusal, IsRowStepRefusal, IsSideRefusal, in_bound, in_factor, in_flow, in_lower, in_most, in_price, in_row_flow, in_row_most, in_upper, in_worth, of_lower, of_most, of_upper}
 
 -- ---- prices of 0 make nothing
 pub nothing_made : (s price room : Fraction) → price ≡ whole (pos 0) → s ≡ s +ℚ price *ℚ room
@@ -48,7 +50,7 @@ none_above s w room t is some = nothing_made s (part_above w) room (sym (ap (λ 
 
 -- the lower side, by the flow turned round
 pub lower_side : (m : Parts) (r : Row) (up down sum above l f g : Fraction) (bound : ℕ) (p : Passed Fraction) → above ≡ sum +ℚ up *ℚ (l -ℚ f) → l ≡ most_flow m r → f ≡ flow m (empty m) r → g ≡ neg_ℚ f
-    → IsSideRefusal above down l g bound p → IsLimitRefusal m r up down sum bound p
+    → IsSideRefusal above down l g bound p → IsRowStepRefusal m r up down sum bound p
 lower_side m r up down sum above l f g bound p first is flows turned h =
     in_lower
     (subst₂ (λ a b. IsSideRefusal (sum +ℚ up *ℚ (a -ℚ b)) down a (neg_ℚ b) bound p) is flows (subst₂ (λ a b. IsSideRefusal a down l b bound p) first turned h))
@@ -88,7 +90,7 @@ bus_prices_refused m d bound p (inr (r, named, (i, lt, why))) = inr (r, named, (
 module _ (m : Parts) (d : Duals Fraction) (price : ℕ → Fraction) (are : ArePricesOf m d price) (market : IsMarket m) where
   terms_same : (u : ℕ) → u < length m.units → own_terms m d price u ≡ own_terms m d (bus_price m d) u
   terms_same u lt =
-      ap (λ x. Plain x ∷ map (λ r. Product (neg_ℚ (net_shadow_price m d r)) (row_pickup m r.line r.cause)) (filter (λ r. loses m u r.cause) (rows m)))
+      ap (λ x. Plain x ∷ map (λ r. Product (neg_ℚ (net_shadow_price m d r)) (row_pickup m r.line r.cause)) (filter (λ r. loses_unit m u r.cause) (rows m)))
       (are (unit_at m u).bus (market.units u (record { row = 0; bus = 0; fixed = pos 0; up = pos 0; down = pos 0 }) lt).bus)
 
   pub own_same : (u : ℕ) → u < length m.units → own_price m d price u ≡ unit_price m d u
@@ -116,22 +118,13 @@ module _ (m : Parts) (d : Duals Fraction) where
   abbrev behind_limits : List Term
   behind_limits = reserve_left_terms m d ++ (block_terms ++ offer_terms)
 
-  farkas_terms_are : farkas_terms m d ≡ left_terms m d ++ behind_limits
-  farkas_terms_are = append_assoc (nothing_terms m d) block_terms offer_terms ∙ append_assoc (left_terms m d) (reserve_left_terms m d) (block_terms ++ offer_terms)
-
   -- ---- the price of energy by the balance
   pub energy_refused : (b : Fraction) (bound : ℕ) (p : Passed Fraction) → b ≡ balance m (empty m) → IsRefusal Times d.energy b bound p → IsBoundRefusal m d bound p
   energy_refused b bound p is h =
       in_bound
-      (_, farkas_bound_of_all, product_at (farkas_terms m d) [] (flat_map (limit_terms m d) (rows m) ++ behind_limits) energy_term farkas_terms_are bound p d.energy b (ap (Product d.energy) (sym is)) refl h)
+      (_, farkas_bound_of_all, product_at (farkas_terms m d) [] (flat_map (limit_terms m d) (rows m) ++ behind_limits) energy_term (farkas_terms-parts m d) bound p d.energy b (ap (Product d.energy) (sym is)) refl h)
 
   -- ---- the limits
-  -- a row without prices makes nothing
-  unnamed : (r : Row) → names_row d.limits (row_id m r) ≡ false → left r ≡ whole (pos 0)
-  unnamed r h =
-      ap₂ (λ u v. u *ℚ (most_flow m r -ℚ flow m (empty m) r) +ℚ (v *ℚ (most_flow m r +ℚ flow m (empty m) r) +ℚ whole (pos 0))) (up_unnamed d.limits (row_id m r) h) (down_unnamed d.limits (row_id m r) h)
-      ∙ by_ring ring_ℚ (most_flow m r ∷ flow m (empty m) r ∷ []) (pnil ⊗ (at 0 ⊕ pneg (at 1)) ⊕ (pnil ⊗ (at 0 ⊕ at 1) ⊕ pnil)) pnil refl
-
   -- what the price of energy makes, with the first rows that duals name
   abbrev pub limits_to : ℕ → Fraction
   limits_to k = d.energy *ℚ balance m (empty m) +ℚ sum_by left (take k (named_rows m d))
@@ -139,10 +132,8 @@ module _ (m : Parts) (d : Duals Fraction) where
   pub limits_none : (s : Fraction) → s ≡ d.energy *ℚ balance m (empty m) → s ≡ limits_to 0
   limits_none s e = e ∙ sym (+ℚ_nil (d.energy *ℚ balance m (empty m)))
 
-  pub limits_all : (k : ℕ) → length (named_rows m d) ≤ k → limits_to k ≡ total (left_terms m d)
-  limits_all k h =
-      ap (λ t. d.energy *ℚ balance m (empty m) +ℚ t)
-      (ap (sum_by left) (take_all k (named_rows m d) h) ∙ sym (sum_named m d left (rows m) unnamed) ∙ sym (total-flat_map (limit_terms m d) (rows m)))
+  pub limits_all : (k : ℕ) → length (named_rows m d) ≤ k → limits_to k ≡ total (energy_left_terms m d)
+  limits_all k h = ap (λ (rs : List Row). d.energy *ℚ balance m (empty m) +ℚ sum_by left rs) (take_all k (named_rows m d) h) ∙ sym (energy_left-by_named m d)
 
   -- what the two prices of a row make, one added behind the other
   pub sides_sum : (r : Row) (up down sum above more l f g : Fraction) → up_of m d r ≡ up → down_of m d r ≡ down → l ≡ most_flow m r → f ≡ flow m (empty m) r → g ≡ neg_ℚ f → above ≡ sum +ℚ up *ℚ (l -ℚ f)
@@ -189,7 +180,7 @@ module _ (m : Parts) (d : Duals Fraction) where
 
       split : farkas_terms m d ≡ front ++ (limit_terms m d r ++ rest)
       split =
-          farkas_terms_are
+          (farkas_terms-parts m d)
           ∙ ap (λ (rs : List Row). energy_term ∷ (flat_map (limit_terms m d) rs ++ behind_limits)) (round.2 ∙ ap (λ (t : Row). round.0 ++ t ∷ round.1) (sym h.at))
           ∙ ap (λ ts. energy_term ∷ (ts ++ behind_limits)) (flat_map-append (limit_terms m d) round.0 (r ∷ round.1))
           ∙ ap (λ ts. energy_term ∷ ts) (append_assoc (flat_map (limit_terms m d) round.0) (limit_terms m d r ++ flat_map (limit_terms m d) round.1) behind_limits)
@@ -197,7 +188,7 @@ module _ (m : Parts) (d : Duals Fraction) where
       sum_is : sum ≡ total front
       sum_is =
           before
-          ∙ sym (ap (λ t. d.energy *ℚ balance m (empty m) +ℚ t) (total-flat_map (limit_terms m d) round.0 ∙ sum_named m d left round.0 unnamed ∙ ap (sum_by left) round.3))
+          ∙ sym (ap (λ t. d.energy *ℚ balance m (empty m) +ℚ t) (total-flat_map (limit_terms m d) round.0 ∙ sum_named m d left round.0 (limit_unnamed m d) ∙ ap (sum_by left) round.3))
 
       added : IsRefusedIn (farkas_terms m d) bound p → IsBoundRefusal m d bound p
       added why = in_bound (_, farkas_bound_of_all, why)
@@ -222,7 +213,7 @@ module _ (m : Parts) (d : Duals Fraction) where
       lower_refused (inr c) = added
           (share_at (farkas_terms m d) (front ++ above ∷ []) rest below second bound p (sum +ℚ e.up *ℚ room_above) e.down (most_flow m r -ℚ neg_ℚ (flow m (empty m) r)) (ap₂ Product h.down (sym turned_back)) with_above c)
 
-      pub limit_refused : IsLimitRefusal m r e.up e.down sum bound p → IsBoundRefusal m d bound p
+      pub limit_refused : IsRowStepRefusal m r e.up e.down sum bound p → IsBoundRefusal m d bound p
       limit_refused (in_row_flow (inl (terms, part, c))) = in_flow (terms, flow_in_limits terms (limited_row r terms h.row part), c)
       limit_refused (in_row_flow (inr (terms, part, c))) = in_factor (r, named_here, (terms, factor_of_pickup terms part, c))
       limit_refused (in_row_most c) = in_most r named_here (of_most c)
@@ -239,28 +230,13 @@ module _ (m : Parts) (d : Duals Fraction) where
   abbrev behind_rooms : List Term
   behind_rooms = block_terms ++ offer_terms
 
-  module _ (listed : m.reserve.listed ≡ true) where
-    need_is : need_terms m d ≡ Product d.reserve (neg_ℚ (reserve_need m)) ∷ []
-    need_is = ap (λ (b : Bool). if b then Product d.reserve (neg_ℚ (reserve_need m)) ∷ [] else []) listed
-
-    pub need_made : (old new : Fraction) → old ≡ total (left_terms m d) → new ≡ old +ℚ d.reserve *ℚ neg_ℚ (reserve_need m) → new ≡ total (left_terms m d ++ need_terms m d)
-    need_made old new before e =
-        e ∙ ap₂ ◌+ℚ◌ before (sym (+ℚ_nil (d.reserve *ℚ neg_ℚ (reserve_need m))))
-        ∙ sym (total-append (left_terms m d) (Product d.reserve (neg_ℚ (reserve_need m)) ∷ []))
-        ∙ ap (λ ts. total (left_terms m d ++ ts)) (sym need_is)
-
-    pub need_refused : (sum : Fraction) (bound : ℕ) (p : Passed Fraction) → sum ≡ total (left_terms m d) → IsShareRefusal sum d.reserve (neg_ℚ (reserve_need m)) bound p → IsBoundRefusal m d bound p
-    need_refused sum bound p before h = in_bound (
-      _,
-      farkas_bound_of_all,
-      share_at (farkas_terms m d) (left_terms m d) (room_terms ++ behind_rooms) (Product d.reserve (neg_ℚ (reserve_need m)))
-          (farkas_terms_are ∙ ap (λ ts. left_terms m d ++ ((ts ++ room_terms) ++ behind_rooms)) need_is)
-          bound p sum d.reserve (neg_ℚ (reserve_need m)) refl before h,
-    )
+  pub need_refused : m.reserve.listed ≡ true → (sum : Fraction) (bound : ℕ) (p : Passed Fraction) → sum ≡ total (energy_left_terms m d) → IsShareRefusal sum d.reserve (neg_ℚ (reserve_need m)) bound p
+      → IsBoundRefusal m d bound p
+  need_refused listed sum bound p before h = in_bound (_, farkas_bound_of_all, need_refused_in_terms m d listed sum bound p before h)
 
   -- ---- the rooms
   abbrev before_rooms : List Term
-  before_rooms = left_terms m d ++ need_terms m d
+  before_rooms = energy_left_terms m d ++ need_terms m d
 
   abbrev rooms_before : ℕ → List Term
   rooms_before k = map room_term (filter (offers_reserve m) (places k))
@@ -273,7 +249,7 @@ module _ (m : Parts) (d : Duals Fraction) where
   rooms_none s e = e ∙ sym (+ℚ_nil (total before_rooms))
 
   nothing_is : nothing_terms m d ≡ before_rooms ++ room_terms
-  nothing_is = sym (append_assoc (left_terms m d) (need_terms m d) room_terms)
+  nothing_is = sym (append_assoc (energy_left_terms m d) (need_terms m d) room_terms)
 
   pub rooms_all : rooms_to (length m.units) ≡ total (nothing_terms m d)
   rooms_all = sym (total-append before_rooms room_terms) ∙ ap total (sym nothing_is)

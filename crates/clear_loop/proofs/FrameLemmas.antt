@@ -11,12 +11,12 @@ use Rattle.market_system.proofs.FrameLaws.{law_of_the_frame}
 use Rattle.market_dict.proofs.HoldingLaws.{holds_in_frame}
 use Rattle.clear_loop.specs.Keeping.{AreListed, IsStartOf}
 use Rattle.clear_loop.specs.Laws.{LawOfTheStart}
-use Rattle.clear_loop.specs.declared.hand.Taken.{Taken}
+use Rattle.clear_loop.specs.declared.hand.TakenInOrder.{TakenInOrder}
 
-listed_moved : (m n : Parts) (t : Taken) → SameFrame m n → AreListed m t → AreListed n t
+listed_moved : (m n : Parts) (t : TakenInOrder) → SameFrame m n → AreListed m t → AreListed n t
 listed_moved m n t same are = record { rows = are.rows; names = are.names ∙ ap (λ (f : Row → RowId). map f t.rows) (law_of_the_frame m n (rows_alone t.rows) same).0.ids }
 
-moved : (m n : Parts) (t : Taken) (start : Option Dictionary) → SameFrame m n → IsStartOf m t start → IsStartOf n t start
+moved : (m n : Parts) (t : TakenInOrder) (start : Option Dictionary) → SameFrame m n → IsStartOf m t start → IsStartOf n t start
 moved m n t None same is = is
 moved m n t (Some d) same is = (holds_in_frame m n t.takings d same is.0, listed_moved m n t same is.1)
 

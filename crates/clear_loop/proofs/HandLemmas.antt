@@ -24,7 +24,7 @@ use Rattle.market_dict.proofs.TakingLists.{limits-limit, limits-room, rooms-limi
 use Rattle.clear_loop.specs.Growing.{Grown, GrowsByOne, IsNew, IsPassed}
 use Rattle.clear_loop.specs.Keeping.{AreListed}
 use Rattle.clear_loop.specs.Rounds.{IsInHand}
-use Rattle.clear_loop.specs.declared.hand.Taken.{Taken}
+use Rattle.clear_loop.specs.declared.hand.TakenInOrder.{TakenInOrder}
 use Rattle.clear_loop.proofs.CountLemmas.{no_longer}
 
 -- ---- one limit or room more
@@ -82,20 +82,20 @@ pub pushed : {X T E : Type 0} (old new : List X) (x : X) (r : Result T E) → Ma
 pushed old new x (Ok u) is = is
 pushed old new x (Err e) is = tt
 
-pub listed_limit : (m : Parts) (old new : Taken) (r : Row) → AreListed m old → new.takings ≡ old.takings ++ Limit r ∷ [] → new.rows ≡ old.rows ++ r ∷ [] → new.names ≡ old.names ++ row_id m r ∷ [] → AreListed m new
+pub listed_limit : (m : Parts) (old new : TakenInOrder) (r : Row) → AreListed m old → new.takings ≡ old.takings ++ Limit r ∷ [] → new.rows ≡ old.rows ++ r ∷ [] → new.names ≡ old.names ++ row_id m r ∷ [] → AreListed m new
 listed_limit m old new r are grown more named = record {
   rows = more ∙ ap (λ (rs : List Row). rs ++ r ∷ []) are.rows ∙ sym (limits-limit old.takings r) ∙ ap limits_of (sym grown);
   names = named ∙ ap (λ (ns : List RowId). ns ++ row_id m r ∷ []) are.names ∙ sym (map-append (row_id m) old.rows (r ∷ [])) ∙ ap (map (row_id m)) (sym more);
 }
 
-pub listed_room : (m : Parts) (old new : Taken) (u : ℕ) → AreListed m old → new.takings ≡ old.takings ++ Room u ∷ [] → new.rows ≡ old.rows → new.names ≡ old.names → AreListed m new
+pub listed_room : (m : Parts) (old new : TakenInOrder) (u : ℕ) → AreListed m old → new.takings ≡ old.takings ++ Room u ∷ [] → new.rows ≡ old.rows → new.names ≡ old.names → AreListed m new
 listed_room m old new u are grown same named = record {
   rows = same ∙ are.rows ∙ sym (limits-room old.takings u) ∙ ap limits_of (sym grown);
   names = named ∙ are.names ∙ ap (map (row_id m)) (sym same);
 }
 
 module _ {N : Type 0} (worth : N → Fraction) (m : Parts) where
-  pub hand_grown : (new : Taken) (more : List Taking) (warm : Option Dictionary) (d : Dictionary) (posing : PricesAndBounds N) → new.takings ≡ more → AreListed m new
+  pub hand_grown : (new : TakenInOrder) (more : List Taking) (warm : Option Dictionary) (d : Dictionary) (posing : PricesAndBounds N) → new.takings ≡ more → AreListed m new
       → warm ≡ Some d → HoldsMarket m more d → ArePricesAndBounds worth m more posing → IsInHand worth m (record { warm = warm; posing = posing; taken = new })
   hand_grown new more warm d posing grown listed is holds are = record {
     start = (d, is, subst (λ (us : List Taking). HoldsMarket m us d) (sym grown) holds);

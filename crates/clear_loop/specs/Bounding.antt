@@ -1,28 +1,16 @@
--- The bound of duals in its parts, and which operations are refused where it is made.
-use Rattle.std.specs.Prelude.{◌⊎◌, ℕ, List, [], ◌∷◌, Contains, if◌then◌else◌}
-use Rattle.std.specs.List.{flat_map}
+-- Which operations are refused where the bound of duals is made.
+use Rattle.std.specs.Prelude.{◌⊎◌, ℕ, Contains}
 use Rattle.fraction_theory.specs.Fraction.{Fraction, neg_ℚ, ◌+ℚ◌, ◌-ℚ◌, ◌*ℚ◌}
-use Rattle.fraction_theory.specs.Sums.{Term, Product}
 use Rattle.exact_fraction.specs.declared.Op.TheVariants.{Plus, Minus}
 use Rattle.exact_fraction.specs.declared.Passed.{Passed}
 use Rattle.market_model.specs.declared.answered.Duals.{Duals}
 use Rattle.market_model.specs.declared.limits.Row.{Row}
 use Rattle.market_model.specs.declared.participants.Parts.{Parts}
-use Rattle.market_model.specs.Dispatch.{balance, empty}
-use Rattle.market_model.specs.Infeasibility.{limit_terms}
-use Rattle.market_model.specs.LimitRows.{carried, flow, limit, most_excess, most_flow, rows}
+use Rattle.market_model.specs.Dispatch.{empty}
+use Rattle.market_model.specs.LimitRows.{carried, flow, limit, most_excess, most_flow}
 use Rattle.market_model.specs.NamedSums.{IsRefusal, IsShareRefusal}
 use Rattle.market_model.specs.Optimality.{named_rows}
-use Rattle.market_model.specs.Reserves.{reserve_need}
 use Rattle.market_model.specs.SumTables.{IsFactorRefusal, IsFlowRefusal, IsRefusedAmong, BoundSum, FlowSum, PriceSum, WorthSum}
-
--- what nothing accepted makes of the balance at the price of energy, and of what its flows leave at the prices of rows
-abbrev pub left_terms : Parts → Duals Fraction → List Term
-left_terms m d = Product d.energy (balance m (empty m)) ∷ flat_map (limit_terms m d) (rows m)
-
--- the need of a market with reserve, at the price of reserve and counted down
-abbrev pub need_terms : Parts → Duals Fraction → List Term
-need_terms m d = if m.reserve.listed then Product d.reserve (neg_ℚ (reserve_need m)) ∷ [] else []
 
 -- an operation refused for the most that the flow of a row may be, or for what the flow leaves of that on either side, where nothing is accepted
 pub data IsMostRefusal (m : Parts) (r : Row) (bound : ℕ) (p : Passed Fraction) : Type 0 where
@@ -46,8 +34,8 @@ abbrev pub IsSideRefusal : Fraction → Fraction → Fraction → Fraction → �
 IsSideRefusal sum price most flow bound p = IsRefusal Minus most flow bound p ⊎ IsShareRefusal sum price (most -ℚ flow) bound p
 
 -- of a row: in its flow, for the most that this may be, or on either side at these prices
-pub data IsLimitRefusal (m : Parts) (r : Row) (up down sum : Fraction) (bound : ℕ) (p : Passed Fraction) : Type 0 where
-  in_row_flow : IsFlowRefusal m (carried m (empty m)) r bound p → IsLimitRefusal m r up down sum bound p
-  in_row_most : IsRefusal Plus (limit m r) (most_excess m r) bound p → IsLimitRefusal m r up down sum bound p
-  in_upper : IsSideRefusal sum up (most_flow m r) (flow m (empty m) r) bound p → IsLimitRefusal m r up down sum bound p
-  in_lower : IsSideRefusal (sum +ℚ up *ℚ (most_flow m r -ℚ flow m (empty m) r)) down (most_flow m r) (neg_ℚ (flow m (empty m) r)) bound p → IsLimitRefusal m r up down sum bound p
+pub data IsRowStepRefusal (m : Parts) (r : Row) (up down sum : Fraction) (bound : ℕ) (p : Passed Fraction) : Type 0 where
+  in_row_flow : IsFlowRefusal m (carried m (empty m)) r bound p → IsRowStepRefusal m r up down sum bound p
+  in_row_most : IsRefusal Plus (limit m r) (most_excess m r) bound p → IsRowStepRefusal m r up down sum bound p
+  in_upper : IsSideRefusal sum up (most_flow m r) (flow m (empty m) r) bound p → IsRowStepRefusal m r up down sum bound p
+  in_lower : IsSideRefusal (sum +ℚ up *ℚ (most_flow m r -ℚ flow m (empty m) r)) down (most_flow m r) (neg_ℚ (flow m (empty m) r)) bound p → IsRowStepRefusal m r up down sum bound p

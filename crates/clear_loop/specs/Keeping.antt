@@ -13,15 +13,15 @@ use Rattle.market_dict.specs.Holding.{HoldsMarket}
 use Rattle.market_dict.specs.Takings.{limits_of}
 use Rattle.market_dict.specs.declared.taking.Taking.{Taking}
 use Rattle.market_dict.specs.declared.taking.Taking.TheVariants.{Limit, Room}
-use Rattle.clear_loop.specs.declared.hand.Taken.{Taken}
+use Rattle.clear_loop.specs.declared.hand.TakenInOrder.{TakenInOrder}
 
 -- the dictionary, and its limits and rooms in the order in which they were taken, with the names of its limits
 pub record Kept : Type 0 where
   pub dict : Option Dictionary
-  pub taken : Taken
+  pub taken : TakenInOrder
 
 -- nothing is taken
-abbrev pub untaken : Taken
+abbrev pub untaken : TakenInOrder
 untaken = record { takings = []; rows = []; names = [] }
 
 -- nothing is kept
@@ -29,12 +29,12 @@ abbrev pub cold : Kept
 cold = record { dict = None; taken = untaken }
 
 -- the rows are the limits among what is taken, with their names
-pub record AreListed (m : Parts) (t : Taken) : Type 0 where
+pub record AreListed (m : Parts) (t : TakenInOrder) : Type 0 where
   pub rows : t.rows ≡ limits_of t.takings
   pub names : t.names ≡ map (row_id m) t.rows
 
 -- a start for a market, with this taken: none where nothing is, or a dictionary that holds the market over it
-abbrev pub IsStartOf : Parts → Taken → Option Dictionary → Type 0
+abbrev pub IsStartOf : Parts → TakenInOrder → Option Dictionary → Type 0
 IsStartOf m t None = t ≡ untaken
 IsStartOf m t (Some d) = HoldsMarket m t.takings d × AreListed m t
 
@@ -80,9 +80,9 @@ taking_code = code_by (Row ⊎ ℕ) (coded⊎ row_code coded_ℕ) taking_as read
 abbrev pub name_code : Coded RowId
 name_code = code_by (ℕ × (ℕ × ℕ)) (coded× coded_ℕ (coded× coded_ℕ coded_ℕ)) (λ n. (n.branch, (n.outage, n.unit))) (λ p. record { branch = p.0; outage = p.1.0; unit = p.1.1 }) (λ _. refl)
 
-abbrev pub taken_code : Coded Taken
+abbrev pub taken_code : Coded TakenInOrder
 taken_code = code_by (List Taking × (List Row × List RowId)) (coded× (coded_list taking_code) (coded× (coded_list row_code) (coded_list name_code)))
     (λ t. (t.takings, (t.rows, t.names))) (λ p. record { takings = p.0; rows = p.1.0; names = p.1.1 }) (λ _. refl)
 
 abbrev pub kept_code : Coded Kept
-kept_code = code_by (Option Dictionary × Taken) (coded× (coded_option dictionary_code) taken_code) (λ k. (k.dict, k.taken)) (λ p. record { dict = p.0; taken = p.1 }) (λ _. refl)
+kept_code = code_by (Option Dictionary × TakenInOrder) (coded× (coded_option dictionary_code) taken_code) (λ k. (k.dict, k.taken)) (λ p. record { dict = p.0; taken = p.1 }) (λ _. refl)

@@ -6,13 +6,13 @@ ghost use Rattle.fraction_theory.specs.Fraction.{Fraction, ◌+ℚ◌, ◌-ℚ�
 ghost use Rattle.fraction_theory.specs.Sums.{total};
 ghost use Rattle.market_model.specs.declared.answered.Duals.{Duals as DualsOf};
 ghost use Rattle.market_model.specs.Dispatch.{balance, empty, places};
-ghost use Rattle.market_model.specs.Infeasibility.{farkas_bound, limit_terms};
+ghost use Rattle.market_model.specs.Infeasibility.{energy_left_terms, farkas_bound, limit_terms};
 ghost use Rattle.market_model.specs.LimitRows.{rows};
 ghost use Rattle.market_model.specs.Optimality.{ProperDuals, down_of, unit_price, up_of};
 ghost use Rattle.market_model.specs.Stops.{StopsBy};
 ghost use Rattle.market_model.specs.Valued.{duals_at, passed_at};
 ghost use Rattle.limit_screen.specs.Flows.{flows_at};
-ghost use Rattle.clear_loop.specs.Bounding.{IsBoundRefusal, IsLimitRefusal, IsSideRefusal, left_terms};
+ghost use Rattle.clear_loop.specs.Bounding.{IsBoundRefusal, IsRowStepRefusal, IsSideRefusal};
 
 use crate::bounding_reserve::{with_need, with_offers, with_rooms};
 use crate::worths::{own_prices, with_blocks};
@@ -45,7 +45,7 @@ fn with_limit<N: Exact>(
     requires row { Contains (rows market.now) row }
     requires flows { map N.value flows.now ≡ flows_at market.now (empty market.now) }
     ensures sum { (d : DualsOf Fraction) → up_of market.now d row ≡ N.value dual.now.up → down_of market.now d row ≡ N.value dual.now.down → IfOk result (λ more. N.value more ≡ N.value sum +ℚ total (limit_terms market.now d row)) }
-    ensures cause { IfErr result (λ passed. IsLimitRefusal market.now row (N.value dual.now.up) (N.value dual.now.down) (N.value sum) N.bound (passed_at N.value passed)) }
+    ensures cause { IfErr result (λ passed. IsRowStepRefusal market.now row (N.value dual.now.up) (N.value dual.now.down) (N.value sum) N.bound (passed_at N.value passed)) }
 {
     let _lines = market.lines();
     let flow = row_flow(market, carried_flows(market, flows), row)?;
@@ -64,7 +64,7 @@ fn with_limits<N: Exact>(
     requires duals { ProperDuals market.now (duals_at N.value duals.now) }
     requires flows { map N.value flows.now ≡ flows_at market.now (empty market.now) }
     requires of_energy { N.value of_energy ≡ N.value duals.now.energy *ℚ balance market.now (empty market.now) }
-    ensures sum { IfOk result (λ sum. N.value sum ≡ total (left_terms market.now (duals_at N.value duals.now))) }
+    ensures sum { IfOk result (λ sum. N.value sum ≡ total (energy_left_terms market.now (duals_at N.value duals.now))) }
     ensures cause { IfErr result (λ passed. IsBoundRefusal market.now (duals_at N.value duals.now) N.bound (passed_at N.value passed)) }
 {
     let _lines = market.lines();
@@ -80,7 +80,7 @@ fn with_limits<N: Exact>(
 fn left_of_energy<N: Exact>(market: &Market, flows: &[N], duals: &Duals<N>) -> Result<N, Passed<N>>
     requires duals { ProperDuals market.now (duals_at N.value duals.now) }
     requires flows { map N.value flows.now ≡ flows_at market.now (empty market.now) }
-    ensures sum { IfOk result (λ sum. N.value sum ≡ total (left_terms market.now (duals_at N.value duals.now))) }
+    ensures sum { IfOk result (λ sum. N.value sum ≡ total (energy_left_terms market.now (duals_at N.value duals.now))) }
     ensures cause { IfErr result (λ passed. IsBoundRefusal market.now (duals_at N.value duals.now) N.bound (passed_at N.value passed)) }
 {
     let all = balance(market, bus_injections(market, flows))?;
@@ -96,7 +96,7 @@ fn with_reserve<N: Exact>(
     duals: &Duals<N>,
     own: &[N],
 ) -> Result<N, Passed<N>>
-    requires of_energy { N.value of_energy ≡ total (left_terms market.now (duals_at N.value duals.now)) }
+    requires of_energy { N.value of_energy ≡ total (energy_left_terms market.now (duals_at N.value duals.now)) }
     requires own { map N.value own.now ≡ map (unit_price market.now (duals_at N.value duals.now)) (places (length market.now.units)) }
     ensures bound { IfOk result (λ bound. N.value bound ≡ farkas_bound market.now (duals_at N.value duals.now)) }
     ensures cause { IfErr result (λ passed. IsBoundRefusal market.now (duals_at N.value duals.now) N.bound (passed_at N.value passed)) }

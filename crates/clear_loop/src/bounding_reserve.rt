@@ -4,12 +4,12 @@ ghost use Rattle.std.specs.Prelude.{◌≡◌, ◌<◌, ◌++◌, true, length, 
 ghost use Rattle.fraction_theory.specs.Fraction.{◌+ℚ◌, ◌*ℚ◌};
 ghost use Rattle.fraction_theory.specs.Sums.{total};
 ghost use Rattle.market_model.specs.Dispatch.{places, zero};
-ghost use Rattle.market_model.specs.Infeasibility.{block_most, farkas_bound, nothing_terms};
+ghost use Rattle.market_model.specs.Infeasibility.{block_most, energy_left_terms, farkas_bound, need_terms, nothing_terms};
 ghost use Rattle.market_model.specs.NamedSums.{IsShareRefusal};
 ghost use Rattle.market_model.specs.Optimality.{room_price};
 ghost use Rattle.market_model.specs.Reserves.{offers_reserve, room};
 ghost use Rattle.market_model.specs.Valued.{duals_at, passed_at};
-ghost use Rattle.clear_loop.specs.Bounding.{IsBoundRefusal, left_terms, need_terms};
+ghost use Rattle.clear_loop.specs.Bounding.{IsBoundRefusal};
 
 use crate::worths::{less_room, priced_room, with_most};
 use exact_fraction::{Exact, Passed};
@@ -21,8 +21,8 @@ pub(crate) fn with_need<N: Exact>(
     of_energy: N,
     duals: &Duals<N>,
 ) -> Result<N, Passed<N>>
-    requires { N.value of_energy ≡ total (left_terms market.now (duals_at N.value duals.now)) }
-    ensures sum { let d = duals_at N.value duals.now in IfOk result (λ sum. N.value sum ≡ total (left_terms market.now d ++ need_terms market.now d)) }
+    requires { N.value of_energy ≡ total (energy_left_terms market.now (duals_at N.value duals.now)) }
+    ensures sum { let d = duals_at N.value duals.now in IfOk result (λ sum. N.value sum ≡ total (energy_left_terms market.now d ++ need_terms market.now d)) }
     ensures cause { IfErr result (λ passed. IsBoundRefusal market.now (duals_at N.value duals.now) N.bound (passed_at N.value passed)) }
 {
     if market.reserve().listed {
@@ -62,7 +62,7 @@ pub(crate) fn with_rooms<N: Exact>(
     of_need: N,
     duals: &Duals<N>,
 ) -> Result<N, Passed<N>>
-    requires { N.value of_need ≡ total (left_terms market.now (duals_at N.value duals.now) ++ need_terms market.now (duals_at N.value duals.now)) }
+    requires { N.value of_need ≡ total (energy_left_terms market.now (duals_at N.value duals.now) ++ need_terms market.now (duals_at N.value duals.now)) }
     ensures sum { IfOk result (λ sum. N.value sum ≡ total (nothing_terms market.now (duals_at N.value duals.now))) }
     ensures cause { IfErr result (λ passed. IsBoundRefusal market.now (duals_at N.value duals.now) N.bound (passed_at N.value passed)) }
 {

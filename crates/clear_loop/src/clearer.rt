@@ -9,7 +9,7 @@ ghost use Rattle.clear_loop.specs.Keeping.{FitsFrame, Kept, cold};
 ghost use Rattle.clear_loop.specs.Rounds.{HoldsStart, IsInHand, StopsInRange};
 
 use crate::fault::ClearFault;
-use crate::hand::{Hand, Taken, started, taken_or_none};
+use crate::hand::{Hand, TakenInOrder, started, taken_or_none};
 use crate::merit::start_at_margin;
 use crate::rounds::{Ended, all_rounds};
 use dual_restart::Warm;
@@ -26,7 +26,7 @@ use std::marker::Model;
 #[derive(Drop)]
 pub struct Clearer<N: Exact> {
     warm: Warm<N>,
-    taken: Option<Taken>,
+    taken: Option<TakenInOrder>,
 }
 
 impl<N: Exact> Model for Clearer<N> {
@@ -54,7 +54,7 @@ fn unused<N: Exact>() -> Clearer<N>
 }
 
 /// A clearer that keeps a dictionary over the limits and rooms taken.
-fn keeping<N: Exact>(dict: Dict<N>, taken: Taken) -> Clearer<N>
+fn keeping<N: Exact>(dict: Dict<N>, taken: TakenInOrder) -> Clearer<N>
     requires live { dict.spent ≡ false }
     requires names { length taken.names ≡ length taken.rows }
     ensures { result ≡ record { dict = Some dict; taken = taken } }

@@ -25,7 +25,7 @@ use std::alloc::Global;
 
 /// What is taken, in the order in which it was, and the limits among it in the same order.
 #[derive(Drop)]
-pub(crate) struct Taken {
+pub(crate) struct TakenInOrder {
     pub takings: List<Taking>,
     pub rows: List<Row>,
     pub names: List<RowId>,
@@ -36,16 +36,16 @@ pub(crate) struct Taken {
 pub(crate) struct Hand<N: Exact> {
     pub warm: Warm<N>,
     pub posing: PricesAndBounds<N>,
-    pub taken: Taken,
+    pub taken: TakenInOrder,
 }
 
 /// What is taken, or nothing.
-pub(crate) fn taken_or_none(alloc: Global, taken: Option<Taken>) -> Taken
+pub(crate) fn taken_or_none(alloc: Global, taken: Option<TakenInOrder>) -> TakenInOrder
     ensures { result ≡ taken_in taken }
 {
     match taken {
         Some(taken) => taken,
-        None => Taken {
+        None => TakenInOrder {
             takings: List::new(alloc),
             rows: List::new(alloc),
             names: List::new(alloc),
@@ -64,7 +64,7 @@ pub(crate) fn started<N: Exact>(dict: Dict<N>) -> Warm<N>
 }
 
 /// Puts a limit behind what is taken.
-fn put_limit(market: &Market, taken: &mut Taken, row: Row) -> Result<(), Memory>
+fn put_limit(market: &Market, taken: &mut TakenInOrder, row: Row) -> Result<(), Memory>
     requires row { Contains (rows market.now) row }
     requires listed { AreListed market.now taken.old }
     ensures takings { IfOk result (λ _. taken.new.takings ≡ taken.old.takings ++ taking.Limit row ∷ []) }
@@ -78,7 +78,7 @@ fn put_limit(market: &Market, taken: &mut Taken, row: Row) -> Result<(), Memory>
 }
 
 /// Puts a limit or a room behind what is taken.
-fn put(market: &Market, taken: &mut Taken, taking: Taking) -> Result<(), Memory>
+fn put(market: &Market, taken: &mut TakenInOrder, taking: Taking) -> Result<(), Memory>
     requires taking { IsTaking market.now taking }
     requires listed { AreListed market.now taken.old }
     ensures takings { IfOk result (λ _. taken.new.takings ≡ taken.old.takings ++ taking ∷ []) }
@@ -115,7 +115,7 @@ pub(crate) fn with_taking<N: Exact>(
     market: &Market,
     dict: Dict<N>,
     posing: PricesAndBounds<N>,
-    taken: Taken,
+    taken: TakenInOrder,
     taking: Taking,
 ) -> Result<Hand<N>, Stop<N>>
     requires holds { HoldsMarket market.now taken.takings dict }

@@ -18,7 +18,7 @@ ghost use Rattle.clear_loop.specs.Rounds.{KeepsAll, HoldsStart, IsEnded, IsInHan
 
 use crate::answering::answer_of;
 use crate::bounding::farkas_bound;
-use crate::hand::{Hand, Taken, with_taking};
+use crate::hand::{Hand, TakenInOrder, with_taking};
 use crate::screen::{Screened, screened_at};
 use dual_restart::Warm;
 use exact_fraction::Exact;
@@ -32,7 +32,7 @@ use std::alloc::Global;
 #[derive(Drop)]
 pub(crate) struct Ended<N: Exact> {
     pub dict: Dict<N>,
-    pub taken: Taken,
+    pub taken: TakenInOrder,
     pub answer: Result<Answer<N>, Farkas<N>>,
 }
 
@@ -88,7 +88,7 @@ fn answered<N: Exact>(
     alloc: Global,
     market: &Market,
     dict: Dict<N>,
-    taken: Taken,
+    taken: TakenInOrder,
     dispatch: List<N>,
     reserve: List<N>,
     flows: &[N],
@@ -117,7 +117,7 @@ fn after_best<N: Exact>(
     market: &Market,
     dict: Dict<N>,
     posing: PricesAndBounds<N>,
-    taken: Taken,
+    taken: TakenInOrder,
     dispatch: List<N>,
     reserve: List<N>,
 ) -> Result<Round<N>, Stop<N>>

@@ -52,16 +52,16 @@ fn factor_of_units(places: FactorPlaces, units: i64) -> Option<i64>
 
 /// The factor in the third cell of a record, in 10^-9.
 #[tactic(auto, unfolding(crate::specs::Records::factor_cell))]
-fn factor_of(table: &Table, row: usize, places: FactorPlaces) -> Result<i64, TableFault>
-    requires { (row < length table.now) × (row + 2 < 2 ^ 64) }
+fn factor_of(table: &Table, place: usize, places: FactorPlaces) -> Result<i64, TableFault>
+    requires { (place < length table.now) × (place + 2 < 2 ^ 64) }
     ensures size { IfOk result (λ factor. unsigned_abs factor ≤ most_factor) }
-    ensures is { result ≡ factor_cell places (row + 2) (get_or table.now row []) }
+    ensures is { result ≡ factor_cell places (place + 2) (get_or table.now place []) }
 {
-    let units = table.number(row, 2, places.count())?;
+    let units = table.number(place, 2, places.count())?;
     match factor_of_units(places, units) {
         Some(factor) => Ok(factor),
         None => Err(TableFault::Frame(FrameFault::Cell {
-            line: row + 2,
+            line: place + 2,
             col: 3,
             why: Why::Bounds,
         })),
@@ -72,58 +72,58 @@ fn factor_of(table: &Table, row: usize, places: FactorPlaces) -> Result<i64, Tab
 #[tactic(auto, unfolding(crate::specs::Records::record_in))]
 pub(crate) fn record_of(
     table: &Table,
-    row: usize,
+    place: usize,
     places: FactorPlaces,
 ) -> Result<FactorRecord, TableFault>
-    requires { (row < length table.now) × (row + 2 < 2 ^ 64) }
+    requires { (place < length table.now) × (place + 2 < 2 ^ 64) }
     ensures read { IfOk result FactorIsRead }
-    ensures is { result ≡ record_in places (row + 2) (get_or table.now row []) }
+    ensures is { result ≡ record_in places (place + 2) (get_or table.now place []) }
 {
-    let branch = table.number(row, 0, 0)?;
-    let of = table.number(row, 1, 0)?;
-    let factor = factor_of(table, row, places)?;
+    let branch = table.number(place, 0, 0)?;
+    let of = table.number(place, 1, 0)?;
+    let factor = factor_of(table, place, places)?;
     Ok(FactorRecord { branch, of, factor })
 }
 
 /// The numbers of a record of the table of offsets.
 #[tactic(auto, unfolding(crate::specs::Records::offset_in))]
-pub(crate) fn offset_of(table: &Table, row: usize) -> Result<OffsetRecord, TableFault>
-    requires { (row < length table.now) × (row + 2 < 2 ^ 64) }
+pub(crate) fn offset_of(table: &Table, place: usize) -> Result<OffsetRecord, TableFault>
+    requires { (place < length table.now) × (place + 2 < 2 ^ 64) }
     ensures read { IfOk result OffsetIsRead }
-    ensures is { result ≡ offset_in (row + 2) (get_or table.now row []) }
+    ensures is { result ≡ offset_in (place + 2) (get_or table.now place []) }
 {
-    let branch = table.number(row, 0, 0)?;
-    let mw = table.number(row, 1, MW_PLACES)?;
+    let branch = table.number(place, 0, 0)?;
+    let mw = table.number(place, 1, MW_PLACES)?;
     Ok(OffsetRecord { branch, mw })
 }
 
 /// Whether the second cell of a record of penalties names the limit after an outage, or that in the base.
 #[tactic(auto, unfolding(crate::specs::Records::post_in))]
-fn post_of(table: &Table, row: usize) -> Result<bool, TableFault>
-    requires { (row < length table.now) × (row + 2 < 2 ^ 64) }
-    ensures { result ≡ post_in (row + 2) (get_or table.now row []) }
+fn post_of(table: &Table, place: usize) -> Result<bool, TableFault>
+    requires { (place < length table.now) × (place + 2 < 2 ^ 64) }
+    ensures { result ≡ post_in (place + 2) (get_or table.now place []) }
 {
-    let kind = table.cell(row, 1);
+    let kind = table.cell(place, 1);
     if kind == b"base".as_slice() {
         Ok(false)
     } else if kind == b"post".as_slice() {
         Ok(true)
     } else {
-        Err(TableFault::Kind { line: row + 2 })
+        Err(TableFault::Kind { line: place + 2 })
     }
 }
 
 /// Which limit a record of the table of penalties names, and then its numbers.
 #[tactic(auto, unfolding(crate::specs::Records::penalty_in))]
-pub(crate) fn penalty_of(table: &Table, row: usize) -> Result<PenaltyRecord, TableFault>
-    requires { (row < length table.now) × (row + 2 < 2 ^ 64) }
+pub(crate) fn penalty_of(table: &Table, place: usize) -> Result<PenaltyRecord, TableFault>
+    requires { (place < length table.now) × (place + 2 < 2 ^ 64) }
     ensures read { IfOk result PenaltyIsRead }
-    ensures is { result ≡ penalty_in (row + 2) (get_or table.now row []) }
+    ensures is { result ≡ penalty_in (place + 2) (get_or table.now place []) }
 {
-    let post = post_of(table, row)?;
-    let branch = table.number(row, 0, 0)?;
-    let price = table.number(row, 2, PRICE_PLACES)?;
-    let excess = table.number(row, 3, MW_PLACES)?;
+    let post = post_of(table, place)?;
+    let branch = table.number(place, 0, 0)?;
+    let price = table.number(place, 2, PRICE_PLACES)?;
+    let excess = table.number(place, 3, MW_PLACES)?;
     Ok(PenaltyRecord {
         branch,
         post,

@@ -92,20 +92,20 @@ fn entry_of(
     column: Column,
     done: &Pairs,
     table: &Table,
-    row: usize,
+    place: usize,
     places: FactorPlaces,
 ) -> Result<((u32, u32), i64), TableFault>
-    requires { (row < length table.now) × (row + 2 < 2 ^ 64) }
+    requires { (place < length table.now) × (place + 2 < 2 ^ 64) }
     ensures new { IfOk result (λ entry. has_pair done.now.by_pair.entries entry.0 ≡ false) }
     ensures size { IfOk result (λ entry. unsigned_abs entry.1 ≤ most_factor) }
     ensures row { IfOk result (λ entry. marked_row column entry.0 ≤ network.now.branch_rows) }
-    ensures is { result ≡ entry_in places network.now column done.now.by_pair.entries (row + 2) (get_or table.now row []) }
+    ensures is { result ≡ entry_in places network.now column done.now.by_pair.entries (place + 2) (get_or table.now place []) }
 {
-    let numbers = record_of(table, row, places)?;
-    check_names(network, column, numbers, row + 2)?;
+    let numbers = record_of(table, place, places)?;
+    check_names(network, column, numbers, place + 2)?;
     let pair = (numbers.branch as u32, numbers.of as u32);
     if done.has(pair) {
-        return Err(TableFault::Twice { line: row + 2 });
+        return Err(TableFault::Twice { line: place + 2 });
     }
     Ok((pair, numbers.factor))
 }
@@ -123,8 +123,8 @@ fn pairs_of(
     ensures err { IfErr result (λ fault. fault ≢ TableFault.Memory → read_rows (entry_in places network.now column) [] 2 table.now ≡ Err fault) }
 {
     let mut pairs = Pairs::new(alloc, network.branch_rows(), table.len())?;
-    for row in 0..table.len() {
-        let (pair, factor) = entry_of(network, column, &pairs, table, row, places)?;
+    for place in 0..table.len() {
+        let (pair, factor) = entry_of(network, column, &pairs, table, place, places)?;
         pairs.add(pair, factor, marked_row(column, pair))?;
     }
     Ok(pairs)

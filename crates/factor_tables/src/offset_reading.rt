@@ -50,18 +50,18 @@ fn entry_of(
     network: &Network,
     done: &IndexMap<u32, i64>,
     table: &Table,
-    row: usize,
+    place: usize,
 ) -> Result<(u32, i64), TableFault>
-    requires { (row < length table.now) × (row + 2 < 2 ^ 64) }
+    requires { (place < length table.now) × (place + 2 < 2 ^ 64) }
     ensures new { IfOk result (λ entry. has_offset done.now.entries entry.0 ≡ false) }
     ensures datum { IfOk result (λ entry. IsDatum entry.1) }
-    ensures is { result ≡ offset_entry network.now done.now.entries (row + 2) (get_or table.now row []) }
+    ensures is { result ≡ offset_entry network.now done.now.entries (place + 2) (get_or table.now place []) }
 {
-    let numbers = offset_of(table, row)?;
-    check_offset(network, numbers, row + 2)?;
+    let numbers = offset_of(table, place)?;
+    check_offset(network, numbers, place + 2)?;
     let branch = numbers.branch as u32;
     if has_record(done, branch) {
-        return Err(TableFault::Twice { line: row + 2 });
+        return Err(TableFault::Twice { line: place + 2 });
     }
     Ok((branch, numbers.mw))
 }
@@ -77,8 +77,8 @@ fn entries_of(
     ensures err { IfErr result (λ fault. fault ≢ TableFault.Memory → read_rows (offset_entry network.now) [] 2 table.now ≡ Err fault) }
 {
     let mut by_row = IndexMap::new(alloc);
-    for row in 0..table.len() {
-        let (branch, mw) = entry_of(network, &by_row, table, row)?;
+    for place in 0..table.len() {
+        let (branch, mw) = entry_of(network, &by_row, table, place)?;
         if by_row.insert(branch, mw).is_err() {
             return Err(TableFault::Memory);
         }

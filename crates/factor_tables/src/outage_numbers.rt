@@ -23,8 +23,8 @@ fn numbers_of(alloc: Global, table: &Table) -> Result<List<i64>, TableFault>
     ensures is { result ≢ Err TableFault.Memory → result ≡ read_rows outage_number [] 2 table.now }
 {
     let mut numbers = List::new(alloc);
-    for row in 0..table.len() {
-        let number = table.number(row, 0, 0)?;
+    for place in 0..table.len() {
+        let number = table.number(place, 0, 0)?;
         numbers.push(number)?;
     }
     Ok(numbers)

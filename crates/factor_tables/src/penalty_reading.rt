@@ -74,18 +74,18 @@ fn entry_of(
     network: &Network,
     done: &IndexMap<(u32, bool), Penalty>,
     table: &Table,
-    row: usize,
+    place: usize,
 ) -> Result<((u32, bool), Penalty), TableFault>
-    requires { (row < length table.now) × (row + 2 < 2 ^ 64) }
+    requires { (place < length table.now) × (place + 2 < 2 ^ 64) }
     ensures new { IfOk result (λ entry. has_penalty done.now.entries entry.0 ≡ false) }
     ensures kept { IfOk result (λ entry. GivesWay entry.1) }
-    ensures is { result ≡ penalty_entry network.now done.now.entries (row + 2) (get_or table.now row []) }
+    ensures is { result ≡ penalty_entry network.now done.now.entries (place + 2) (get_or table.now place []) }
 {
-    let numbers = penalty_of(table, row)?;
-    check_penalty(network, numbers, row + 2)?;
+    let numbers = penalty_of(table, place)?;
+    check_penalty(network, numbers, place + 2)?;
     let limit = (numbers.branch as u32, numbers.post);
     if has_record(done, limit) {
-        return Err(TableFault::Twice { line: row + 2 });
+        return Err(TableFault::Twice { line: place + 2 });
     }
     Ok((limit, numbers.penalty))
 }
@@ -101,8 +101,8 @@ fn entries_of(
     ensures err { IfErr result (λ fault. fault ≢ TableFault.Memory → read_rows (penalty_entry network.now) [] 2 table.now ≡ Err fault) }
 {
     let mut by_limit = IndexMap::new(alloc);
-    for row in 0..table.len() {
-        let (limit, penalty) = entry_of(network, &by_limit, table, row)?;
+    for place in 0..table.len() {
+        let (limit, penalty) = entry_of(network, &by_limit, table, place)?;
         if by_limit.insert(limit, penalty).is_err() {
             return Err(TableFault::Memory);
         }

@@ -22,7 +22,7 @@ use Rattle.limit_rows.proofs.FactorLemmas.{outage_stands}
 use Rattle.market_model.proofs.LostLemmas.{place_at, row_at, row-of_outage}
 use Rattle.limit_rows.proofs.GroupLemmas.{length-map, rows-causes}
 use Rattle.market_model.proofs.RowMembers.{lost_unit-in, row_on}
-use Rattle.limit_rows.specs.Naming.{Loses}
+use Rattle.limit_rows.specs.Naming.{IsCauseNamed}
 
 -- ---- lists whose elements are apart
 AllPairs-append : {X : Type 0} (R : X → X → Type 0) (xs ys : List X) → AllPairs R xs → AllPairs R ys → All (λ x. All (R x) ys) xs → AllPairs R (xs ++ ys)
@@ -82,7 +82,7 @@ module _ (m : Parts) (market : IsMarket m) where
 -- ---- names
 -- causes lose the same branch and the same unit, or none
 abbrev pub SameLoss : Parts → Cause → Cause → Type 0
-SameLoss m g h = Loses m g (outage_of m h) (unit_of m h)
+SameLoss m g h = IsCauseNamed m g (outage_of m h) (unit_of m h)
 
 abbrev Differ : Parts → Row → Row → Type 0
 Differ m r s = row_id m r ≢ row_id m s

@@ -9,6 +9,7 @@ pub mod FactorLemmas
 pub mod FlowSteps
 pub mod PositionLemmas
 pub mod NameLemmas
+pub mod NamedLimits
 pub mod TestMarkets
 pub mod WalkLemmas
 pub mod WholeLemmas

@@ -21,7 +21,7 @@ use Rattle.market_model.specs.declared.limits.Cause.TheVariants.{Base, Branch, U
 use Rattle.market_model.specs.declared.limits.Row.{Row}
 use Rattle.market_model.specs.declared.participants.Parts.{Parts}
 use Rattle.market_model.specs.Dispatch.{unit_at}
-use Rattle.market_model.specs.LimitRows.{loses, lost_unit, pickup_factor, pickup_terms, row_factor, shift_factor, taker_factor, taker_terms, unit_factor, unit_factor_under}
+use Rattle.market_model.specs.LimitRows.{loses_unit, lost_unit, pickup_factor, pickup_terms, row_factor, shift_factor, taker_factor, taker_terms, unit_factor, unit_factor_under}
 
 -- a factor of 0
 pub no_factor : over (pos 0) factor_one ≡ whole (pos 0)
@@ -109,10 +109,10 @@ module _ (front rest : List Term) (bound : ℕ) (p : Passed Fraction) where
 
 -- ---- the factor of a unit
 module _ (m : Parts) (r : Row) (u : ℕ) where
-  pub factor_not_lost : loses m u r.cause ≡ false → row_factor m r (unit_at m u).bus ≡ unit_factor m r u
+  pub factor_not_lost : loses_unit m u r.cause ≡ false → row_factor m r (unit_at m u).bus ≡ unit_factor m r u
   factor_not_lost none = by r.cause none
     where
-      by : (c : Cause) → loses m u c ≡ false → row_factor m r (unit_at m u).bus ≡ unit_factor_under m r.line c u (row_factor m r (unit_at m u).bus)
+      by : (c : Cause) → loses_unit m u c ≡ false → row_factor m r (unit_at m u).bus ≡ unit_factor_under m r.line c u (row_factor m r (unit_at m u).bus)
       by Base e = refl
       by (Branch k) e = refl
       by (UnitOutage k) e = Prim.rw e refl

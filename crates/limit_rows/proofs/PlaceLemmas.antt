@@ -21,7 +21,7 @@ use Rattle.market_model.specs.declared.limits.Cause.{Cause}
 use Rattle.market_model.specs.LimitRows.{outage_of, unit_of, place_of_line, row_id, rows, bears, causes, lost_lines, lost_unit}
 use Rattle.market_model.proofs.ChangeLemmas.{same_default}
 use Rattle.market_model.proofs.RowMembers.{Contains-map, Contains-from_map, Contains-places, cause_from, row_parts}
-use Rattle.limit_rows.specs.Naming.{Loses, has_name}
+use Rattle.limit_rows.specs.Naming.{IsCauseNamed, has_name}
 use Rattle.limit_rows.proofs.ApartLemmas.{names_apart, same_cause}
 use Rattle.market_model.proofs.LostLemmas.{place_at, place-own, row-of_outage}
 
@@ -29,9 +29,9 @@ pub listed : {X : Type 0} (xs : List X) (k : ℕ) (x : X) → slice_get xs k ≡
 listed xs k x e = (k, slice_get_within xs k x e, get_or_from_slice_get xs k x x e)
 
 -- ---- rows by causes
-pub none_of_loss : (m : Parts) (name : RowId) → All (λ cause. ¬ (Loses m cause name.outage name.unit)) (causes m) → (r : Row) → Contains (rows m) r → row_id m r ≢ name
+pub none_of_loss : (m : Parts) (name : RowId) → All (λ cause. ¬ (IsCauseNamed m cause name.outage name.unit)) (causes m) → (r : Row) → Contains (rows m) r → row_id m r ≢ name
 none_of_loss m name none r c =
-    λ e. All-contains (λ cause. ¬ (Loses m cause name.outage name.unit)) (causes m) r.cause none (row_parts m r c).group
+    λ e. All-contains (λ cause. ¬ (IsCauseNamed m cause name.outage name.unit)) (causes m) r.cause none (row_parts m r c).group
     (record { branch = ap (λ (n : RowId). n.outage) e; unit = ap (λ (n : RowId). n.unit) e })
 
 -- ---- causes by what they lose
@@ -49,7 +49,7 @@ module _ (m : Parts) (market : IsMarket m) where
       subst (Contains m.outages) (sym (outage_own row.0 row.1) ∙ ap (λ (k : ℕ). (line_at m k).row) row.2) row.1
 
   -- the cause of a listed outage
-  pub of_outage : (k row : ℕ) → k < length m.outages → get_or m.outages k row ≡ row → Contains (causes m) (Branch (place_of_line m row)) × Loses m (Branch (place_of_line m row)) row 0
+  pub of_outage : (k row : ℕ) → k < length m.outages → get_or m.outages k row ≡ row → Contains (causes m) (Branch (place_of_line m row)) × IsCauseNamed m (Branch (place_of_line m row)) row 0
   of_outage k row lt e = (
     Contains-cons Base (map Branch (lost_lines m) ++ map UnitOutage (places (length m.unit_outages))) (Branch (place_of_line m row))
         (Contains-append_left (map Branch (lost_lines m)) (map UnitOutage (places (length m.unit_outages))) (Branch (place_of_line m row))
@@ -57,7 +57,7 @@ module _ (m : Parts) (market : IsMarket m) where
     record { branch = outage_own row (k, lt, e); unit = refl },
   )
 
-  pub of_unit : (k row : ℕ) → k < length m.unit_outages → (unit_at m (lost_unit m k)).row ≡ row → Contains (causes m) (UnitOutage k) × Loses m (UnitOutage k) 0 row
+  pub of_unit : (k row : ℕ) → k < length m.unit_outages → (unit_at m (lost_unit m k)).row ≡ row → Contains (causes m) (UnitOutage k) × IsCauseNamed m (UnitOutage k) 0 row
   of_unit k row lt e = (
     Contains-cons Base (map Branch (lost_lines m) ++ map UnitOutage (places (length m.unit_outages))) (UnitOutage k)
         (Contains-append_right (map Branch (lost_lines m)) (map UnitOutage (places (length m.unit_outages))) (UnitOutage k)
@@ -66,36 +66,36 @@ module _ (m : Parts) (market : IsMarket m) where
   )
 
   -- no cause of an outage that is not listed
-  pub of_no_outage : (row : ℕ) → (row ≡ 0 → ⊥) → ((k : ℕ) → k < length m.outages → get_or m.outages k 0 ≡ row → ⊥) → All (λ cause. ¬ (Loses m cause row 0)) (causes m)
-  of_no_outage row some none = all_causes m (λ cause. ¬ (Loses m cause row 0)) (λ cause c same. by (cause_from m cause c) same)
+  pub of_no_outage : (row : ℕ) → (row ≡ 0 → ⊥) → ((k : ℕ) → k < length m.outages → get_or m.outages k 0 ≡ row → ⊥) → All (λ cause. ¬ (IsCauseNamed m cause row 0)) (causes m)
+  of_no_outage row some none = all_causes m (λ cause. ¬ (IsCauseNamed m cause row 0)) (λ cause c same. by (cause_from m cause c) same)
     where
-      by : {g : Cause} → (g ≡ Base) ⊎ (((l : ℕ) × Contains (lost_lines m) l × (Branch l ≡ g)) ⊎ ((k : ℕ) × (k < length m.unit_outages) × (UnitOutage k ≡ g))) → Loses m g row 0 → ⊥
+      by : {g : Cause} → (g ≡ Base) ⊎ (((l : ℕ) × Contains (lost_lines m) l × (Branch l ≡ g)) ⊎ ((k : ℕ) × (k < length m.unit_outages) × (UnitOutage k ≡ g))) → IsCauseNamed m g row 0 → ⊥
       by (inl a) same = some (sym same.branch ∙ ap (outage_of m) a)
       by (inr (inr (k, lt, a))) same = some (sym same.branch ∙ ap (outage_of m) (sym a))
       by (inr (inl (l, c, a))) same =
           let listed = lost_listed l c in
           none listed.0 listed.1 (same_default m.outages listed.0 0 (line_at m l).row listed.1 ∙ listed.2 ∙ ap (outage_of m) a ∙ same.branch)
 
-  pub of_no_unit : (row : ℕ) → (row ≡ 0 → ⊥) → ((k : ℕ) → k < length m.unit_outages → (unit_at m (lost_unit m k)).row ≡ row → ⊥) → All (λ cause. ¬ (Loses m cause 0 row)) (causes m)
-  of_no_unit row some none = all_causes m (λ cause. ¬ (Loses m cause 0 row)) (λ cause c same. by (cause_from m cause c) same)
+  pub of_no_unit : (row : ℕ) → (row ≡ 0 → ⊥) → ((k : ℕ) → k < length m.unit_outages → (unit_at m (lost_unit m k)).row ≡ row → ⊥) → All (λ cause. ¬ (IsCauseNamed m cause 0 row)) (causes m)
+  of_no_unit row some none = all_causes m (λ cause. ¬ (IsCauseNamed m cause 0 row)) (λ cause c same. by (cause_from m cause c) same)
     where
-      by : {g : Cause} → (g ≡ Base) ⊎ (((l : ℕ) × Contains (lost_lines m) l × (Branch l ≡ g)) ⊎ ((k : ℕ) × (k < length m.unit_outages) × (UnitOutage k ≡ g))) → Loses m g 0 row → ⊥
+      by : {g : Cause} → (g ≡ Base) ⊎ (((l : ℕ) × Contains (lost_lines m) l × (Branch l ≡ g)) ⊎ ((k : ℕ) × (k < length m.unit_outages) × (UnitOutage k ≡ g))) → IsCauseNamed m g 0 row → ⊥
       by (inl a) same = some (sym same.unit ∙ ap (unit_of m) a)
       by (inr (inl (l, c, a))) same = some (sym same.unit ∙ ap (unit_of m) (sym a))
       by (inr (inr (k, lt, a))) same = none k lt (ap (unit_of m) a ∙ same.unit)
 
   -- no cause loses both a branch and a unit
-  pub of_both : (outage unit : ℕ) → (outage ≡ 0 → ⊥) → (unit ≡ 0 → ⊥) → All (λ cause. ¬ (Loses m cause outage unit)) (causes m)
-  of_both outage unit some other = all_causes m (λ cause. ¬ (Loses m cause outage unit)) (λ cause c same. by cause same)
+  pub of_both : (outage unit : ℕ) → (outage ≡ 0 → ⊥) → (unit ≡ 0 → ⊥) → All (λ cause. ¬ (IsCauseNamed m cause outage unit)) (causes m)
+  of_both outage unit some other = all_causes m (λ cause. ¬ (IsCauseNamed m cause outage unit)) (λ cause c same. by cause same)
     where
-      by : (g : Cause) → Loses m g outage unit → ⊥
+      by : (g : Cause) → IsCauseNamed m g outage unit → ⊥
       by Base same = some (sym same.branch)
       by (Branch l) same = other (sym same.unit)
       by (UnitOutage k) same = some (sym same.branch)
 
   -- ---- a row by its name
   module _ (name : RowId) where
-    pub none_of_branch : (cause : Cause) → Contains (causes m) cause → Loses m cause name.outage name.unit
+    pub none_of_branch : (cause : Cause) → Contains (causes m) cause → IsCauseNamed m cause name.outage name.unit
         → (place_of_line m name.branch < length m.lines → bears m cause (place_of_line m name.branch) ≡ true → ⊥) → (r : Row) → Contains (rows m) r → row_id m r ≢ name
     none_of_branch cause listed is none r c =
         λ e.

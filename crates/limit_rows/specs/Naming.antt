@@ -8,7 +8,7 @@ use Rattle.market_model.specs.LimitRows.{outage_of, row_id, unit_of}
 use Rattle.market_model.specs.Optimality.{same_id}
 
 -- a cause that loses the branch and the unit of these rows, of which 0 is none
-pub record Loses (m : Parts) (cause : Cause) (branch_row unit_row : ℕ) : Type 0 where
+pub record IsCauseNamed (m : Parts) (cause : Cause) (branch_row unit_row : ℕ) : Type 0 where
   pub branch : outage_of m cause ≡ branch_row
   pub unit : unit_of m cause ≡ unit_row
 

@@ -7,7 +7,7 @@ ghost use Rattle.fraction_theory.specs.Sums.{term_value};
 ghost use Rattle.market_data.specs.Scales.{share_one, factor_one, most_factor};
 ghost use Rattle.market_model.specs.Factors.{factor_in};
 ghost use Rattle.market_model.specs.declared.limits.Row.{Row};
-ghost use Rattle.market_model.specs.LimitRows.{factor_terms, loses, lost_unit, pickup_factor, pickup_terms, row_factor, row_id, rows, share_value, shift_factor, taker_factor, taker_term, taker_terms, unit_factor, IsCauseOf};
+ghost use Rattle.market_model.specs.LimitRows.{factor_terms, loses_unit, lost_unit, pickup_factor, pickup_terms, row_factor, row_id, rows, share_value, shift_factor, taker_factor, taker_term, taker_terms, unit_factor, IsCauseOf};
 ghost use Rattle.market_model.specs.Dispatch.{unit_at, zero};
 ghost use Rattle.market_model.specs.Market.{IsPickup};
 ghost use Rattle.market_model.specs.declared.limits.Cause.TheVariants.{UnitOutage};
@@ -153,7 +153,7 @@ pub fn pickup_factor<N: Exact>(market: &Market, line: usize, outage: usize) -> R
 /// The outage under which a cause loses a unit, by its place among those of units. Nothing where it does not.
 fn outage_losing(market: &Market, cause: Cause, unit: usize) -> Option<usize>
     requires { IsCauseOf market.now cause }
-    ensures { MatchOption result (loses market.now unit cause ≡ false) (λ outage. (cause ≡ UnitOutage outage) × (outage < length market.now.unit_outages) × (lost_unit market.now outage ≡ unit)) }
+    ensures { MatchOption result (loses_unit market.now unit cause ≡ false) (λ outage. (cause ≡ UnitOutage outage) × (outage < length market.now.unit_outages) × (lost_unit market.now outage ≡ unit)) }
 {
     match cause {
         Cause::Base | Cause::Branch(_) => None,

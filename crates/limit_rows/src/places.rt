@@ -1,7 +1,7 @@
 //! Rows by the places of their lines.
 
 ghost use Rattle.std.specs.Prelude.{◌≡◌, ◌≢◌, ◌<◌, ◌≤ℤ◌, pos, length, All, Contains, IfSome, MatchOption};
-ghost use Rattle.limit_rows.specs.Naming.{Loses};
+ghost use Rattle.limit_rows.specs.Naming.{IsCauseNamed};
 ghost use Rattle.fraction_theory.specs.Fraction.{whole};
 ghost use Rattle.market_data.specs.Participants.{IsDatum};
 ghost use Rattle.market_model.specs.declared.limits.Row.{Row};
@@ -36,7 +36,7 @@ pub fn name_at(market: &Market, row: Row) -> RowId
 /// The outage of the branch of this row. Nothing where the market lists none such.
 fn branch_outage(market: &Market, row: u32) -> Option<Cause>
     requires { row ≢ 0 }
-    ensures { MatchOption result (All (λ cause. ¬ (Loses market.now cause row 0)) (causes market.now)) (λ cause. Contains (causes market.now) cause × Loses market.now cause row 0) }
+    ensures { MatchOption result (All (λ cause. ¬ (IsCauseNamed market.now cause row 0)) (causes market.now)) (λ cause. Contains (causes market.now) cause × IsCauseNamed market.now cause row 0) }
 {
     let outages = market.outages().slice();
     for (place, listed) in outages.iter().enumerate() {
@@ -50,7 +50,7 @@ fn branch_outage(market: &Market, row: u32) -> Option<Cause>
 /// The outage of the unit of this row. Nothing where the market lists none such.
 fn unit_outage(market: &Market, row: u32) -> Option<Cause>
     requires { row ≢ 0 }
-    ensures { MatchOption result (All (λ cause. ¬ (Loses market.now cause 0 row)) (causes market.now)) (λ cause. Contains (causes market.now) cause × Loses market.now cause 0 row) }
+    ensures { MatchOption result (All (λ cause. ¬ (IsCauseNamed market.now cause 0 row)) (causes market.now)) (λ cause. Contains (causes market.now) cause × IsCauseNamed market.now cause 0 row) }
 {
     for outage in 0..market.unit_outages().len() {
         let cause = Cause::UnitOutage(outage);
@@ -63,7 +63,7 @@ fn unit_outage(market: &Market, row: u32) -> Option<Cause>
 
 /// The cause whose rows have this outage and this unit in their names. Nothing where the market has none such.
 fn cause_named(market: &Market, outage: u32, unit: u32) -> Option<Cause>
-    ensures { MatchOption result (All (λ cause. ¬ (Loses market.now cause outage unit)) (causes market.now)) (λ cause. Contains (causes market.now) cause × Loses market.now cause outage unit) }
+    ensures { MatchOption result (All (λ cause. ¬ (IsCauseNamed market.now cause outage unit)) (causes market.now)) (λ cause. Contains (causes market.now) cause × IsCauseNamed market.now cause outage unit) }
 {
     match (outage, unit) {
         (0, 0) => Some(Cause::Base),

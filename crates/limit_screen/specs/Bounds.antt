@@ -47,7 +47,7 @@ pub record IsUpTo (most : ℕ) (near : Near) : Type 0 where
   pub off : unsigned_abs near.off ≤ most
 
 -- parts of a flow that 128 bits hold, with those of limits besides
-pub record IsModest (near : NearFlow) : Type 0 where
+pub record IsSmall (near : NearFlow) : Type 0 where
   pub parts : IsUpTo (2 ^ 126 + 2 ^ 113) near.parts
   pub above : 0 < near.one
   pub most : near.one ≤ pickup_one

@@ -10,8 +10,8 @@ use Rattle.market_model.specs.declared.limits.Row.{Row}
 use Rattle.market_model.specs.LimitRows.{Carried, flow_by, row_id, rows}
 use Rattle.market_model.specs.SumTables.{IsFlowRefusal}
 use Rattle.limit_screen.specs.declared.screening.RowOverrun.{RowOverrun}
-use Rattle.limit_screen.specs.declared.taking.Taken.{Taken}
-use Rattle.limit_screen.specs.declared.taking.Taken.TheVariants.{Rows, Names}
+use Rattle.limit_screen.specs.declared.taking.TakenRows.{TakenRows}
+use Rattle.limit_screen.specs.declared.taking.TakenRows.TheVariants.{Rows, Names}
 
 -- where some rows are taken, all rows of the market keep what they may be
 abbrev pub AllKeep : Parts → List Row → Carried → Type 0
@@ -30,9 +30,9 @@ abbrev pub AreNamesOf : Parts → List Row → List RowId → Type 0
 AreNamesOf m taken names = ((r : Row) → Contains taken r → Contains (rows m) r) × (names ≡ map (row_id m) taken)
 
 -- they are these, or those of these names
-abbrev pub AreTaken : Parts → List Row → Taken → Type 0
-AreTaken m taken (Rows given) = given.now ≡ taken
-AreTaken m taken (Names given) = AreNamesOf m taken given.now
+abbrev pub AreTakenRows : Parts → List Row → TakenRows → Type 0
+AreTakenRows m taken (Rows given) = given.now ≡ taken
+AreTakenRows m taken (Names given) = AreNamesOf m taken given.now
 
 -- an operation refused for the flow of a row of the market; by how much that passes its limit is refused of none
 abbrev pub IsScreenRefusal : Parts → Carried → ℕ → Passed Fraction → Type 0

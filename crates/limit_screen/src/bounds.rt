@@ -8,7 +8,7 @@ ghost use Rattle.fraction_theory.specs.Signs.{abs_ℚ};
 ghost use Rattle.exact_fraction.specs.Floor.{IsFloor};
 ghost use Rattle.market_model.specs.LimitRows.{Carried, flow_by, pickup_factor, IsCauseOf};
 ghost use Rattle.market_model.specs.PickupTable.{pickup_one};
-ghost use Rattle.limit_screen.specs.Bounds.{AreWholeParts, IsModest, IsNear, IsNearFlow, IsUpTo};
+ghost use Rattle.limit_screen.specs.Bounds.{AreWholeParts, IsNear, IsNearFlow, IsSmall, IsUpTo};
 
 use crate::parts::WholeParts;
 use limit_rows::loss_of;
@@ -80,7 +80,7 @@ fn near_flow_with(own: i64, factor: i64, part: i64, one: u64) -> NearFlow
     requires above { 0 < one }
     requires most { one ≤ pickup_one }
     ensures near { (f x : Fraction) → IsFloor f own → IsFloor x part → IsNearFlow (f +ℚ over factor one *ℚ x) result }
-    ensures modest { IsModest result }
+    ensures small { IsSmall result }
 {
     NearFlow {
         parts: near_sum(near_product(one as i64, own), near_product(factor, part)),
@@ -93,7 +93,7 @@ pub(crate) fn near_flow(market: &Market, parts: Option<&WholeParts>, row: Row) -
     requires line { row.line < length market.now.lines }
     requires lost { IsCauseOf market.now row.cause }
     ensures near { (c : Carried) → IfSome parts.entry (λ parts. AreWholeParts market.now c parts.now) → IfSome result (IsNearFlow (flow_by market.now c row)) }
-    ensures modest { IfSome result IsModest }
+    ensures small { IfSome result IsSmall }
 {
     let parts = parts?;
     let own = part_at(&parts.carried, row.line)?;
@@ -123,7 +123,7 @@ fn most_flow(limit: i64, more: i64, one: u64) -> i128
 
 /// Whether it is told that the size of a flow is at most a limit and so much more, in 10^-9 MW.
 pub(crate) fn is_within(flow: NearFlow, limit: i64, more: i64) -> bool
-    requires { IsModest flow }
+    requires { IsSmall flow }
     ensures { (f : Fraction) → IsNearFlow f flow → IsTrue result → abs_ℚ f ≤ℚ (whole limit +ℚ whole more) }
 {
     let most = most_flow(limit, more, flow.one);

@@ -13,12 +13,12 @@ ghost use Rattle.market_model.specs.LimitRows.{Carried, flow_by, rows};
 ghost use Rattle.market_model.specs.SumTables.{IsFlowRefusal};
 ghost use Rattle.limit_screen.specs.Bounds.{AreWholeParts, IsLeastOf};
 ghost use Rattle.limit_screen.specs.Flows.{carried_at};
-ghost use Rattle.limit_screen.specs.Screening.{AllKeep, AreNamesOf, AreTaken, IsScreenRefusal, IsWorstBy, IsWorstNamed, IsWorstOf};
+ghost use Rattle.limit_screen.specs.Screening.{AllKeep, AreNamesOf, AreTakenRows, IsScreenRefusal, IsWorstBy, IsWorstNamed, IsWorstOf};
 
 use crate::bounds::{is_within, near_flow};
 use crate::flowing::carried_flows;
 use crate::parts::WholeParts;
-use crate::taking::{Taken, is_taken};
+use crate::taking::{TakenRows, is_taken};
 use exact_fraction::{Exact, Passed, exact_difference, size};
 use limit_rows::{excess_at, limit_at, name_at, row_flow, rows};
 use market_model::{Market, Row, RowId, datum};
@@ -49,10 +49,10 @@ fn beyond<N: Exact>(flow: N, limit: N) -> Result<Option<N>, Passed<N>>
 
 /// Whether a row keeps what it may be all the same, where its flow passes its limit by so much: it is taken, and this is no more than its
 /// excess.
-fn keeps_excess<N: Exact>(market: &Market, taken: Taken<'_>, row: Row, overrun: N) -> bool
+fn keeps_excess<N: Exact>(market: &Market, taken: TakenRows<'_>, row: Row, overrun: N) -> bool
     requires row { Contains (rows market.now) row }
     requires passed { zero <ℚ N.value overrun }
-    ensures { (g : List Row) (f : Fraction) → AreTaken market.now g taken.entry → N.value overrun ≡ overrun_of market.now row f → MatchBool result (Keeps market.now g row f) (IsBeyond market.now g row f) }
+    ensures { (g : List Row) (f : Fraction) → AreTakenRows market.now g taken.entry → N.value overrun ≡ overrun_of market.now row f → MatchBool result (Keeps market.now g row f) (IsBeyond market.now g row f) }
 {
     let _lines = market.lines();
     match overrun.order(datum(excess_at(market, row))) {
@@ -93,13 +93,13 @@ fn worse<N: Exact>(worst: Option<RowOverrun<N>>, row: Row, overrun: N) -> Option
 fn with_row<N: Exact>(
     market: &Market,
     flows: &[N],
-    taken: Taken<'_>,
+    taken: TakenRows<'_>,
     row: Row,
     worst: Option<RowOverrun<N>>,
 ) -> Result<Option<RowOverrun<N>>, Passed<N>>
     requires flows { length flows.now ≡ length market.now.buses + length market.now.lines + length market.now.unit_outages }
     requires row { Contains (rows market.now) row }
-    ensures worst { (g rs : List Row) → AreTaken market.now g taken.entry → IsWorstOf N.value market.now g (flow_by market.now (carried_at market.now (map N.value flows.now))) rs worst
+    ensures worst { (g rs : List Row) → AreTakenRows market.now g taken.entry → IsWorstOf N.value market.now g (flow_by market.now (carried_at market.now (map N.value flows.now))) rs worst
         → IfOk result (IsWorstOf N.value market.now g (flow_by market.now (carried_at market.now (map N.value flows.now))) (rs ++ row ∷ [])) }
     ensures cause { IfErr result (λ passed. IsFlowRefusal market.now (carried_at market.now (map N.value flows.now)) row N.bound (passed_at N.value passed)) }
 {
@@ -144,14 +144,14 @@ fn with_row_by_parts<N: Exact>(
     market: &Market,
     flows: &[N],
     parts: Option<&WholeParts>,
-    taken: Taken<'_>,
+    taken: TakenRows<'_>,
     row: Row,
     worst: Option<RowOverrun<N>>,
 ) -> Result<Option<RowOverrun<N>>, Passed<N>>
     requires flows { length flows.now ≡ length market.now.buses + length market.now.lines + length market.now.unit_outages }
     requires parts { IfSome parts (λ parts. AreWholeParts market.now (carried_at market.now (map N.value flows.now)) parts.now) }
     requires row { Contains (rows market.now) row }
-    ensures worst { (g rs : List Row) → AreTaken market.now g taken.entry → IsWorstOf N.value market.now g (flow_by market.now (carried_at market.now (map N.value flows.now))) rs worst
+    ensures worst { (g rs : List Row) → AreTakenRows market.now g taken.entry → IsWorstOf N.value market.now g (flow_by market.now (carried_at market.now (map N.value flows.now))) rs worst
         → IfOk result (IsWorstOf N.value market.now g (flow_by market.now (carried_at market.now (map N.value flows.now))) (rs ++ row ∷ [])) }
     ensures cause { IfErr result (λ passed. IsFlowRefusal market.now (carried_at market.now (map N.value flows.now)) row N.bound (passed_at N.value passed)) }
 {
@@ -168,11 +168,11 @@ fn worst_taken<N: Exact>(
     market: &Market,
     flows: &[N],
     parts: Option<&WholeParts>,
-    taken: Taken<'_>,
+    taken: TakenRows<'_>,
 ) -> Result<Option<Row>, Passed<N>>
     requires parts { IfSome parts (λ parts. AreWholeParts market.now (carried_at market.now (map N.value flows.now)) parts.now) }
     requires flows { length flows.now ≡ length market.now.buses + length market.now.lines + length market.now.unit_outages }
-    ensures worst { (g : List Row) → AreTaken market.now g taken.entry → IfOk result (λ worst. MatchOption worst (AllKeep market.now g (carried_at market.now (map N.value flows.now)))
+    ensures worst { (g : List Row) → AreTakenRows market.now g taken.entry → IfOk result (λ worst. MatchOption worst (AllKeep market.now g (carried_at market.now (map N.value flows.now)))
         (IsWorstBy market.now g (carried_at market.now (map N.value flows.now)))) }
     ensures cause { IfErr result (λ passed. IsScreenRefusal market.now (carried_at market.now (map N.value flows.now)) N.bound (passed_at N.value passed)) }
 {
@@ -198,7 +198,7 @@ pub fn worst_row<N: Exact>(
     ensures worst { IfOk result (λ worst. MatchOption worst (AllKeep market.now taken.now (carried_at market.now (map N.value flows.now))) (IsWorstBy market.now taken.now (carried_at market.now (map N.value flows.now)))) }
     ensures cause { IfErr result (λ passed. IsScreenRefusal market.now (carried_at market.now (map N.value flows.now)) N.bound (passed_at N.value passed)) }
 {
-    worst_taken(market, flows, None, Taken::Rows(taken))
+    worst_taken(market, flows, None, TakenRows::Rows(taken))
 }
 
 /// The same by the whole parts of what is carried too, as `whole_parts` gives them: by these most rows that keep their limits are told.
@@ -213,7 +213,7 @@ pub fn worst_row_by_parts<N: Exact>(
     ensures worst { IfOk result (λ worst. MatchOption worst (AllKeep market.now taken.now (carried_at market.now (map N.value flows.now))) (IsWorstBy market.now taken.now (carried_at market.now (map N.value flows.now)))) }
     ensures cause { IfErr result (λ passed. IsScreenRefusal market.now (carried_at market.now (map N.value flows.now)) N.bound (passed_at N.value passed)) }
 {
-    worst_taken(market, flows, Some(parts), Taken::Rows(taken))
+    worst_taken(market, flows, Some(parts), TakenRows::Rows(taken))
 }
 
 /// The same by names.
@@ -229,7 +229,7 @@ pub fn worst<N: Exact>(
     ensures cause { IfErr result (λ passed. IsScreenRefusal market.now (carried_at market.now (map N.value flows.now)) N.bound (passed_at N.value passed)) }
 {
     let _lines = market.lines();
-    match worst_taken(market, flows, None, Taken::Names(taken))? {
+    match worst_taken(market, flows, None, TakenRows::Names(taken))? {
         Some(row) => Ok(Some(name_at(market, row))),
         None => Ok(None),
     }

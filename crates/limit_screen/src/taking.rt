@@ -3,26 +3,26 @@
 ghost use Rattle.std.specs.Prelude.{◌↔◌, IsTrue, List, Contains};
 ghost use Rattle.market_model.specs.declared.limits.Row.{Row};
 ghost use Rattle.market_model.specs.LimitRows.{rows};
-ghost use Rattle.limit_screen.specs.Screening.{AreTaken};
+ghost use Rattle.limit_screen.specs.Screening.{AreTakenRows};
 
 use limit_rows::name_at;
 use market_model::{Market, Row, RowId};
 
 /// Rows that are taken, as they are or by their names.
 #[derive(Clone, Copy)]
-pub(crate) enum Taken<'a> {
+pub(crate) enum TakenRows<'a> {
     Rows(&'a [Row]),
     Names(&'a [RowId]),
 }
 
 /// Whether a row of the market is one of them.
-pub(crate) fn is_taken(market: &Market, taken: Taken<'_>, row: Row) -> bool
+pub(crate) fn is_taken(market: &Market, taken: TakenRows<'_>, row: Row) -> bool
     requires { Contains (rows market.now) row }
-    ensures { (g : List Row) → AreTaken market.now g taken.entry → IsTrue result ↔ Contains g row }
+    ensures { (g : List Row) → AreTakenRows market.now g taken.entry → IsTrue result ↔ Contains g row }
 {
     let _lines = market.lines();
     match taken {
-        Taken::Rows(rows) => rows.contains(&row),
-        Taken::Names(names) => names.contains(&name_at(market, row)),
+        TakenRows::Rows(rows) => rows.contains(&row),
+        TakenRows::Names(names) => names.contains(&name_at(market, row)),
     }
 }

@@ -35,8 +35,9 @@ use Rattle.market_model.specs.declared.limits.Row.{Row}
 use Rattle.market_model.specs.LimitRows.{rows, limit, flow, is_soft}
 use Rattle.market_model.specs.Market.{IsMarket}
 use Rattle.market_model.specs.Optimality.{all_of}
-use Rattle.market_model.specs.Reserves.{offers_reserve, reserve_need}
+use Rattle.market_model.specs.Reserves.{reserve_need}
 use Rattle.market_model.proofs.Excesses.{limit_least}
+use Rattle.market_model.proofs.RoomLemmas.{listed-inside}
 use Rattle.limit_rows.proofs.ApartLemmas.{names_apart}
 use Rattle.market_system.specs.declared.variables.Variable.{Variable}
 use Rattle.market_system.specs.declared.variables.Variable.TheVariants.{Block, Balance, Limit, Over, Under, Offer, Need, Room}
@@ -48,7 +49,7 @@ use Rattle.market_system.proofs.LawsOfSolving.{law_of_the_solved, law_of_the_stu
 use Rattle.market_system.proofs.RowOrder.{AreInOrder}
 use Rattle.market_system.proofs.SoftRows.{most_excess_least}
 use Rattle.market_system.proofs.VariableLaws as law
-use Rattle.market_system.proofs.VariableLaws.{mapped, in_mapped, from_places}
+use Rattle.market_system.proofs.VariableLaws.{mapped, in_mapped}
 use Rattle.market_dict.specs.declared.taking.Taking.{Taking}
 use Rattle.market_dict.specs.declared.taking.Taking.TheVariants as taking
 use Rattle.market_dict.specs.Holding.{HasPutIn, HoldsMarket, HoldsSystem, prices, lows, highs}
@@ -521,7 +522,7 @@ variable_order m ts market are (Offer n) lt = whole-≤ℚ (pos 0) (offer_at m n
 variable_order m ts market are Need e =
     by_le1 (reserve_need m ∷ part_above (reserve_offered m -ℚ reserve_need m) ∷ []) (at 0) (at 0 ⊕ at 1) pone pnil (at 1) NonNeg-one (part_least (reserve_offered m -ℚ reserve_need m)).0 refl
 variable_order m ts market are (Room u) c =
-    let inside : u < length m.units = from_places (length m.units) u (Contains-from_filter (offers_reserve m) (places (length m.units)) u (are.taken.rooms u c)).0 in
+    let inside : u < length m.units = listed-inside m u (are.taken.rooms u c) in
     let unit = market.units u _ inside in
     ≤ℚ_trans (neg_ℚ (whole (unit_at m u).down)) nil (whole (unit_at m u).up)
     (by_le1 (whole (unit_at m u).down ∷ []) (pneg (at 0)) pnil pone pnil (at 0) NonNeg-one (whole-≤ℚ (pos 0) (unit_at m u).down unit.down) refl)

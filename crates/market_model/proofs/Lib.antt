@@ -3,6 +3,7 @@ pub mod ChangeLemmas
 pub mod EnergyAlone
 pub mod Excesses
 pub mod FarkasLaw
+pub mod FarkasParts
 mod FarkasRows
 pub mod LimitCases
 pub mod LinePenalties

@@ -18,7 +18,7 @@ use Rattle.market_model.specs.Dispatch.{Dispatch, IsDispatch, zero, places, unit
 use Rattle.market_model.specs.declared.limits.Cause.{Cause}
 use Rattle.market_model.specs.declared.limits.Row.{Row}
 use Rattle.market_model.specs.declared.limits.Cause.TheVariants.{Base, Branch, UnitOutage}
-use Rattle.market_model.specs.LimitRows.{IsCauseOf, causes, bears, rows_of, rows, row_id, limit, lost_output, lost_unit, loses, most_flow, penalty, picked_up, pickup_factor, row_flow, row_offset, row_factor, row_pickup, line_flow, line_offset, shift_factor, loss_factor, flow, taker_factor, taker_terms, unit_factor}
+use Rattle.market_model.specs.LimitRows.{IsCauseOf, causes, bears, rows_of, rows, row_id, limit, lost_output, lost_unit, loses_unit, most_flow, penalty, picked_up, pickup_factor, row_flow, row_offset, row_factor, row_pickup, line_flow, line_offset, shift_factor, loss_factor, flow, taker_factor, taker_terms, unit_factor}
 use Rattle.market_model.specs.Optimality.{Feasible, all_of, Supports, SideSupported, BlockSupported, Gains, Loses, price, IsOneSided, ProperDuals, names_row, named_rows, own_terms, up_of, down_of, net_shadow_price, congestion, bus_price, congestion_by, price_by, unit_price}
 use Rattle.market_model.specs.Market.{IsMarket}
 use Rattle.market_model.specs.Overrun.{excess, excess_by, Within}
@@ -55,7 +55,7 @@ bus_price-bare m d i e = ap (λ t. d.energy +ℚ t) (congestion-bare m d i e) �
 pub unit_price-bare : (m : Parts) (d : Duals Fraction) (u : ℕ) → rows m ≡ [] → unit_price m d u ≡ d.energy
 unfolding unit_price
 unit_price-bare m d u e =
-    ap (λ (rs : List Row). total (Plain (bus_price m d (unit_at m u).bus) ∷ map (λ r. Product (neg_ℚ (net_shadow_price m d r)) (row_pickup m r.line r.cause)) (filter (λ r. loses m u r.cause) rs))) e
+    ap (λ (rs : List Row). total (Plain (bus_price m d (unit_at m u).bus) ∷ map (λ r. Product (neg_ℚ (net_shadow_price m d r)) (row_pickup m r.line r.cause)) (filter (λ r. loses_unit m u r.cause) rs))) e
     ∙ by_ring ring_ℚ (bus_price m d (unit_at m u).bus ∷ []) (at 0 ⊕ pnil) (at 0) refl
     ∙ bus_price-bare m d (unit_at m u).bus e
 
@@ -137,11 +137,11 @@ law_of_the_flows m p lost r = by r.line r.cause
 
 -- what rows take from a unit's price, row by row
 pickups-by_rows : (m : Parts) (d : Duals Fraction) (u : ℕ)
-    → total (map (λ r. Product (neg_ℚ (net_shadow_price m d r)) (row_pickup m r.line r.cause)) (filter (λ r. loses m u r.cause) (rows m)))
-    ≡ sum_by (λ r. kept (loses m u r.cause) (neg_ℚ (net_shadow_price m d r) *ℚ row_pickup m r.line r.cause)) (rows m)
+    → total (map (λ r. Product (neg_ℚ (net_shadow_price m d r)) (row_pickup m r.line r.cause)) (filter (λ r. loses_unit m u r.cause) (rows m)))
+    ≡ sum_by (λ r. kept (loses_unit m u r.cause) (neg_ℚ (net_shadow_price m d r) *ℚ row_pickup m r.line r.cause)) (rows m)
 pickups-by_rows m d u =
-    total-Product (λ r. neg_ℚ (net_shadow_price m d r)) (λ r. row_pickup m r.line r.cause) (filter (λ r. loses m u r.cause) (rows m))
-    ∙ sum_by-filter (λ r. neg_ℚ (net_shadow_price m d r) *ℚ row_pickup m r.line r.cause) (λ r. loses m u r.cause) (rows m)
+    total-Product (λ r. neg_ℚ (net_shadow_price m d r)) (λ r. row_pickup m r.line r.cause) (filter (λ r. loses_unit m u r.cause) (rows m))
+    ∙ sum_by-filter (λ r. neg_ℚ (net_shadow_price m d r) *ℚ row_pickup m r.line r.cause) (λ r. loses_unit m u r.cause) (rows m)
 
 -- ---- sums over buses and rows, exchanged
 -- what prices of buses, made of the net prices of rows, make of injections
@@ -201,11 +201,11 @@ picked_up-none m r = by r.line r.cause
 
 -- ---- at the own prices of units
 -- what a unit's output counts for a row, by its bus and by what is picked up of it
-pub unit_factor-parts : (m : Parts) (r : Row) (u : ℕ) → unit_factor m r u ≡ row_factor m r (unit_at m u).bus +ℚ kept (loses m u r.cause) (row_pickup m r.line r.cause)
+pub unit_factor-parts : (m : Parts) (r : Row) (u : ℕ) → unit_factor m r u ≡ row_factor m r (unit_at m u).bus +ℚ kept (loses_unit m u r.cause) (row_pickup m r.line r.cause)
 unfolding row_factor pickup_factor taker_factor
 unit_factor-parts m r u = by r.line r.cause
   where
-    by : (l : ℕ) (c : Cause) → unit_factor m (record { line = l; cause = c }) u ≡ row_factor m (record { line = l; cause = c }) (unit_at m u).bus +ℚ kept (loses m u c) (row_pickup m l c)
+    by : (l : ℕ) (c : Cause) → unit_factor m (record { line = l; cause = c }) u ≡ row_factor m (record { line = l; cause = c }) (unit_at m u).bus +ℚ kept (loses_unit m u c) (row_pickup m l c)
     by l Base = by_ring ring_ℚ (shift_factor m l (unit_at m u).bus ∷ []) (at 0 ⊕ pnil) ((at 0 ⊕ pnil) ⊕ pnil) refl
     by l (Branch k) =
         by_ring ring_ℚ (shift_factor m l (unit_at m u).bus ∷ loss_factor m l k ∷ shift_factor m k (unit_at m u).bus ∷ []) (at 0 ⊕ (at 1 ⊗ at 2 ⊕ pnil)) ((at 0 ⊕ (at 1 ⊗ at 2 ⊕ pnil)) ⊕ pnil) refl
@@ -226,16 +226,16 @@ pub unit_price-by_factors : (m : Parts) (d : Duals Fraction) (u : ℕ) → unit_
 unfolding unit_price price_by congestion_by
 unit_price-by_factors m d u =
     let at_bus : Fraction = sum_by (λ r. neg_ℚ (net_shadow_price m d r) *ℚ row_factor m r (unit_at m u).bus) (rows m) in
-    let taken : Fraction = sum_by (λ r. kept (loses m u r.cause) (neg_ℚ (net_shadow_price m d r) *ℚ row_pickup m r.line r.cause)) (rows m) in
+    let taken : Fraction = sum_by (λ r. kept (loses_unit m u r.cause) (neg_ℚ (net_shadow_price m d r) *ℚ row_pickup m r.line r.cause)) (rows m) in
     ap₂ (λ (s t : Fraction). (d.energy +ℚ s) +ℚ t)
     (total-Product (λ r. neg_ℚ (net_shadow_price m d r)) (λ r. row_factor m r (unit_at m u).bus) (rows m))
     (pickups-by_rows m d u)
     ∙ by_ring ring_ℚ (d.energy ∷ at_bus ∷ taken ∷ []) ((at 0 ⊕ at 1) ⊕ at 2) (at 0 ⊕ (at 1 ⊕ at 2)) refl
     ∙ ap (λ t. d.energy +ℚ t)
-    (sym (sum_by-plus (λ r. neg_ℚ (net_shadow_price m d r) *ℚ row_factor m r (unit_at m u).bus) (λ r. kept (loses m u r.cause) (neg_ℚ (net_shadow_price m d r) *ℚ row_pickup m r.line r.cause)) (rows m))
-    ∙ sum_by-same (λ r. neg_ℚ (net_shadow_price m d r) *ℚ row_factor m r (unit_at m u).bus +ℚ kept (loses m u r.cause) (neg_ℚ (net_shadow_price m d r) *ℚ row_pickup m r.line r.cause))
+    (sym (sum_by-plus (λ r. neg_ℚ (net_shadow_price m d r) *ℚ row_factor m r (unit_at m u).bus) (λ r. kept (loses_unit m u r.cause) (neg_ℚ (net_shadow_price m d r) *ℚ row_pickup m r.line r.cause)) (rows m))
+    ∙ sum_by-same (λ r. neg_ℚ (net_shadow_price m d r) *ℚ row_factor m r (unit_at m u).bus +ℚ kept (loses_unit m u r.cause) (neg_ℚ (net_shadow_price m d r) *ℚ row_pickup m r.line r.cause))
     (λ r. neg_ℚ (net_shadow_price m d r) *ℚ unit_factor m r u) (rows m)
-    (λ r. each (loses m u r.cause) (net_shadow_price m d r) (row_factor m r (unit_at m u).bus) (row_pickup m r.line r.cause) ∙ ap (λ t. neg_ℚ (net_shadow_price m d r) *ℚ t) (sym (unit_factor-parts m r u)))
+    (λ r. each (loses_unit m u r.cause) (net_shadow_price m d r) (row_factor m r (unit_at m u).bus) (row_pickup m r.line r.cause) ∙ ap (λ t. neg_ℚ (net_shadow_price m d r) *ℚ t) (sym (unit_factor-parts m r u)))
     ∙ sym (total-Product (λ r. neg_ℚ (net_shadow_price m d r)) (λ r. unit_factor m r u) (rows m)))
   where
     each : (b : Bool) (n a k : Fraction) → neg_ℚ n *ℚ a +ℚ kept b (neg_ℚ n *ℚ k) ≡ neg_ℚ n *ℚ (a +ℚ kept b k)
@@ -244,7 +244,7 @@ unit_price-by_factors m d u =
 
 -- at the net price n of a row, what is picked up of the outputs P of units is what the one that is lost takes from its price
 picked_up-by_units : (m : Parts) → IsMarket m → (n : Fraction) (P : ℕ → Fraction) (l : ℕ) (c : Cause) → IsCauseOf m c
-    → sum_by (λ u. kept (loses m u c) (neg_ℚ n *ℚ row_pickup m l c) *ℚ P u) (places (length m.units)) ≡ neg_ℚ (n *ℚ picked_up m (λ k. P (lost_unit m k)) (record { line = l; cause = c }))
+    → sum_by (λ u. kept (loses_unit m u c) (neg_ℚ n *ℚ row_pickup m l c) *ℚ P u) (places (length m.units)) ≡ neg_ℚ (n *ℚ picked_up m (λ k. P (lost_unit m k)) (record { line = l; cause = c }))
 picked_up-by_units m market n P l Base is =
     sum_by-same (λ u. zero *ℚ P u) (λ u. zero) (places (length m.units)) (λ u. by_ring ring_ℚ (P u ∷ []) (pnil ⊗ at 0) pnil refl)
     ∙ sum_by-nil (places (length m.units)) ∙ by_ring ring_ℚ (n ∷ []) pnil (pneg (at 0 ⊗ pnil)) refl
@@ -268,18 +268,18 @@ pub at_own_prices : (m : Parts) → IsMarket m → (d : Duals Fraction) (P : ℕ
 unfolding unit_price
 at_own_prices m market d P =
     let units : List ℕ = places (length m.units) in
-    let taken : ℕ → Row → Fraction = λ u r. kept (loses m u r.cause) (neg_ℚ (net_shadow_price m d r) *ℚ row_pickup m r.line r.cause) *ℚ P u in
+    let taken : ℕ → Row → Fraction = λ u r. kept (loses_unit m u r.cause) (neg_ℚ (net_shadow_price m d r) *ℚ row_pickup m r.line r.cause) *ℚ P u in
     sum_by-same (λ u. unit_price m d u *ℚ P u)
-    (λ u. bus_price m d (unit_at m u).bus *ℚ P u +ℚ sum_by (λ r. kept (loses m u r.cause) (neg_ℚ (net_shadow_price m d r) *ℚ row_pickup m r.line r.cause) *ℚ P u) (rows m)) units
+    (λ u. bus_price m d (unit_at m u).bus *ℚ P u +ℚ sum_by (λ r. kept (loses_unit m u r.cause) (neg_ℚ (net_shadow_price m d r) *ℚ row_pickup m r.line r.cause) *ℚ P u) (rows m)) units
     (λ u. ap (λ t. (bus_price m d (unit_at m u).bus +ℚ t) *ℚ P u) (pickups-by_rows m d u)
-    ∙ by_ring ring_ℚ (bus_price m d (unit_at m u).bus ∷ sum_by (λ r. kept (loses m u r.cause) (neg_ℚ (net_shadow_price m d r) *ℚ row_pickup m r.line r.cause)) (rows m) ∷ P u ∷ [])
+    ∙ by_ring ring_ℚ (bus_price m d (unit_at m u).bus ∷ sum_by (λ r. kept (loses_unit m u r.cause) (neg_ℚ (net_shadow_price m d r) *ℚ row_pickup m r.line r.cause)) (rows m) ∷ P u ∷ [])
     ((at 0 ⊕ at 1) ⊗ at 2) (at 0 ⊗ at 2 ⊕ at 2 ⊗ at 1) refl
     ∙ ap (λ t. bus_price m d (unit_at m u).bus *ℚ P u +ℚ t)
-    (sym (sum_by-times (P u) (λ r. kept (loses m u r.cause) (neg_ℚ (net_shadow_price m d r) *ℚ row_pickup m r.line r.cause)) (rows m))
-    ∙ sum_by-same (λ r. P u *ℚ kept (loses m u r.cause) (neg_ℚ (net_shadow_price m d r) *ℚ row_pickup m r.line r.cause))
-    (λ r. kept (loses m u r.cause) (neg_ℚ (net_shadow_price m d r) *ℚ row_pickup m r.line r.cause) *ℚ P u) (rows m)
-    (λ r. by_ring ring_ℚ (P u ∷ kept (loses m u r.cause) (neg_ℚ (net_shadow_price m d r) *ℚ row_pickup m r.line r.cause) ∷ []) (at 0 ⊗ at 1) (at 1 ⊗ at 0) refl)))
-    ∙ sum_by-plus (λ u. bus_price m d (unit_at m u).bus *ℚ P u) (λ u. sum_by (λ r. kept (loses m u r.cause) (neg_ℚ (net_shadow_price m d r) *ℚ row_pickup m r.line r.cause) *ℚ P u) (rows m)) units
+    (sym (sum_by-times (P u) (λ r. kept (loses_unit m u r.cause) (neg_ℚ (net_shadow_price m d r) *ℚ row_pickup m r.line r.cause)) (rows m))
+    ∙ sum_by-same (λ r. P u *ℚ kept (loses_unit m u r.cause) (neg_ℚ (net_shadow_price m d r) *ℚ row_pickup m r.line r.cause))
+    (λ r. kept (loses_unit m u r.cause) (neg_ℚ (net_shadow_price m d r) *ℚ row_pickup m r.line r.cause) *ℚ P u) (rows m)
+    (λ r. by_ring ring_ℚ (P u ∷ kept (loses_unit m u r.cause) (neg_ℚ (net_shadow_price m d r) *ℚ row_pickup m r.line r.cause) ∷ []) (at 0 ⊗ at 1) (at 1 ⊗ at 0) refl)))
+    ∙ sum_by-plus (λ u. bus_price m d (unit_at m u).bus *ℚ P u) (λ u. sum_by (λ r. kept (loses_unit m u r.cause) (neg_ℚ (net_shadow_price m d r) *ℚ row_pickup m r.line r.cause) *ℚ P u) (rows m)) units
     ∙ ap (λ t. sum_by (λ u. bus_price m d (unit_at m u).bus *ℚ P u) units +ℚ t)
     (sum_by-exchange taken units (rows m)
     ∙ sum_by-members (λ r. sum_by (λ u. taken u r) units) (λ r. neg_ℚ (net_shadow_price m d r *ℚ picked_up m (λ k. P (lost_unit m k)) r)) (rows m)

@@ -30,13 +30,21 @@ offer_weight m d n = reserve_worth m d (offer_at m n).unit
 abbrev pub limit_terms : Parts → Duals Fraction → Row → List Term
 limit_terms m d r = Product (up_of m d r) (most_flow m r -ℚ flow m (empty m) r) ∷ Product (down_of m d r) (most_flow m r +ℚ flow m (empty m) r) ∷ []
 
--- the need of a market with reserve, at the price of reserve and counted down, and whole rooms at their prices
-abbrev pub reserve_left_terms : Parts → Duals Fraction → List Term
-reserve_left_terms m d = (if m.reserve.listed then Product d.reserve (neg_ℚ (reserve_need m)) ∷ [] else []) ++ map (λ u. Product (room_price m d u) (room m u)) (reserve_units m)
+-- what nothing accepted makes of the balance at the price of energy, and of what its flows leave at the prices of rows
+abbrev pub energy_left_terms : Parts → Duals Fraction → List Term
+energy_left_terms m d = Product d.energy (balance m (empty m)) ∷ flat_map (limit_terms m d) (rows m)
 
--- what nothing accepted makes: of the balance at the price of energy, of what its flows leave at the prices of rows, and of reserve
+-- the need of a market with reserve, at the price of reserve and counted down
+abbrev pub need_terms : Parts → Duals Fraction → List Term
+need_terms m d = if m.reserve.listed then Product d.reserve (neg_ℚ (reserve_need m)) ∷ [] else []
+
+-- the need, and whole rooms at their prices
+abbrev pub reserve_left_terms : Parts → Duals Fraction → List Term
+reserve_left_terms m d = need_terms m d ++ map (λ u. Product (room_price m d u) (room m u)) (reserve_units m)
+
+-- what nothing accepted makes of energy and of reserve
 abbrev pub nothing_terms : Parts → Duals Fraction → List Term
-nothing_terms m d = Product d.energy (balance m (empty m)) ∷ flat_map (limit_terms m d) (rows m) ++ reserve_left_terms m d
+nothing_terms m d = energy_left_terms m d ++ reserve_left_terms m d
 
 -- the most that each block adds to it, and each offer of reserve
 abbrev pub block_most : Parts → Duals Fraction → ℕ → Term

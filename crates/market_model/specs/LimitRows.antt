@@ -184,10 +184,10 @@ row_pickup m l (Branch lost) = zero
 row_pickup m l (UnitOutage k) = pickup_factor m l k
 
 -- whether a cause loses a unit
-abbrev pub loses : Parts → ℕ → Cause → Bool
-loses m u Base = false
-loses m u (Branch lost) = false
-loses m u (UnitOutage k) = lost_unit m k == u
+abbrev pub loses_unit : Parts → ℕ → Cause → Bool
+loses_unit m u Base = false
+loses_unit m u (Branch lost) = false
+loses_unit m u (UnitOutage k) = lost_unit m k == u
 
 -- ---- the flows of rows
 -- what a network carries: the flow of each line, and the output of the unit of each outage of a unit

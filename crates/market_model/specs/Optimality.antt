@@ -16,7 +16,7 @@ use Rattle.market_model.specs.declared.answered.RoomDual.{RoomDual}
 use Rattle.market_model.specs.declared.answered.RowId.{RowId}
 use Rattle.market_model.specs.Dispatch.{Dispatch, IsDispatch, zero, places, block_at, unit_at, offer_at, signed_by_side, accepted, quantity, reserved, reserve_quantity, balance}
 use Rattle.market_model.specs.declared.limits.Row.{Row}
-use Rattle.market_model.specs.LimitRows.{rows, row_id, limit, loses, most_flow, penalty, is_soft, row_factor, row_pickup, flow}
+use Rattle.market_model.specs.LimitRows.{rows, row_id, limit, loses_unit, most_flow, penalty, is_soft, row_factor, row_pickup, flow}
 use Rattle.market_model.specs.Overrun.{excess, Within}
 use Rattle.market_model.specs.Reserves.{offers_reserve, reserve, reserve_cost_terms, reserve_need, offer_price, reserve_units, room, room_used}
 
@@ -170,7 +170,7 @@ price_terms m d i = Plain d.energy ∷ Plain (congestion m d i) ∷ []
 abbrev pub own_terms : Parts → Duals Fraction → (ℕ → Fraction) → ℕ → List Term
 own_terms m d price u =
     Plain (price (unit_at m u).bus)
-    ∷ map (λ r. Product (neg_ℚ (net_shadow_price m d r)) (row_pickup m r.line r.cause)) (filter (λ r. loses m u r.cause) (rows m))
+    ∷ map (λ r. Product (neg_ℚ (net_shadow_price m d r)) (row_pickup m r.line r.cause)) (filter (λ r. loses_unit m u r.cause) (rows m))
 
 abbrev pub own_price : Parts → Duals Fraction → (ℕ → Fraction) → ℕ → Fraction
 own_price m d price u = total (own_terms m d price u)

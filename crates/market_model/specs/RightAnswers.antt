@@ -20,7 +20,7 @@ use Rattle.market_model.specs.declared.limits.Row.{Row}
 use Rattle.market_model.specs.LimitRows.{Carried, carried, row_id, flow_by, lost_unit}
 use Rattle.market_model.specs.Optimality.{Feasible, Supports, ProperDuals, named_rows, own_price, up_of, down_of, welfare, congestion, bus_price}
 use Rattle.market_model.specs.Reserves.{offer_places}
-use Rattle.market_model.specs.Settlement.{pay_of_unit, pay_of_load, pay_of_reserve, left_terms, rent_terms_by}
+use Rattle.market_model.specs.Settlement.{pay_of_unit, pay_of_load, pay_of_reserve, surplus_terms_by, rent_terms_by}
 use Rattle.market_model.specs.Overrun.{excess_by}
 
 -- an answer's entries by place; one past the end stands for zeros
@@ -56,7 +56,7 @@ settlement_at m x price d = record {
   own = map (λ k. own_price m d price (lost_unit m k)) (places (length m.unit_outages));
   loads = map (pay_of_load m price) (places (length m.buses));
   rents = map (rent_of m x d) (named_rows m d);
-  surplus = total (left_terms m x price d);
+  surplus = total (surplus_terms_by m x price d);
   reserve = map (pay_of_reserve x d) (offer_places m);
 }
 

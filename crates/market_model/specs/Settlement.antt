@@ -38,8 +38,8 @@ abbrev pub unit_terms : Parts → Dispatch → (ℕ → Fraction) → Duals Frac
 unit_terms m x price d u = unit_term m x price d u ∷ []
 
 -- what loads pay by bus, and the opposite of what units are paid by unit
-abbrev pub left_terms : Parts → Dispatch → (ℕ → Fraction) → Duals Fraction → List Term
-left_terms m x price d =
+abbrev pub surplus_terms_by : Parts → Dispatch → (ℕ → Fraction) → Duals Fraction → List Term
+surplus_terms_by m x price d =
     map (load_term m price) (places (length m.buses))
     ++ map (λ u. Product (neg_ℚ (own_price m d price u)) (output m x u)) (places (length m.units))
 
@@ -60,7 +60,7 @@ unfoldable pub pays : Parts → Duals Fraction → ℕ → Fraction
 pays m d i = (pay_of_load m (bus_price m d) i).pays
 
 abbrev pub surplus_terms : Parts → Dispatch → Duals Fraction → List Term
-surplus_terms m x d = left_terms m x (bus_price m d) d
+surplus_terms m x d = surplus_terms_by m x (bus_price m d) d
 
 -- what loads pay less what units are paid for energy
 unfoldable pub surplus : Parts → Dispatch → Duals Fraction → Fraction

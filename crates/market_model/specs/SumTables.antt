@@ -14,7 +14,7 @@ use Rattle.market_model.specs.LimitRows.{Carried, carried, rows, line_terms, flo
 use Rattle.market_model.specs.NamedSums.{IsRefusedIn}
 use Rattle.market_model.specs.Optimality.{bus_price, congestion_terms, named_rows, own_terms, price_terms, reserve_worth_terms, worth_terms}
 use Rattle.market_model.specs.Reserves.{reserve_terms, reserve_units, room_terms}
-use Rattle.market_model.specs.Settlement.{left_terms, load_terms, lower_terms, priced_flow, rent_terms, reserve_term, unit_terms, upper_terms}
+use Rattle.market_model.specs.Settlement.{surplus_terms_by, load_terms, lower_terms, priced_flow, rent_terms, reserve_term, unit_terms, upper_terms}
 
 -- an operation refused where one of these sums is added up
 abbrev pub IsRefusedAmong : (List Term → Type 0) → ℕ → Passed Fraction → Type 0
@@ -138,7 +138,7 @@ pub data BoundSum (m : Parts) (d : Duals Fraction) : List Term → Type 0 where
 pub data PaymentSum (m : Parts) (x : Dispatch) (price : ℕ → Fraction) (d : Duals Fraction) : List Term → Type 0 where
   paid_by_load : (i : ℕ) → i < length m.buses → PaymentSum m x price d (load_terms m price i)
   paid_to_unit : (u : ℕ) → u < length m.units → PaymentSum m x price d (unit_terms m x price d u)
-  left_of_all : PaymentSum m x price d (left_terms m x price d)
+  left_of_all : PaymentSum m x price d (surplus_terms_by m x price d)
   rent_of_row : (r : Row) → Contains (named_rows m d) r → PaymentSum m x price d (rent_terms m x d r)
   paid_for_reserve : (n : ℕ) → n < length m.reserve.offers → PaymentSum m x price d (reserve_term x d n ∷ [])
 

@@ -27,12 +27,11 @@ use Rattle.market_model.specs.LimitRows.{rows, row_id}
 use Rattle.market_model.specs.Market.{IsMarket, IsReserveOffer}
 use Rattle.market_model.specs.Optimality.{Taken, same_id, up_in, down_in, up_of, down_of, net_shadow_price, names_row, room_price, room_price_in, names_room, IsOneSided, ProperDuals}
 use Rattle.market_model.specs.Reserves.{offers_among, offers_reserve, reserve_units}
+use Rattle.market_model.proofs.RoomLemmas.{listed-inside, offers-listed}
 use Rattle.limit_rows.proofs.ApartLemmas.{unit_of_row}
 use Rattle.market_system.specs.Growth.{PricesOnly}
 use Rattle.market_system.specs.MarketSystem.{row_name, room_name, need_name, is_in, in_order, is_among, rooms_in_order, dual_by, room_dual_by, duals_by_cost}
-use Rattle.market_system.proofs.RoomBounds.{reserve_unit-in}
 use Rattle.market_system.proofs.RowOrder.{RowsApart, row_or_not, is_in-in, is_in-from, in_order-in, in_order-from, in_order-filter, is_among-in, is_among-from, rooms_in_order-filter, and_true, same_number, same_row-not, same_row-itself}
-use Rattle.market_system.proofs.VariableLaws.{in_places}
 
 -- rows of a market have different names
 abbrev pub NamesApart : Parts → Type 0
@@ -309,7 +308,7 @@ module _ (m : Parts) (market : IsMarket m) (cost_of : ℕ → Fraction) where
     room_cost_of u = kept (takes_room m t.rooms u) (cost_of (room_name m u))
 
     in_units : (w : ℕ) → Contains (rooms_in_order m t.rooms) w → w < length m.units
-    in_units w c = reserve_unit-in m w (Contains-from_filter (is_among t.rooms) (reserve_units m) w (subst (λ ws. Contains ws w) (rooms_in_order-filter m t.rooms) c)).0
+    in_units w c = listed-inside m w (Contains-from_filter (is_among t.rooms) (reserve_units m) w (subst (λ ws. Contains ws w) (rooms_in_order-filter m t.rooms) c)).0
 
     among_in_order : (u : ℕ) → Contains (reserve_units m) u → is_among (rooms_in_order m t.rooms) u ≡ is_among t.rooms u
     among_in_order u c = ap (λ ws. is_among ws u) (rooms_in_order-filter m t.rooms) ∙ among_kept (is_among t.rooms) (reserve_units m) u c
@@ -325,7 +324,7 @@ module _ (m : Parts) (market : IsMarket m) (cost_of : ℕ → Fraction) where
         by true e =
             let lt = reserve_unit-below m market u e in
             price_in_list (rooms_in_order m t.rooms) in_units u lt
-            ∙ ap (λ (b : Bool). if b then part_above (room_cost u) else nil) (among_in_order u (Contains-filter (offers_reserve m) (places (length m.units)) u (in_places (length m.units) u lt) e))
+            ∙ ap (λ (b : Bool). if b then part_above (room_cost u) else nil) (among_in_order u (offers-listed m u lt e))
             ∙ chosen (is_among t.rooms u) (room_cost u)
         by false e = sym (part_at_most nil (≤ℚ_refl nil))
 
@@ -336,7 +335,7 @@ module _ (m : Parts) (market : IsMarket m) (cost_of : ℕ → Fraction) where
         ∙ ap (map (λ u. (unit_at m u).row))
         (both_filters (is_among t.rooms) (λ u. priced_by (sign_of (room_cost u))) (reserve_units m)
         ∙ filter-members (λ u. is_among t.rooms u && priced_by (sign_of (room_cost u))) (λ u. names_room (room_duals (rooms_in_order m t.rooms)) (unit_at m u).row) (reserve_units m)
-        (λ u c. sym (named_room_in_list (rooms_in_order m t.rooms) in_units u (reserve_unit-in m u c) ∙ ap (λ (b : Bool). b && priced_by (sign_of (room_cost u))) (among_in_order u c))))
+        (λ u c. sym (named_room_in_list (rooms_in_order m t.rooms) in_units u (listed-inside m u c) ∙ ap (λ (b : Bool). b && priced_by (sign_of (room_cost u))) (among_in_order u c))))
 
 -- ---- lists of duals by rows
 module _ (m : Parts) (names : NamesApart m) (cost_of : ℕ → Fraction) where

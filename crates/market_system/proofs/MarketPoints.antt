@@ -23,7 +23,7 @@ use Rattle.market_model.specs.Dispatch.{Dispatch, IsDispatch, zero as nil, place
 use Rattle.market_model.specs.declared.limits.Cause.{Cause}
 use Rattle.market_model.specs.declared.limits.Cause.TheVariants.{Base, Branch, UnitOutage}
 use Rattle.market_model.specs.declared.limits.Row.{Row}
-use Rattle.market_model.specs.LimitRows.{rows, limit, is_soft, loses, lost_output, lost_unit, penalty, picked_up, pickup_factor, most_excess, most_flow, row_factor, row_offset, row_pickup, unit_factor, flow}
+use Rattle.market_model.specs.LimitRows.{rows, limit, is_soft, loses_unit, lost_output, lost_unit, penalty, picked_up, pickup_factor, most_excess, most_flow, row_factor, row_offset, row_pickup, unit_factor, flow}
 use Rattle.market_model.specs.Market.{IsMarket}
 use Rattle.market_model.specs.Optimality.{FeasibleFor, Taken, block_value, value_terms, penalty_terms, welfare_for}
 use Rattle.market_model.specs.Reserves.{offer_places, reserve, reserve_cost_terms, reserve_need, offer_price, reserve_units, room, room_used}
@@ -32,6 +32,7 @@ use Rattle.market_model.proofs.EnergyAlone.{no_need, nothing_reserved}
 use Rattle.market_model.proofs.Excesses.{penalty_least}
 use Rattle.market_model.proofs.MarketSums.{block_bus-in, fixed_part, injection-by_empty, output-by_parts, balance-by_empty, raised_by-empty}
 use Rattle.market_model.proofs.PlaceSums.{gather_times, places_all}
+use Rattle.market_model.proofs.RoomLemmas.{listed-inside}
 use Rattle.market_model.proofs.RowLaws.{along, law_of_the_flows, unit_factor-parts}
 use Rattle.market_system.specs.declared.variables.Variable.{Variable}
 use Rattle.market_system.specs.declared.variables.Variable.TheVariants.{Block, Balance, Limit, Over, Under, Offer, Need, Room}
@@ -39,7 +40,7 @@ use Rattle.market_system.specs.MarketSystem.{balance_name, row_name, over_name, 
 use Rattle.market_system.specs.SolvedLaws.{AreRows, AreTaken, PointsAreDispatches}
 use Rattle.market_system.proofs.RowSums.{sum_by-in_order}
 use Rattle.market_system.proofs.SoftRows.{excess-parts, kept_between, kept_where, kept_within, most_excess_least, part_most, spread_over, spread_under, spread_within}
-use Rattle.market_system.proofs.RoomBounds.{reserve-by_offers, reserve-at_most_kept, reserve_unit-in, room_used-by_columns, room_used-at_least}
+use Rattle.market_system.proofs.RoomBounds.{reserve-by_offers, reserve-at_most_kept, room_used-by_columns, room_used-at_least}
 use Rattle.market_system.proofs.RowOrder.{RowsApart, AreInOrder, in_order-in, in_order-from, rooms_in_order-in, rooms_in_order-from}
 use Rattle.market_system.proofs.SystemLaws.{signed-times}
 use Rattle.market_system.proofs.VariableLaws.{row_listed, column_listed, excess_listed, balance_in as balance_among, limit_in, need_in as need_among, room_in as room_among, from_places, by_variable, variable_in, variable_at, soft, over_in, under_in, column_in, offer_in as offer_column, sum-variables, taken-in_order, is_system_over, coefficient-at, price-at, low-at, high-at, activity-balance, activity-limit, activity-need, activity-room, objective-at}
@@ -57,7 +58,7 @@ output-by_empty m x u =
 -- what is picked up of it: of each block of the lost unit what it raises, by the pickup factor
 picked_up-by_blocks : (m : Parts) (x : Dispatch) (l : ℕ) (c : Cause) → picked_up m (lost_output m x) (record { line = l; cause = c })
     ≡ picked_up m (lost_output m (empty m)) (record { line = l; cause = c })
-    +ℚ sum_by (λ j. kept (loses m (block_at m j).unit c) (row_pickup m l c) *ℚ raised_by m x j) (places (length m.blocks))
+    +ℚ sum_by (λ j. kept (loses_unit m (block_at m j).unit c) (row_pickup m l c) *ℚ raised_by m x j) (places (length m.blocks))
 picked_up-by_blocks m x l c = by c
   where
     none : nil ≡ nil +ℚ sum_by (λ j. nil *ℚ raised_by m x j) (places (length m.blocks))
@@ -78,7 +79,7 @@ picked_up-by_blocks m x l c = by c
 
     by : (c : Cause) → picked_up m (lost_output m x) (record { line = l; cause = c })
         ≡ picked_up m (lost_output m (empty m)) (record { line = l; cause = c })
-        +ℚ sum_by (λ j. kept (loses m (block_at m j).unit c) (row_pickup m l c) *ℚ raised_by m x j) (places (length m.blocks))
+        +ℚ sum_by (λ j. kept (loses_unit m (block_at m j).unit c) (row_pickup m l c) *ℚ raised_by m x j) (places (length m.blocks))
     by Base = none
     by (Branch k) = none
     by (UnitOutage k) =
@@ -106,7 +107,7 @@ flow-by_blocks m market x r =
     let a : ℕ → Fraction = row_factor m r in
     let at_bus : ℕ → Fraction = λ i. sum_by (raised_by m x) (filter (λ j. block_bus m j == i) blocks) in
     let start : Fraction = sum_by (λ i. a i *ℚ injection m (empty m) i) buses in
-    let taken : ℕ → Fraction = λ j. kept (loses m (block_at m j).unit r.cause) (row_pickup m r.line r.cause) in
+    let taken : ℕ → Fraction = λ j. kept (loses_unit m (block_at m j).unit r.cause) (row_pickup m r.line r.cause) in
     let by_bus : Fraction = sum_by (λ j. a (block_bus m j) *ℚ raised_by m x j) blocks in
     let by_loss : Fraction = sum_by (λ j. taken j *ℚ raised_by m x j) blocks in
     let picked : Fraction = picked_up m (lost_output m (empty m)) r in
@@ -400,7 +401,7 @@ module _ (m : Parts) (apart : RowsApart m) (g : Taken) where
       point_low (Under r) (c, e) = subst₂ ◌≤ℚ◌ (sym (low-under r c e)) (sym (point-under x r c e)) (part_least (neg_ℚ (flow m x r) -ℚ limit m r)).0
       point_low (Offer n) h = subst₂ ◌≤ℚ◌ (sym (low-offer n h)) (sym (point-offer x n h)) (f.blocks.reserve_above n h)
       point_low Need e = subst₂ ◌≤ℚ◌ (sym (low-need e)) (sym (point-need x e)) f.need
-      point_low (Room u) c = subst₂ ◌≤ℚ◌ (sym (low-room u c)) (sym (point-room x u c)) (room_used-at_least m x f.blocks market u (reserve_unit-in m u (ordered.units u c)))
+      point_low (Room u) c = subst₂ ◌≤ℚ◌ (sym (low-room u c)) (sym (point-room x u c)) (room_used-at_least m x f.blocks market u (listed-inside m u (ordered.units u c)))
 
       point_high : (v : Variable) → IsVariableOf m over v → point_of x (name m v) ≤ℚ s.high (name m v)
       point_high (Block j) h = subst₂ ◌≤ℚ◌ (sym (point-block x j h)) (sym (high-block j h)) (f.blocks.within j h)

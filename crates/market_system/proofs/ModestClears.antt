@@ -33,7 +33,7 @@ use Rattle.market_model.specs.Market.{IsMarket, IsPickup}
 use Rattle.market_model.specs.Dispatch.{Dispatch, IsDispatch, zero, places, block_at, unit_at, quantity, accepted, balance, empty, demand, demand_terms, output}
 use Rattle.market_model.specs.Infeasibility.{block_weight, farkas_terms}
 use Rattle.market_model.specs.declared.limits.Row.{Row}
-use Rattle.market_model.specs.LimitRows.{rows, row_id, loses, lost_unit, row_factor, row_pickup, share_value}
+use Rattle.market_model.specs.LimitRows.{rows, row_id, loses_unit, lost_unit, row_factor, row_pickup, share_value}
 use Rattle.market_model.specs.Optimality.{Taken, bus_price, block_value, energy_worth, congestion_terms, names_row, named_rows, own_price, own_terms, price_terms, net_shadow_price, penalty_terms, unit_price, value_terms as block_terms, welfare_terms}
 use Rattle.market_model.specs.Reserves.{no_reserve, reserved_term}
 use Rattle.market_model.specs.Settlement.{surplus_terms}
@@ -136,7 +136,7 @@ module _ (m : Parts) (market : IsMarket m) (lines : m.lines ≡ []) (energy : m.
 
     own_terms_within : (b most k : ℕ) (d : Duals Fraction) (u : ℕ) → 2 * b ≤ most → IsWholeWithin b d.energy → IsWholeWithin most (prefix k (own_terms m d (bus_price m d) u))
     own_terms_within b most k d u wide e =
-        subst (λ (rs : List Row). IsWholeWithin most (prefix k (Plain (bus_price m d (unit_at m u).bus) ∷ map (λ r. Product (neg_ℚ (net_shadow_price m d r)) (row_pickup m r.line r.cause)) (filter (λ r. loses m u r.cause) rs)))) (sym bare)
+        subst (λ (rs : List Row). IsWholeWithin most (prefix k (Plain (bus_price m d (unit_at m u).bus) ∷ map (λ r. Product (neg_ℚ (net_shadow_price m d r)) (row_pickup m r.line r.cause)) (filter (λ r. loses_unit m u r.cause) rs)))) (sym bare)
         (wider (1 * b) most (prefix k (Plain (bus_price m d (unit_at m u).bus) ∷ [])) (Prim.omega (arith, wide))
         (prefix_within 1 b k (Plain (bus_price m d (unit_at m u).bus) ∷ []) (Prim.omega arith) (bus_price_within b d (unit_at m u).bus e, tt)))
 

@@ -21,7 +21,7 @@ use Rattle.linear_system.specs.Choices.{Choice, IsChoice}
 use Rattle.linear_system.specs.Numbers.{Kind, Factor, Quantity, Price, SolvingNumber, SystemNumber, is_zero, is_high}
 use Rattle.linear_system.specs.Pairs.{IsCombined, alone, sum, difference, IsSummand, plain, IsPairCase, added, subtracted, scaled_right, scaled_left, AtEither, IsForLarge, added_to, itself, OfEither, IsSystemPair}
 use Rattle.linear_system.proofs.PairLaws.{IsForLarge-each, IsPairCase-each, IsScaling, less_large}
-use Rattle.fraction_theory.proofs.ListSums.{Contains-head, Contains-cons, Contains-filter, Contains-from_filter}
+use Rattle.fraction_theory.proofs.ListSums.{Contains-head, Contains-cons, Contains-from_filter}
 use Rattle.std.proofs.lemmas.List.Elements.{All-contains}
 use Rattle.market_model.specs.declared.answered.Duals.{Duals}
 use Rattle.market_model.specs.declared.participants.Parts.{Parts}
@@ -34,7 +34,7 @@ use Rattle.limit_rows.proofs.ApartLemmas.{names_apart}
 use Rattle.market_model.specs.declared.limits.Cause.{Cause}
 use Rattle.market_model.specs.declared.limits.Row.{Row}
 use Rattle.market_model.specs.declared.limits.Cause.TheVariants.{Base, Branch, UnitOutage}
-use Rattle.market_model.specs.LimitRows.{IsCauseOf, carried, rows, loses, lost_output, lost_unit, most_flow, picked_up_terms, pickup_factor, pickup_terms, pickups_of, row_pickup, shift_factor, share_value, taker_terms, line_offset, line_terms, line_flow, flow_terms, terms_under, row_factor, factor_terms, flow}
+use Rattle.market_model.specs.LimitRows.{IsCauseOf, carried, rows, loses_unit, lost_output, lost_unit, most_flow, picked_up_terms, pickup_factor, pickup_terms, pickups_of, row_pickup, shift_factor, share_value, taker_terms, line_offset, line_terms, line_flow, flow_terms, terms_under, row_factor, factor_terms, flow}
 use Rattle.market_model.specs.Market.{IsMarket, IsPickup}
 use Rattle.market_model.specs.NamedSums.{SameSize, term_at, IsNextTerm, IsSumStep, IsRefusedIn, IsRefusal}
 use Rattle.market_model.specs.Optimality.{Taken, net_shadow_price, up_of, down_of, bus_price, own_terms, unit_price, room_price, room_price_in, worth_terms, energy_worth, reserve_worth_terms, reserve_worth, welfare_terms}
@@ -43,6 +43,7 @@ use Rattle.market_model.specs.Infeasibility.{block_most, block_weight, offer_mos
 use Rattle.market_model.specs.SumTables.{injection_at, balance_from_bus, balance_of_all, flow_of_line, flow_of_row, output_of_lost, limited_line, limited_unit, limited_row, FlowSum, flow_in_balance, flow_in_limits, offset_of_row, pickup_of_row, factor_at_bus, factor_of_pickup, output_of_unit, BusPriceSum, own_price_of_unit, PickupSum, PriceSum, price_of_bus, price_of_unit, congestion_at, price_at, ReserveSum, reserve_of_all, reserve_in_room, used_of_room, WorthSum, energy_of_unit, reserve_of_unit, farkas_bound_of_all}
 use Rattle.market_model.proofs.MarketSums.{block_unit-in, unit_bus-in}
 use Rattle.market_model.proofs.ReserveSums.{offer_unit-in}
+use Rattle.market_model.proofs.RoomLemmas.{listed-inside, offers-listed}
 use Rattle.market_model.proofs.RowMembers.{at_places}
 use Rattle.market_system.specs.Growth.{Growth}
 use Rattle.market_system.specs.MarketNumbers.{ClearingNumber, of_kind, of_money, of_solving, is_turned, IsInjecting, IsFarkasOf, NamedSum, offset_of, factor_of, of_flow, of_reserve, output_of, of_price, of_worth, of_welfare, of_settlement, of_farkas_price, of_farkas_worth, farkas_bound_of, MarketNumber, of_system, of_sum, is_most_flow, is_line_offset, is_shift, is_loss, is_share, is_up, is_need, is_up_dual, is_down_dual, is_farkas_energy, is_farkas_up, is_farkas_down, is_farkas_reserve, is_farkas_room, of_opposite}
@@ -52,7 +53,7 @@ use Rattle.market_system.specs.declared.variables.Variable.TheVariants.{Block, O
 use Rattle.market_system.specs.PairLaw.{LawOfThePairs}
 use Rattle.market_system.proofs.DualLists.{rows_apart}
 use Rattle.market_system.proofs.RowOrder.{AreInOrder}
-use Rattle.market_system.proofs.VariableLaws.{from_places, high-at, in_places, taken-in_order, variable_in}
+use Rattle.market_system.proofs.VariableLaws.{from_places, high-at, taken-in_order, variable_in}
 use Rattle.market_system.specs.WorkingPairs.{IsRangeOf}
 
 -- ---- numbers of any sort that count with either sign
@@ -213,7 +214,7 @@ among_offers (q ∷ qs) (suc n) o lt = behind (q.unit == (slice_index_or qs n o)
 
 offer_unit-among : (m : Parts) → IsMarket m → (n : ℕ) → n < length m.reserve.offers → Contains (reserve_units m) (offer_at m n).unit
 offer_unit-among m market n lt =
-    Contains-filter (offers_reserve m) (places (length m.units)) (offer_at m n).unit (in_places (length m.units) (offer_at m n).unit (offer_unit-in m market n lt)) (among_offers m.reserve.offers n _ lt)
+    offers-listed m (offer_at m n).unit (offer_unit-in m market n lt) (among_offers m.reserve.offers n _ lt)
 
 -- ---- one choice, over rows that are reached
 module _ (m : Parts) (taken : List Row) (g : Taken) (reached : Growth m taken g.limits) (h : Choice) (is : IsChoice (system_of m g) h) (bound : ℕ) (p : Passed Fraction) where
@@ -424,8 +425,8 @@ module _ (m : Parts) (taken : List Row) (g : Taken) (reached : Growth m taken g.
     prices_scaled terms (price_of_bus i same lt part) = bus_prices_scaled i lt terms part
     prices_scaled terms (price_of_unit same (own_price_of_unit u lt)) = (
       tt,
-      scaled_map kind (λ r. Product (neg_ℚ (net_shadow_price m d r)) (row_pickup m r.line r.cause)) (filter (λ r. loses m u r.cause) (rows m))
-          (λ r k. let c = (Contains-from_filter (λ s. loses m u s.cause) (rows m) r k).0 in inr (opposite_net r c, row_pickup_number r c)),
+      scaled_map kind (λ r. Product (neg_ℚ (net_shadow_price m d r)) (row_pickup m r.line r.cause)) (filter (λ r. loses_unit m u r.cause) (rows m))
+          (λ r k. let c = (Contains-from_filter (λ s. loses_unit m u s.cause) (rows m) r k).0 in inr (opposite_net r c, row_pickup_number r c)),
     )
 
   -- ---- the bound of duals that show that nothing is feasible
@@ -459,7 +460,7 @@ module _ (m : Parts) (taken : List Row) (g : Taken) (reached : Growth m taken g.
         by : (b : Bool) → offers_reserve m u ≡ b → Number Factor (energy_worth m d u)
         by true e =
             subst (Number Factor) (by_ring ring_ℚ (unit_price m d u ∷ room_price m d u ∷ []) (at 0 ⊕ (pneg (at 1) ⊕ pnil)) (at 0 ⊕ pneg (at 1)) refl)
-            (whole_sum Factor (worth_terms m d u) (of_farkas_worth d (worth_terms m d u) f (energy_of_unit u (Contains-filter (offers_reserve m) (places (length m.units)) u (in_places (length m.units) u lt) e))))
+            (whole_sum Factor (worth_terms m d u) (of_farkas_worth d (worth_terms m d u) f (energy_of_unit u (offers-listed m u lt e))))
         by false e =
             let none : room_price m d u ≡ nil = ap (λ (b : Bool). if b then room_price_in d.rooms (unit_at m u).row else nil) e in
             subst (Number Factor) (by_ring1 ring_ℚ (unit_price m d u ∷ room_price m d u ∷ []) (at 0) (at 0 ⊕ pneg (at 1)) pone (at 1) pnil none refl) (price_number u lt)
@@ -476,7 +477,7 @@ module _ (m : Parts) (taken : List Row) (g : Taken) (reached : Growth m taken g.
     need_scaled false = tt
 
     room_scaled : (u : ℕ) → Contains (reserve_units m) u → IsScaled Quantity (Product (room_price m d u) (room m u))
-    room_scaled u c = inl (is_farkas_room d u f c, alone (room m u) (is_up u (from_places (length m.units) u (Contains-from_filter (offers_reserve m) (places (length m.units)) u c).0)))
+    room_scaled u c = inl (is_farkas_room d u f c, alone (room m u) (is_up u (listed-inside m u c)))
 
     nothing_scaled : AreScaled Quantity (nothing_terms m d)
     nothing_scaled = (

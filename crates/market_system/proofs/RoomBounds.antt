@@ -1,6 +1,6 @@
 -- Reserve and rooms as sums over blocks and offers, and between which bounds these are: the blocks of a unit raise its output by no more than it
 -- has room for on either side.
-use Rattle.std.specs.Prelude.{◌≡◌, ℕ, ◌<◌, ◌==◌, ◌&&◌, Bool, true, false, pos, [], ◌∷◌, length, map, filter, Contains, if◌then◌else◌, refl}
+use Rattle.std.specs.Prelude.{◌≡◌, ℕ, ◌<◌, ◌==◌, ◌&&◌, Bool, true, false, pos, [], ◌∷◌, length, map, filter, if◌then◌else◌, refl}
 use Rattle.std.proofs.Common.{ap, ap₂, sym, ◌∙◌, subst}
 use Rattle.fraction_theory.specs.Fraction.{Fraction, whole, neg_ℚ, ◌+ℚ◌, ◌-ℚ◌, ◌*ℚ◌}
 use Rattle.fraction_theory.specs.Order.{◌≤ℚ◌}
@@ -11,24 +11,19 @@ use Rattle.fraction_theory.proofs.FieldLaws.{ring_ℚ}
 use Rattle.fraction_theory.proofs.OrderLaws.{≤ℚ_of_same, ≤ℚ_trans, by_le1, by_le2, NonNeg-one, whole-≤ℚ}
 use Rattle.fraction_theory.proofs.SignLaws.{part_least}
 use Rattle.fraction_theory.proofs.SumLaws.{sum_by-nil, sum_by-same, sum_by-≤, total-append, total-Plain}
-use Rattle.fraction_theory.proofs.ListSums.{kept, Contains-from_filter, sum_by-filter}
+use Rattle.fraction_theory.proofs.ListSums.{kept, sum_by-filter}
 use Rattle.market_model.specs.declared.participants.Block.{Block}
 use Rattle.market_model.specs.declared.participants.Parts.{Parts}
 use Rattle.market_model.specs.declared.participants.Side.{Side}
 use Rattle.market_model.specs.declared.participants.Side.TheVariants.{Sell, Buy}
 use Rattle.market_model.specs.Dispatch.{Dispatch, IsDispatch, zero, places, block_at, offer_at, unit_at, blocks_of, block_term, signed_by_side, accepted, quantity, raised_by, reserved, reserve_quantity}
 use Rattle.market_model.specs.Market.{IsMarket}
-use Rattle.market_model.specs.Reserves.{offer_places, offers_of, offers_reserve, reserve, reserve_need, reserve_units, reserved_term, room_used}
+use Rattle.market_model.specs.Reserves.{offer_places, offers_of, reserve, reserve_need, reserved_term, room_used}
 use Rattle.market_model.specs.Stairs.{is_on_stair, offered, same_side, stair_in}
 use Rattle.market_model.proofs.MarketSums.{sum_by-neg}
 use Rattle.market_model.proofs.PlaceSums.{places_all, sum_by-places, sum_by-whole}
 use Rattle.market_system.specs.MarketSystem.{at_unit, block_sign, most_reserve, reserve_offered}
 use Rattle.market_system.proofs.SystemLaws.{signed-times}
-use Rattle.market_system.proofs.VariableLaws.{from_places}
-
--- a unit that offers reserve is one of the market's
-pub reserve_unit-in : (m : Parts) (u : ℕ) → Contains (reserve_units m) u → u < length m.units
-reserve_unit-in m u c = from_places (length m.units) u (Contains-from_filter (offers_reserve m) (places (length m.units)) u c).0
 
 -- ---- sums
 -- what is accepted of reserve in all

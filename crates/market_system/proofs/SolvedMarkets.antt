@@ -31,6 +31,7 @@ use Rattle.market_model.proofs.Excesses.{penalty_least}
 use Rattle.market_model.proofs.PlaceSums.{sum_by-one_place}
 use Rattle.market_model.proofs.MarketSums.{block_unit-in}
 use Rattle.market_model.proofs.ReserveSums.{offer_unit-in, reserve-by_offers, room_used-by_parts}
+use Rattle.market_model.proofs.RoomLemmas.{listed-inside}
 use Rattle.market_model.proofs.RowLaws.{unit_price-by_factors}
 use Rattle.market_system.specs.declared.variables.Variable.TheVariants.{Block, Balance, Limit, Over, Under, Offer, Need, Room}
 use Rattle.market_system.specs.Growth.{BestFor}
@@ -40,7 +41,6 @@ use Rattle.market_system.proofs.Clamps.{all_reach, room_low-blocks, room_low-off
 use Rattle.market_system.proofs.RowOrder.{RowsApart, AreInOrder, same_row-itself, same_row-not, is_in-in, is_in-from, is_among-from, in_order-in, in_order-filter, ordered-distinct}
 use Rattle.market_system.proofs.DualLists.{NamesApart, rows_apart, takes_room, rooms_in_order-places, same_itself, up_by, down_by, up_sign, down_sign, up_most, down_most, up_is, down_is, up-made, down-made, net_price-made, room_price-made, proper-made}
 use Rattle.market_system.proofs.MarketPoints.{point_of, point_meets, point_within, point_welfare, dispatch_at-accepted, dispatch_at-reserved, dispatch_reserve, dispatch_room, dispatch_welfare, dispatch_flow, dispatch_feasible, added_within, over_between, under_between}
-use Rattle.market_system.proofs.RoomBounds.{reserve_unit-in}
 use Rattle.market_system.proofs.RowSums.{sum_by-alone}
 use Rattle.market_system.proofs.SoftRows.{kept_most, kept_nil, side_stands, side_unpriced}
 use Rattle.market_system.proofs.VariableLaws.{in_places, from_places, taken-in_order, is_system_over, column_in, offer_in, column_listed, excess_listed, variable_in, over_in, under_in, sum-rows, sum-variables, coefficient-at, price-at, low-at, high-at}
@@ -492,7 +492,7 @@ module _ (m : Parts) (names : NamesApart m) (market : IsMarket m) (t : Taken) wh
       room_supported : (u : ℕ) → Contains (reserve_units m) u → RoomSupported m dispatch duals u
       room_supported u c = record {
         sign = subst (λ y. nil ≤ℚ y) (sym price_is) (part_least (room_cost u)).0;
-        used_up = λ l. let r = high_room u (reserve_unit-in m u c) (part_positive (room_cost u) (subst (λ y. nil <ℚ y) price_is l)) in
+        used_up = λ l. let r = high_room u (listed-inside m u c) (part_positive (room_cost u) (subst (λ y. nil <ℚ y) price_is l)) in
             room_value u r.0 ∙ r.1;
       }
         where

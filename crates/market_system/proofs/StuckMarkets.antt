@@ -13,7 +13,7 @@ use Rattle.fraction_theory.proofs.FieldLaws.{ring_ℚ}
 use Rattle.fraction_theory.proofs.OrderLaws.{≤ℚ_refl, ≤ℚ_trans, ≤ℚ-<ℚ_trans, ≤ℚ-or-<ℚ, ≤ℚ_of_same, ≤ℚ_antisym, <ℚ-≤ℚ, +ℚ-≤ℚ, *ℚ-≤ℚ, *ℚ-≤ℚ_neg, NonNeg_from, NonNeg-plus, le_to, by_le1, by_le2, NonNeg-one, whole-≤ℚ}
 use Rattle.fraction_theory.proofs.SignLaws.{sign_of_is, part_at_least, part_at_most, part_least}
 use Rattle.fraction_theory.proofs.SumLaws.{sum_by-same, sum_by-nil, sum_by-plus, sum_by-times, sum_by-≤}
-use Rattle.fraction_theory.proofs.ListSums.{kept, Contains-from_filter, put_at, put_at-here, put_at-elsewhere, same_or_not, sum_by-filter, sum_by-members}
+use Rattle.fraction_theory.proofs.ListSums.{kept, put_at, put_at-here, put_at-elsewhere, same_or_not, sum_by-filter, sum_by-members}
 use Rattle.linear_system.specs.Systems.{System, IsSystem, MeetsRows, InBounds}
 use Rattle.linear_system.specs.Choices.{Choice, IsChoice}
 use Rattle.linear_system.proofs.Multipliers.{multiplied}
@@ -38,6 +38,7 @@ use Rattle.market_model.proofs.EnergyAlone.{no_places, no_units}
 use Rattle.market_model.proofs.MarketSums.{block_unit-in}
 use Rattle.market_model.proofs.PlaceSums.{gather_times, places_all}
 use Rattle.market_model.proofs.ReserveSums.{whole_rooms}
+use Rattle.market_model.proofs.RoomLemmas.{listed-inside, listed-offers}
 use Rattle.market_system.specs.MarketSystem.{name, balance_name, row_name, over_name, under_name, offer_name, need_name, room_name, is_in, in_order, is_among, rooms_in_order, taken_in_order, residual_demand, most_reserve, reserve_offered, block_sign, block_coefficient, system_of, duals_by_cost, IsVariableOf}
 use Rattle.market_system.proofs.Clamps.{lack, lack-nil, lack-below, where_low, block_more, offer_more, sum_more, buys_fit}
 use Rattle.market_model.specs.NamedSums.{SameSize}
@@ -45,7 +46,6 @@ use Rattle.market_system.specs.MarketNumbers.{IsFarkasOf}
 use Rattle.market_system.proofs.RowOrder.{RowsApart, in_order-filter, is_in-in, is_among-in, is_among-from, rooms_in_order-from, rooms_in_order-filter}
 use Rattle.market_system.proofs.DualLists.{NamesApart, rows_apart, takes_room, rooms_in_order-places, room_price-made, one_is_nil, up_by, down_by, up_sign, down_sign, up_is_part, down_is_part, up-made, down-made, net_price-made, prices_only-made, proper-made}
 use Rattle.market_system.proofs.MarketPoints.{is_system_of, both_parts, low-block, high-block, low-balance, high-balance, low-row, high-row, low-over, low-under, high-over, high-under, low-offer, high-offer, low-need, high-need, low-room, high-room, over_column, under_column, over_variable, under_variable, block_in, balance_in, row_in, offer_in, need_in, room_in}
-use Rattle.market_system.proofs.RoomBounds.{reserve_unit-in}
 use Rattle.market_system.proofs.SolvedMarkets.{at_room, offer_listed_by, offered_most, rows-at, rows-offer, rows-over, rows-under, signed_minus, weight-made}
 use Rattle.market_system.proofs.SoftRows.{hard_stands, most_excess_least}
 use Rattle.market_system.proofs.VariableLaws.{by_variable, from_places, column_in, offer_in as offer_column, soft, sum-columns, sum-rows}
@@ -146,7 +146,7 @@ bounds_ordered m names market g = by_variable m (taken_in_order m g) (λ w. (sys
     by Need e = subst₂ ◌≤ℚ◌ (sym (low-need m (rows_apart m names) g e)) (sym (high-need m (rows_apart m names) g e))
         (by_le1 (reserve_need m ∷ part_above (reserve_offered m -ℚ reserve_need m) ∷ []) (at 0) (at 0 ⊕ at 1) pone pnil (at 1) NonNeg-one (part_least (reserve_offered m -ℚ reserve_need m)).0 refl)
     by (Room u) c = subst₂ ◌≤ℚ◌ (sym (low-room m (rows_apart m names) g u c)) (sym (high-room m (rows_apart m names) g u c))
-        (let is : IsUnit (length m.buses) (unit_at m u) = market.units u _ (reserve_unit-in m u (rooms_in_order-from m g.rooms u c).0) in
+        (let is : IsUnit (length m.buses) (unit_at m u) = market.units u _ (listed-inside m u (rooms_in_order-from m g.rooms u c).0) in
         by_le2 (whole (unit_at m u).down ∷ whole (unit_at m u).up ∷ []) (pneg (at 0)) (at 1) pone pnil (at 0) pone pnil (at 1) NonNeg-one (whole-≤ℚ (pos 0) (unit_at m u).down is.down) NonNeg-one (whole-≤ℚ (pos 0) (unit_at m u).up is.up) refl)
 
 module _ (m : Parts) (names : NamesApart m) (market : IsMarket m) (g : Taken) (h : Choice) (choice : IsChoice (system_of m g) h)
@@ -314,7 +314,7 @@ module _ (m : Parts) (names : NamesApart m) (market : IsMarket m) (g : Taken) (h
   rooms_up =
       sum_by-members (λ u. room_price m stuck_duals u *ℚ room m u) (λ u. kept (is_among g.rooms u) (room_up u)) (reserve_units m)
       (λ u c. ap (λ t. t *ℚ room m u) (room_price_is u)
-      ∙ ap (λ (t : Bool). part_above (kept (t && is_among g.rooms u) (turned (room_name m u))) *ℚ room m u) (Contains-from_filter (offers_reserve m) (places (length m.units)) u c).1
+      ∙ ap (λ (t : Bool). part_above (kept (t && is_among g.rooms u) (turned (room_name m u))) *ℚ room m u) (listed-offers m u c)
       ∙ by (is_among g.rooms u) (turned (room_name m u)) (room m u))
       ∙ sym (sum_by-filter room_up (is_among g.rooms) (reserve_units m))
       ∙ ap (sum_by room_up) (sym (rooms_in_order-filter m g.rooms))
@@ -565,7 +565,7 @@ module _ (m : Parts) (names : NamesApart m) (market : IsMarket m) (g : Taken) (h
   }
     where
       takes : (u : ℕ) → Contains g.rooms u → Contains (reserve_units m) u → takes_room m g.rooms u ≡ true
-      takes u c k = ap₂ ◌&&◌ (Contains-from_filter (offers_reserve m) (places (length m.units)) u k).1 (is_among-in g.rooms u c)
+      takes u c k = ap₂ ◌&&◌ (listed-offers m u k) (is_among-in g.rooms u c)
 
       absent : (u : ℕ) → ¬ (Contains g.rooms u) → (t : Bool) → is_among g.rooms u ≡ t → (o : Bool) → kept (o && is_among g.rooms u) (turned (room_name m u)) ≡ nil
       absent u out true k o = absurd (out (is_among-from g.rooms u k))

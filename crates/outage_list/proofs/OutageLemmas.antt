@@ -16,8 +16,8 @@ use Rattle.std.proofs.lemmas.Map.Steps.{length-le_from_distinct_below}
 use Rattle.market_data.specs.Scales.{share_one}
 use Rattle.market_data.specs.WholeSums.{int_sum}
 use Rattle.market_model.specs.Market.{AreUnitOutages, IsPickup}
-use Rattle.outage_list.specs.declared.takings.Taking.{Taking}
-use Rattle.outage_list.specs.Takings.{IsTaking}
+use Rattle.outage_list.specs.declared.pickup_records.UnitPickup.{UnitPickup}
+use Rattle.outage_list.specs.PickupRecords.{IsUnitPickup}
 use Rattle.outage_list.specs.UnitListing.{PicksUpAll, is_uneven, lost_units, outage_of, pickup_of, share_in, share_sum, with_lost, with_unit}
 use Rattle.outage_list.proofs.ListingLemmas.{among, apart-push, not_among}
 use Rattle.outage_list.proofs.UnitLemmas.{exact, share-range}
@@ -37,10 +37,10 @@ lost-more units us u are lt = by (list_any (λ v. v == u) us) refl
       once = apart-push us u are.once (not_among us u e);
     }
 
-all-lost : (units : ℕ) (us : List ℕ) (ts : List Taking) → AreLost units us → All (IsTaking units) ts → AreLost units (with_lost us ts)
+all-lost : (units : ℕ) (us : List ℕ) (ts : List UnitPickup) → AreLost units us → All (IsUnitPickup units) ts → AreLost units (with_lost us ts)
 unfolding with_lost
 all-lost units us [] are all = are
-all-lost units us (t ∷ ts) are all = all-lost units (with_unit us t.lost) ts (lost-more units us t.lost are (all 0 t (omega arith)).lost) (All-tail (IsTaking units) t ts all)
+all-lost units us (t ∷ ts) are all = all-lost units (with_unit us t.lost) ts (lost-more units us t.lost are (all 0 t (omega arith)).lost) (All-tail (IsUnitPickup units) t ts all)
 
 -- ---- each unit that a record loses is among them
 has-more : (us : List ℕ) (u v : ℕ) → list_any (λ w. w == v) us ≡ true → list_any (λ w. w == v) (with_unit us u) ≡ true
@@ -57,12 +57,12 @@ has-it us u = by (list_any (λ w. w == u) us) refl
     by true e = e
     by false e = let it = eq-eqb u u refl in list_any-append (λ w. w == u) us (u ∷ []) ∙ rw (e, it) refl
 
-has-kept : (us : List ℕ) (ts : List Taking) (v : ℕ) → list_any (λ w. w == v) us ≡ true → list_any (λ w. w == v) (with_lost us ts) ≡ true
+has-kept : (us : List ℕ) (ts : List UnitPickup) (v : ℕ) → list_any (λ w. w == v) us ≡ true → list_any (λ w. w == v) (with_lost us ts) ≡ true
 unfolding with_lost
 has-kept us [] v h = h
 has-kept us (t ∷ ts) v h = has-kept (with_unit us t.lost) ts v (has-more us t.lost v h)
 
-has-lost : (us : List ℕ) (ts : List Taking) (k : ℕ) (d : Taking) → k < length ts → list_any (λ w. w == (get_or ts k d).lost) (with_lost us ts) ≡ true
+has-lost : (us : List ℕ) (ts : List UnitPickup) (k : ℕ) (d : UnitPickup) → k < length ts → list_any (λ w. w == (get_or ts k d).lost) (with_lost us ts) ≡ true
 unfolding with_lost
 has-lost us [] k d lt = absurd (omega (arith, lt))
 has-lost us (t ∷ ts) zero d lt = has-kept (with_unit us t.lost) ts t.lost (has-it us t.lost)
@@ -118,36 +118,36 @@ few-lost units us are =
     subst (λ (n : ℕ). n < units) (sym same) (All-contains (λ u. u < units) us y are.each (k, lt, at)))
 
 -- ---- what is picked up
-sum-least : (units u : ℕ) (ts : List Taking) → All (IsTaking units) ts → pos 0 ≤ℤ int_sum (share_in u) ts
+sum-least : (units u : ℕ) (ts : List UnitPickup) → All (IsUnitPickup units) ts → pos 0 ≤ℤ int_sum (share_in u) ts
 sum-least units u [] all = omega (arith, ints)
 sum-least units u (t ∷ ts) all =
     let first = share-range units u t (all 0 t (omega arith)) in
-    let rest = sum-least units u ts (All-tail (IsTaking units) t ts all) in
+    let rest = sum-least units u ts (All-tail (IsUnitPickup units) t ts all) in
     omega (arith, ints, first.0, rest)
 
-sum-most : (units u : ℕ) (ts : List Taking) → All (IsTaking units) ts → int_sum (share_in u) ts ≤ℤ pos (length ts * 1000000000)
+sum-most : (units u : ℕ) (ts : List UnitPickup) → All (IsUnitPickup units) ts → int_sum (share_in u) ts ≤ℤ pos (length ts * 1000000000)
 sum-most units u [] all = omega (arith, ints)
 sum-most units u (t ∷ ts) all =
     let first = share-range units u t (all 0 t (omega arith)) in
-    let rest = sum-most units u ts (All-tail (IsTaking units) t ts all) in
+    let rest = sum-most units u ts (All-tail (IsUnitPickup units) t ts all) in
     omega (arith, ints, first.1, rest)
 
 -- the sum is a machine number
-pub sum-exact : (units u : ℕ) (ts : List Taking) (s : ℤ) → All (IsTaking units) ts → length ts ≤ 5000 → s ≡ share_sum ts u → to_z w64 (of_z w64 s) ≡ share_sum ts u
+pub sum-exact : (units u : ℕ) (ts : List UnitPickup) (s : ℤ) → All (IsUnitPickup units) ts → length ts ≤ 5000 → s ≡ share_sum ts u → to_z w64 (of_z w64 s) ≡ share_sum ts u
 sum-exact units u ts s all few is =
     ap (λ z. to_z w64 (of_z w64 z)) is ∙ exact (share_sum ts u) (sum-least units u ts all) (omega (arith, ints, sum-most units u ts all, few))
 
 -- a share is at most the sum of those of its outage
-share-le : (units : ℕ) (ts : List Taking) (k : ℕ) (d : Taking) → All (IsTaking units) ts → k < length ts → (get_or ts k d).share ≤ℤ share_sum ts (get_or ts k d).lost
+share-le : (units : ℕ) (ts : List UnitPickup) (k : ℕ) (d : UnitPickup) → All (IsUnitPickup units) ts → k < length ts → (get_or ts k d).share ≤ℤ share_sum ts (get_or ts k d).lost
 share-le units [] k d all lt = absurd (omega (arith, lt))
 share-le units (t ∷ ts) zero d all lt =
-    let rest = sum-least units t.lost ts (All-tail (IsTaking units) t ts all) in
+    let rest = sum-least units t.lost ts (All-tail (IsUnitPickup units) t ts all) in
     let it = eq-eqb t.lost t.lost refl in
     let here : share_in t.lost t ≡ t.share = rw it refl in
     omega (arith, ints, rest, here)
 share-le units (t ∷ ts) (suc k) d all lt =
     let first = share-range units (get_or ts k d).lost t (all 0 t (omega arith)) in
-    let rest = share-le units ts k d (All-tail (IsTaking units) t ts all) (omega (arith, lt)) in
+    let rest = share-le units ts k d (All-tail (IsUnitPickup units) t ts all) (omega (arith, lt)) in
     omega (arith, ints, first.0, rest)
 
 -- where none passes, each fails
@@ -159,22 +159,22 @@ none-all {X} test (x ∷ xs) e = by (none-all test xs) (test x) refl
     by rest true h = let found : ◌≡◌ (Some x) None = rw h at e in cc
     by rest false h = All-cons (λ (y : X). test y ≡ false) x xs h (rest (rw h at e))
 
-whole-sum : (ts : List Taking) (u : ℕ) → is_uneven ts u ≡ false → share_sum ts u ≡ pos share_one
+whole-sum : (ts : List UnitPickup) (u : ℕ) → is_uneven ts u ≡ false → share_sum ts u ≡ pos share_one
 whole-sum ts u even = (Decides-int_eq (share_sum ts u) (pos share_one)).0 (not-false _ even)
 
 -- the shares of an outage are those of its unit
-shares-by : (lost : List ℕ) (k v : ℕ) (ts : List Taking) → ((j : ℕ) (d : Taking) → j < length ts → (outage_of lost (get_or ts j d).lost == k) ≡ ((get_or ts j d).lost == v))
+shares-by : (lost : List ℕ) (k v : ℕ) (ts : List UnitPickup) → ((j : ℕ) (d : UnitPickup) → j < length ts → (outage_of lost (get_or ts j d).lost == k) ≡ ((get_or ts j d).lost == v))
     → int_sum (λ p. if p.outage == k then p.share else pos 0) (map (pickup_of lost) ts) ≡ share_sum ts v
 shares-by lost k v [] same = refl
 shares-by lost k v (t ∷ ts) same =
     ap₂ ◌+ℤ◌ (ap (λ (b : Bool). if b then t.share else pos 0) (same 0 t (omega arith))) (shares-by lost k v ts (λ j d lt. same (suc j) d (omega (arith, lt))))
 
 -- ---- the outages that are listed
-module _ (units : ℕ) (ts : List Taking) (most : units ≤ 1000) (few : length ts ≤ 5000) (all : All (IsTaking units) ts) (even : find (is_uneven ts) (lost_units ts) ≡ None) where
+module _ (units : ℕ) (ts : List UnitPickup) (most : units ≤ 1000) (few : length ts ≤ 5000) (all : All (IsUnitPickup units) ts) (even : find (is_uneven ts) (lost_units ts) ≡ None) where
   lost-are : AreLost units (lost_units ts)
   lost-are = all-lost units [] ts (record { each = All-nil _; once = λ i j d lt within. absurd (omega (arith, within)) }) all
 
-  pickup-is : (k : ℕ) (d : Taking) → k < length ts → IsPickup (length (lost_units ts)) units (pickup_of (lost_units ts) (get_or ts k d))
+  pickup-is : (k : ℕ) (d : UnitPickup) → k < length ts → IsPickup (length (lost_units ts)) units (pickup_of (lost_units ts) (get_or ts k d))
   pickup-is k d lt =
       let t = get_or ts k d in
       let has = has-lost [] ts k d lt in

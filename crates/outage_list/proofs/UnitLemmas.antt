@@ -11,8 +11,8 @@ use Rattle.market_data.proofs.WholeSumLaws.{int_sum_more}
 use Rattle.market_data.specs.WholeSums.{int_sum}
 use Rattle.net_case.specs.declared.live_parts.NetUnit.{NetUnit}
 use Rattle.net_case.specs.Networks.{LiveNetwork}
-use Rattle.outage_list.specs.declared.takings.Taking.{Taking}
-use Rattle.outage_list.specs.Takings.{IsTaking, unit_place}
+use Rattle.outage_list.specs.declared.pickup_records.UnitPickup.{UnitPickup}
+use Rattle.outage_list.specs.PickupRecords.{IsUnitPickup, unit_place}
 use Rattle.outage_list.specs.UnitListing.{share_in, with_lost, with_unit}
 
 -- the place of a live unit
@@ -23,13 +23,13 @@ live-place network n place found =
     (position-Some (λ (unit : NetUnit). int_eq (pos unit.row) n) network.units place d found).0
 
 -- ---- the units that are lost
-pub lost-step : (units : List ℕ) (takings : List Taking) (i : ℕ) (d : Taking) → i < length takings → with_lost units (drop i takings) ≡ with_lost (with_unit units (get_or takings i d).lost) (drop (i + 1) takings)
+pub lost-step : (units : List ℕ) (unit_pickups : List UnitPickup) (i : ℕ) (d : UnitPickup) → i < length unit_pickups → with_lost units (drop i unit_pickups) ≡ with_lost (with_unit units (get_or unit_pickups i d).lost) (drop (i + 1) unit_pickups)
 unfolding with_lost
-lost-step units takings i d lt = rw (drop_more takings i d lt) refl
+lost-step units unit_pickups i d lt = rw (drop_more unit_pickups i d lt) refl
 
-pub lost-end : (units : List ℕ) (takings : List Taking) (i : ℕ) → length takings ≤ i → with_lost units (drop i takings) ≡ units
+pub lost-end : (units : List ℕ) (unit_pickups : List UnitPickup) (i : ℕ) → length unit_pickups ≤ i → with_lost units (drop i unit_pickups) ≡ units
 unfolding with_lost
-lost-end units takings i le = rw (drop_all i takings le) refl
+lost-end units unit_pickups i le = rw (drop_all i unit_pickups le) refl
 
 -- ---- what is picked up
 -- an amount that a machine number holds
@@ -41,7 +41,7 @@ share-most : (z : ℤ) → pos 0 <ℤ z → unsigned_abs z ≤ 1000000000 → (p
 share-most (pos n) above size = (omega (arith, ints), omega (arith, ints, size))
 share-most (negsuc n) above size = absurd (omega (arith, ints, above))
 
-pub share-range : (units u : ℕ) (t : Taking) → IsTaking units t → (pos 0 ≤ℤ share_in u t) × (share_in u t ≤ℤ pos 1000000000)
+pub share-range : (units u : ℕ) (t : UnitPickup) → IsUnitPickup units t → (pos 0 ≤ℤ share_in u t) × (share_in u t ≤ℤ pos 1000000000)
 share-range units u t is = by (t.lost == u)
   where
     by : (b : Bool) → (pos 0 ≤ℤ (if b then t.share else pos 0)) × ((if b then t.share else pos 0) ≤ℤ pos 1000000000)
@@ -49,21 +49,21 @@ share-range units u t is = by (t.lost == u)
     by false = (omega (arith, ints), omega (arith, ints))
 
 -- the sum of the shares of so many records
-pub record SumSoFar (u : ℕ) (takings : List Taking) (i : ℕ) (b : ℤ) : Type 0 where
-  pub sum : b ≡ int_sum (share_in u) (take i takings)
+pub record SumSoFar (u : ℕ) (unit_pickups : List UnitPickup) (i : ℕ) (b : ℤ) : Type 0 where
+  pub sum : b ≡ int_sum (share_in u) (take i unit_pickups)
   pub least : pos 0 ≤ℤ b
   pub most : b ≤ℤ pos (i * 1000000000)
 
-pub sum-step : (units u : ℕ) (takings : List Taking) (i : ℕ) (d : Taking) (b s : ℤ) → All (IsTaking units) takings → length takings ≤ 5000 → i < length takings → s ≡ share_in u (get_or takings i d)
-    → SumSoFar u takings i b → SumSoFar u takings (i + 1) (to_z w64 (of_z w64 (b +ℤ to_z w64 (of_z w64 s))))
-sum-step units u takings i d b s all few lt is so =
-    let range = share-range units u (get_or takings i d) (all i d lt) in
+pub sum-step : (units u : ℕ) (unit_pickups : List UnitPickup) (i : ℕ) (d : UnitPickup) (b s : ℤ) → All (IsUnitPickup units) unit_pickups → length unit_pickups ≤ 5000 → i < length unit_pickups → s ≡ share_in u (get_or unit_pickups i d)
+    → SumSoFar u unit_pickups i b → SumSoFar u unit_pickups (i + 1) (to_z w64 (of_z w64 (b +ℤ to_z w64 (of_z w64 s))))
+sum-step units u unit_pickups i d b s all few lt is so =
+    let range = share-range units u (get_or unit_pickups i d) (all i d lt) in
     let least : pos 0 ≤ℤ s = subst (λ z. pos 0 ≤ℤ z) (sym is) range.0 in
     let most : s ≤ℤ pos 1000000000 = subst (λ z. z ≤ℤ pos 1000000000) (sym is) range.1 in
     let one : to_z w64 (of_z w64 s) ≡ s = exact s least (omega (arith, ints, most)) in
     let both : to_z w64 (of_z w64 (b +ℤ s)) ≡ b +ℤ s = exact (b +ℤ s) (omega (arith, ints, least, so.least)) (omega (arith, ints, most, so.most, few, lt)) in
-    subst (SumSoFar u takings (i + 1)) (sym (ap (λ z. to_z w64 (of_z w64 (b +ℤ z))) one ∙ both)) (record {
-      sum = ap₂ ◌+ℤ◌ so.sum is ∙ sym (int_sum_more (share_in u) takings i d lt);
+    subst (SumSoFar u unit_pickups (i + 1)) (sym (ap (λ z. to_z w64 (of_z w64 (b +ℤ z))) one ∙ both)) (record {
+      sum = ap₂ ◌+ℤ◌ so.sum is ∙ sym (int_sum_more (share_in u) unit_pickups i d lt);
       least = omega (arith, ints, least, so.least);
       most = omega (arith, ints, most, so.most);
     })

@@ -1,3 +1,3 @@
 pub mod Listing
-pub mod Takings
+pub mod PickupRecords
 pub mod UnitListing

@@ -2,7 +2,7 @@
 #![tactic(auto)]
 
 mod listing;
-mod takings;
+mod pickup_records;
 mod unit_fault;
 mod unit_listing;
 

@@ -4,11 +4,11 @@ ghost use Rattle.std.specs.Prelude.{◌≡◌, ◌≢◌, ℕ, ◌≤◌, ◌==�
 ghost use Rattle.std.specs.List.{find};
 ghost use Rattle.market_data.specs.Scales.{most_pickups};
 ghost use Rattle.market_model.specs.Market.{AreUnitOutages};
-ghost use Rattle.outage_list.specs.Takings.{IsTaking};
+ghost use Rattle.outage_list.specs.PickupRecords.{IsUnitPickup};
 ghost use Rattle.outage_list.specs.UnitListing.{PicksUpAll, is_uneven, listed_by, lost_units, outage_of, pickup_of, row_at, share_in, share_sum, unit_outages_of, with_unit};
 
 use crate::UnitOutageFault;
-use crate::takings::{Taking, takings_of};
+use crate::pickup_records::{UnitPickup, unit_pickups_of};
 use csv_table::read_table;
 use market_data::{MOST_PICKUPS, SHARE_ONE};
 use market_model::Pickup;
@@ -39,53 +39,57 @@ fn add_unit(units: &mut List<usize>, unit: usize) -> Result<(), Memory>
 }
 
 /// The units that records lose, each once, in the order in which it is lost first.
-fn lost_units(alloc: Global, takings: &[Taking]) -> Result<List<usize>, Memory>
-    ensures { IfOk result (λ units. units ≡ lost_units takings.now) }
+fn lost_units(alloc: Global, unit_pickups: &[UnitPickup]) -> Result<List<usize>, Memory>
+    ensures { IfOk result (λ units. units ≡ lost_units unit_pickups.now) }
 {
     let mut units = List::new(alloc);
-    for taking in takings {
-        add_unit(&mut units, taking.lost)?;
+    for unit_pickup in unit_pickups {
+        add_unit(&mut units, unit_pickup.lost)?;
     }
     Ok(units)
 }
 
 /// What is picked up of a unit's output in a record.
-fn share_in(lost: usize, taking: Taking) -> i64
-    ensures { result ≡ share_in lost taking }
+fn share_in(lost: usize, unit_pickup: UnitPickup) -> i64
+    ensures { result ≡ share_in lost unit_pickup }
 {
-    if taking.lost == lost { taking.share } else { 0 }
+    if unit_pickup.lost == lost {
+        unit_pickup.share
+    } else {
+        0
+    }
 }
 
 /// The sum of the shares of what is picked up of a unit's output.
-fn share_sum(takings: &[Taking], lost: usize) -> i64
-    requires few { length takings.now ≤ most_pickups }
-    requires kept { (units : ℕ) × All (IsTaking units) takings.now }
-    ensures { result ≡ share_sum takings.now lost }
+fn share_sum(unit_pickups: &[UnitPickup], lost: usize) -> i64
+    requires few { length unit_pickups.now ≤ most_pickups }
+    requires kept { (units : ℕ) × All (IsUnitPickup units) unit_pickups.now }
+    ensures { result ≡ share_sum unit_pickups.now lost }
 {
     let mut sum = 0;
-    for taking in takings {
-        sum += share_in(lost, *taking);
+    for unit_pickup in unit_pickups {
+        sum += share_in(lost, *unit_pickup);
     }
     sum
 }
 
 /// Whether those shares are not all of the output.
-fn is_uneven(takings: &[Taking], lost: usize) -> bool
-    requires few { length takings.now ≤ most_pickups }
-    requires kept { (units : ℕ) × All (IsTaking units) takings.now }
-    ensures { result ≡ is_uneven takings.now lost }
+fn is_uneven(unit_pickups: &[UnitPickup], lost: usize) -> bool
+    requires few { length unit_pickups.now ≤ most_pickups }
+    requires kept { (units : ℕ) × All (IsUnitPickup units) unit_pickups.now }
+    ensures { result ≡ is_uneven unit_pickups.now lost }
 {
-    share_sum(takings, lost) != SHARE_ONE as i64
+    share_sum(unit_pickups, lost) != SHARE_ONE as i64
 }
 
 /// The first of these units whose shares are not all of its output.
-fn uneven(takings: &[Taking], units: &[usize]) -> Option<usize>
-    requires few { length takings.now ≤ most_pickups }
-    requires kept { (count : ℕ) × All (IsTaking count) takings.now }
-    ensures { result ≡ find (is_uneven takings.now) units.now }
+fn uneven(unit_pickups: &[UnitPickup], units: &[usize]) -> Option<usize>
+    requires few { length unit_pickups.now ≤ most_pickups }
+    requires kept { (count : ℕ) × All (IsUnitPickup count) unit_pickups.now }
+    ensures { result ≡ find (is_uneven unit_pickups.now) units.now }
 {
     for unit in units {
-        if is_uneven(takings, *unit) {
+        if is_uneven(unit_pickups, *unit) {
             return Some(*unit);
         }
     }
@@ -110,22 +114,26 @@ fn outage_of(lost: &[usize], unit: usize) -> usize
 }
 
 /// A record, by the place of its outage.
-fn pickup_of(lost: &[usize], taking: Taking) -> Pickup
-    ensures { result ≡ pickup_of lost.now taking }
+fn pickup_of(lost: &[usize], unit_pickup: UnitPickup) -> Pickup
+    ensures { result ≡ pickup_of lost.now unit_pickup }
 {
     Pickup {
-        outage: outage_of(lost, taking.lost),
-        taker: taking.taker,
-        share: taking.share,
+        outage: outage_of(lost, unit_pickup.lost),
+        taker: unit_pickup.taker,
+        share: unit_pickup.share,
     }
 }
 
-fn pickups_of(alloc: Global, lost: &[usize], takings: &[Taking]) -> Result<List<Pickup>, Memory>
-    ensures { IfOk result (λ pickups. pickups ≡ map (pickup_of lost.now) takings.now) }
+fn pickups_of(
+    alloc: Global,
+    lost: &[usize],
+    unit_pickups: &[UnitPickup],
+) -> Result<List<Pickup>, Memory>
+    ensures { IfOk result (λ pickups. pickups ≡ map (pickup_of lost.now) unit_pickups.now) }
 {
     let mut pickups = List::new(alloc);
-    for taking in takings {
-        pickups.push(pickup_of(lost, *taking))?;
+    for unit_pickup in unit_pickups {
+        pickups.push(pickup_of(lost, *unit_pickup))?;
     }
     Ok(pickups)
 }
@@ -144,23 +152,23 @@ fn row_at(network: &Network, place: usize) -> u32
 fn listed_by(
     alloc: Global,
     network: &Network,
-    takings: &[Taking],
+    unit_pickups: &[UnitPickup],
 ) -> Result<UnitOutages, UnitOutageFault>
-    requires few { length takings.now ≤ most_pickups }
-    requires kept { All (IsTaking (length network.now.units)) takings.now }
+    requires few { length unit_pickups.now ≤ most_pickups }
+    requires kept { All (IsUnitPickup (length network.now.units)) unit_pickups.now }
     ensures kept { IfOk result (λ outages. AreUnitOutages (length network.now.units) outages.lost outages.pickups) }
     ensures whole { IfOk result PicksUpAll }
-    ensures is { result ≢ Err UnitOutageFault.Memory → result ≡ listed_by network.now takings.now }
+    ensures is { result ≢ Err UnitOutageFault.Memory → result ≡ listed_by network.now unit_pickups.now }
 {
     let _units = network.units();
-    let lost = lost_units(alloc, takings)?;
-    if let Some(unit) = uneven(takings, lost.slice()) {
+    let lost = lost_units(alloc, unit_pickups)?;
+    if let Some(unit) = uneven(unit_pickups, lost.slice()) {
         return Err(UnitOutageFault::ShareSum {
             unit: row_at(network, unit),
-            sum: share_sum(takings, unit),
+            sum: share_sum(unit_pickups, unit),
         });
     }
-    let pickups = pickups_of(alloc, lost.slice(), takings)?;
+    let pickups = pickups_of(alloc, lost.slice(), unit_pickups)?;
     Ok(UnitOutages { lost, pickups })
 }
 
@@ -175,6 +183,6 @@ pub fn unit_outages(
     ensures is { result ≢ Err UnitOutageFault.Memory → result ≡ unit_outages_of network.now bytes.now }
 {
     let table = read_table(alloc, bytes, UNIT_OUTAGE_HEADER, Some(MOST_PICKUPS))??;
-    let takings = takings_of(alloc, network, &table)?;
-    listed_by(alloc, network, takings.slice())
+    let unit_pickups = unit_pickups_of(alloc, network, &table)?;
+    listed_by(alloc, network, unit_pickups.slice())
 }

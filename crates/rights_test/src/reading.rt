@@ -29,14 +29,14 @@ struct RightRecord {
 
 /// The numbers of a record, from left to right.
 #[tactic(auto, unfolding(crate::specs::RightsTable::record_in))]
-fn record_of(table: &Table, row: usize) -> Result<RightRecord, RightsFault>
-    requires { (row < length table.now) × (row + 2 < 2 ^ 64) }
+fn record_of(table: &Table, place: usize) -> Result<RightRecord, RightsFault>
+    requires { (place < length table.now) × (place + 2 < 2 ^ 64) }
     ensures datum { IfOk result (λ numbers. IsDatum numbers.mw) }
-    ensures is { result ≡ record_in (row + 2) (get_or table.now row []) }
+    ensures is { result ≡ record_in (place + 2) (get_or table.now place []) }
 {
-    let from = table.number(row, 0, 0)?;
-    let to = table.number(row, 1, 0)?;
-    let mw = table.number(row, 2, MW_PLACES)?;
+    let from = table.number(place, 0, 0)?;
+    let to = table.number(place, 1, 0)?;
+    let mw = table.number(place, 2, MW_PLACES)?;
     Ok(RightRecord { from, to, mw })
 }
 
@@ -62,16 +62,16 @@ fn place_of(buses: &[Bus], number: i64, line: usize) -> Result<usize, RightsFaul
 
 /// The right of a record.
 #[tactic(auto, unfolding(crate::specs::RightsTable::right_in))]
-fn right_of(buses: &[Bus], table: &Table, row: usize) -> Result<TransmissionRight, RightsFault>
-    requires { (row < length table.now) × (row + 2 < 2 ^ 64) }
+fn right_of(buses: &[Bus], table: &Table, place: usize) -> Result<TransmissionRight, RightsFault>
+    requires { (place < length table.now) × (place + 2 < 2 ^ 64) }
     ensures kept { IfOk result (IsTransmissionRight (length buses.now)) }
-    ensures is { result ≡ right_in buses.now (row + 2) (get_or table.now row []) }
+    ensures is { result ≡ right_in buses.now (place + 2) (get_or table.now place []) }
 {
-    let numbers = record_of(table, row)?;
-    let from = place_of(buses, numbers.from, row + 2)?;
-    let to = place_of(buses, numbers.to, row + 2)?;
+    let numbers = record_of(table, place)?;
+    let from = place_of(buses, numbers.from, place + 2)?;
+    let to = place_of(buses, numbers.to, place + 2)?;
     if numbers.mw < 0 {
-        return Err(RightsFault::Negative { line: row + 2 });
+        return Err(RightsFault::Negative { line: place + 2 });
     }
     Ok(TransmissionRight {
         from,
@@ -87,8 +87,8 @@ fn rights_of(alloc: Global, buses: &[Bus], table: &Table) -> Result<Rights, Righ
     ensures is { result ≢ Err RightsFault.Memory → result ≡ read_rows (λ done. right_in buses.now) [] 2 table.now }
 {
     let mut rights = List::new(alloc);
-    for row in 0..table.len() {
-        let right = right_of(buses, table, row)?;
+    for place in 0..table.len() {
+        let right = right_of(buses, table, place)?;
         rights.push(right)?;
     }
     Ok(rights)

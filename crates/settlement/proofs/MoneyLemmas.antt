@@ -29,7 +29,7 @@ use Rattle.market_model.specs.NamedSums.{SameSize, term_at, IsNextTerm, IsSumSte
 use Rattle.market_model.specs.Optimality.{bus_price, names_row, named_rows, own_price}
 use Rattle.market_model.specs.RightAnswers.{rent_of, settlement_at}
 use Rattle.market_model.specs.Reserves.{offer_places}
-use Rattle.market_model.specs.Settlement.{rent, surplus, pay_of_reserve, pay_of_unit, pay_of_load, left_terms, priced_flow}
+use Rattle.market_model.specs.Settlement.{rent, surplus, pay_of_reserve, pay_of_unit, pay_of_load, surplus_terms_by, priced_flow}
 use Rattle.market_model.specs.Valued.{dual_at, duals_at, load_at, rent_at, unit_pay_at}
 use Rattle.market_model.proofs.Optimum.{law_of_the_surplus, law_of_its_sign}
 use Rattle.market_model.proofs.RowMembers.{lost_unit-in}
@@ -145,22 +145,22 @@ module _ {N : Type 0} (value : N → Fraction) (m : Parts) (x : Dispatch) (price
       (λ u lt. sym (neg_times ring_ℚ (own_price m d price u) (output m x u)))
       ∙ sym (map-map (λ u. Product (neg_ℚ (own_price m d price u)) (output m x u)) term_value (places (length m.units)))
 
-  paid_is : map term_value (paid_terms value loads units) ≡ map term_value (left_terms m x price d)
+  paid_is : map term_value (paid_terms value loads units) ≡ map term_value (surplus_terms_by m x price d)
   paid_is =
       map-append term_value (map (λ (l : Load N). Plain (value l.pays)) loads) (map (λ (u : UnitPay N). Plain (neg_ℚ (value u.paid))) units)
       ∙ ap₂ ◌++◌ load_values unit_values
       ∙ sym (map-append term_value (map (λ i. Product (price i) (demand m i)) (places (length m.buses))) (map (λ u. Product (neg_ℚ (own_price m d price u)) (output m x u)) (places (length m.units))))
 
-  pub surplus_is : (s : Fraction) → s ≡ total (paid_terms value loads units) → s ≡ total (left_terms m x price d)
-  surplus_is s e = e ∙ total-same (paid_terms value loads units) (left_terms m x price d) paid_is
+  pub surplus_is : (s : Fraction) → s ≡ total (paid_terms value loads units) → s ≡ total (surplus_terms_by m x price d)
+  surplus_is s e = e ∙ total-same (paid_terms value loads units) (surplus_terms_by m x price d) paid_is
 
-  pub surplus_refused : (bound : ℕ) (p : Passed Fraction) → IsRefusedIn (paid_terms value loads units) bound p → IsRefusedIn (left_terms m x price d) bound p
+  pub surplus_refused : (bound : ℕ) (p : Passed Fraction) → IsRefusedIn (paid_terms value loads units) bound p → IsRefusedIn (surplus_terms_by m x price d) bound p
   surplus_refused bound p h =
-      refused_same (paid_terms value loads units) (left_terms m x price d) bound p (no_products (λ (l : Load N). value l.pays) (λ (u : UnitPay N). neg_ℚ (value u.paid)) loads units) paid_is h
+      refused_same (paid_terms value loads units) (surplus_terms_by m x price d) bound p (no_products (λ (l : Load N). value l.pays) (λ (u : UnitPay N). neg_ℚ (value u.paid)) loads units) paid_is h
 
 -- ---- at the prices of duals
 module _ (m : Parts) (x : Dispatch) (price : ℕ → Fraction) (d : Duals Fraction) (market : IsMarket m) (priced : ArePricesOf m d price) where
-  left_is_surplus : total (left_terms m x price d) ≡ surplus m x d
+  left_is_surplus : total (surplus_terms_by m x price d) ≡ surplus m x d
   unfolding surplus
   left_is_surplus = ap total (left_at m d price market priced x)
 

@@ -4,7 +4,7 @@ use Rattle.fraction_theory.specs.Fraction.{whole, neg_ℚ, ◌+ℚ◌, ◌*ℚ�
 use Rattle.exact_fraction.proofs.Shares.{share_refused}
 use Rattle.market_model.specs.declared.participants.Reserve.{Reserve}
 use Rattle.market_model.specs.Valued.{passed_at}
-use Rattle.cert_sums.proofs.RoomLemmas.{need_made, need_refused}
+use Rattle.market_model.proofs.FarkasParts.{need_made, need_refused}
 use Rattle.cert_sums.proofs.bounding_reserve.with_need.Goals as goal
 
 pub returns-then-reserve-clause-sum : goal.returns-then-reserve-clause-sum

@@ -2,7 +2,7 @@ use Rattle.std.proofs.Common.{◌≡◌, ◌++◌}
 use Rattle.fraction_theory.specs.Fraction.{Fraction}
 use Rattle.fraction_theory.specs.Sums.{total}
 use Rattle.market_model.specs.declared.answered.Duals.{Duals}
-use Rattle.cert_sums.specs.Bounds.{energy_left_terms, need_terms}
+use Rattle.market_model.specs.Infeasibility.{energy_left_terms, need_terms}
 use Rattle.cert_sums.specs.Named.{AreNamedRooms}
 use Rattle.cert_sums.proofs.RoomLemmas.{rooms_to}
 use Rattle.cert_sums.proofs.bounding_reserve.with_rooms.Given as goal

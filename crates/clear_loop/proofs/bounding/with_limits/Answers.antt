@@ -9,7 +9,7 @@ use Rattle.market_model.specs.Optimality.{down_of, named_rows, up_of}
 use Rattle.market_model.specs.Valued.{dual_at, duals_at, passed_at}
 use Rattle.std.specs.Prelude.{Contains}
 use Rattle.limit_rows.proofs.DualLemmas.{dual_row, named_count}
-use Rattle.clear_loop.specs.Bounding.{IsLimitRefusal}
+use Rattle.clear_loop.specs.Bounding.{IsRowStepRefusal}
 use Rattle.clear_loop.proofs.FarkasSums.{limit_refused, limits_all, limits_none, limits_step}
 use Rattle.clear_loop.proofs.bounding.with_limits.Goals as goal
 
@@ -52,7 +52,7 @@ returns-in_err-sum-clause-cause g c =
     let given : c.from_residual.result ≡ Err c.in_err-sum.field-0.0 = search rules in
     rw given
     (limit_refused m d k e r.0 r.1 (value c.loop-dual.sum) g.N.Exact.bound p c.loop-dual.invariant
-    (subst (λ (t : Row). IsLimitRefusal m t e.up e.down (value c.loop-dual.sum) g.N.Exact.bound p) is c.in_err-sum.ensures.cause))
+    (subst (λ (t : Row). IsRowStepRefusal m t e.up e.down (value c.loop-dual.sum) g.N.Exact.bound p) is c.in_err-sum.ensures.cause))
 
 pub returns-clause-sum : goal.returns-clause-sum
 returns-clause-sum g c =

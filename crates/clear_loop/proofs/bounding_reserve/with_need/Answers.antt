@@ -4,7 +4,8 @@ use Rattle.fraction_theory.specs.Fraction.{whole, neg_ℚ, ◌+ℚ◌, ◌*ℚ�
 use Rattle.exact_fraction.proofs.Shares.{share_refused}
 use Rattle.market_model.specs.declared.participants.Reserve.{Reserve}
 use Rattle.market_model.specs.Valued.{duals_at, passed_at}
-use Rattle.clear_loop.proofs.FarkasSums.{need_made, need_refused}
+use Rattle.market_model.proofs.FarkasParts.{need_made}
+use Rattle.clear_loop.proofs.FarkasSums.{need_refused}
 use Rattle.clear_loop.proofs.bounding_reserve.with_need.Goals as goal
 
 pub returns-then-reserve-clause-sum : goal.returns-then-reserve-clause-sum

@@ -5,9 +5,9 @@ use Rattle.factor_tables.specs.Tables.{entry_in}
 use Rattle.factor_tables.proofs.factor_reading.pairs_of.Given as goal
 
 -- the records so far, and those that are left; there is a mark for each row
-abbrev pub invariant-loop-row : goal.invariant-loop-row
-invariant-loop-row l = record {
+abbrev pub invariant-loop-place : goal.invariant-loop-place
+invariant-loop-place l = record {
   kept : ArePairFactors l.column l.pairs;
   rows : length l.pairs.marked.items ≡ l.network.branch_rows + 1;
-  is : read_rows (entry_in l.places l.network l.column) [] 2 l.table ≡ read_rows (entry_in l.places l.network l.column) l.pairs.by_pair.entries (l.row + 2) (drop l.row l.table);
+  is : read_rows (entry_in l.places l.network l.column) [] 2 l.table ≡ read_rows (entry_in l.places l.network l.column) l.pairs.by_pair.entries (l.place + 2) (drop l.place l.table);
 }

@@ -4,8 +4,8 @@ use Rattle.factor_tables.specs.Penalties.{ArePenalties, penalty_entry}
 use Rattle.factor_tables.proofs.penalty_reading.entries_of.Given as goal
 
 -- the records so far, and those that are left
-abbrev pub invariant-loop-row : goal.invariant-loop-row
-invariant-loop-row l = record {
+abbrev pub invariant-loop-place : goal.invariant-loop-place
+invariant-loop-place l = record {
   kept : ArePenalties l.by_limit.entries;
-  is : read_rows (penalty_entry l.network) [] 2 l.table ≡ read_rows (penalty_entry l.network) l.by_limit.entries (l.row + 2) (drop l.row l.table);
+  is : read_rows (penalty_entry l.network) [] 2 l.table ≡ read_rows (penalty_entry l.network) l.by_limit.entries (l.place + 2) (drop l.place l.table);
 }

@@ -3,7 +3,7 @@ use Rattle.std.specs.Prelude.{Contains}
 use Rattle.market_model.proofs.ChangeLemmas.{same_default}
 use Rattle.market_model.specs.declared.limits.Cause.TheVariants.{Branch}
 use Rattle.market_model.specs.LimitRows.{causes, lost_lines, place_of_line}
-use Rattle.limit_rows.specs.Naming.{Loses}
+use Rattle.limit_rows.specs.Naming.{IsCauseNamed}
 use Rattle.limit_rows.proofs.GroupLemmas.{lost_line-of}
 use Rattle.limit_rows.proofs.PlaceLemmas.{of_outage, of_no_outage}
 use Rattle.limit_rows.proofs.places.branch_outage.Goals as goal
@@ -17,7 +17,7 @@ returns-then-listed-row c =
     let is : get_or m.outages i c.args.row ≡ c.args.row = same_default m.outages i c.args.row 0 inside ∙ ap (λ (os : List ℕ). get_or os i 0) (sym listed) ∙ c.if-listed-row.true in
     let lost : slice_get (lost_lines m) i ≡ Some c.at.result.now = rw c.lost_lines.ensures.list at c.at.ensures in
     let line : c.at.result.now ≡ place_of_line m c.args.row = lost_line-of m i c.args.row c.at.result.now inside is lost in
-    subst (λ (l : ℕ). Contains (causes m) (Branch l) × Loses m (Branch l) c.args.row 0) (sym line) (of_outage m c.outages.ensures.market i c.args.row inside is)
+    subst (λ (l : ℕ). Contains (causes m) (Branch l) × IsCauseNamed m (Branch l) c.args.row 0) (sym line) (of_outage m c.outages.ensures.market i c.args.row inside is)
 
 pub returns : goal.returns
 returns c =

@@ -1,6 +1,6 @@
 use Rattle.std.proofs.Common.{rules, ◌↔◌, IsTrue, Contains, subst}
 use Rattle.market_model.specs.LimitRows.{row_id}
-use Rattle.limit_screen.specs.Screening.{AreTaken}
+use Rattle.limit_screen.specs.Screening.{AreTakenRows}
 use Rattle.market_model.proofs.RowMembers.{at_places}
 use Rattle.limit_screen.proofs.TakenLemmas.{named_iff}
 use Rattle.limit_screen.proofs.taking.is_taken.Goals as goal
@@ -17,4 +17,4 @@ returns-in-Names c = λ taken are.
     let r = c.args.row in
     let ns = c.in-Names.names.now in
     let found : IsTrue c.contains-in-Names.result ↔ Contains ns (row_id m r) = search rules in
-    named_iff m c.lines-lines.ensures.market taken ns r c.contains-in-Names.result (subst (AreTaken m taken) c.in-Names.is are) c.requires found
+    named_iff m c.lines-lines.ensures.market taken ns r c.contains-in-Names.result (subst (AreTakenRows m taken) c.in-Names.is are) c.requires found

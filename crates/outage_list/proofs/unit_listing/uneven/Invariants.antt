@@ -5,4 +5,4 @@ use Rattle.outage_list.proofs.unit_listing.uneven.Given as goal
 
 -- no unit before this one is uneven
 abbrev pub invariant-loop-unit : goal.invariant-loop-unit
-invariant-loop-unit l = find (is_uneven l.takings) l.units ≡ find (is_uneven l.takings) (drop l.unit-index l.units)
+invariant-loop-unit l = find (is_uneven l.unit_pickups) l.units ≡ find (is_uneven l.unit_pickups) (drop l.unit-index l.units)

@@ -5,9 +5,9 @@ use Rattle.rights_test.specs.RightsTable.{right_in}
 use Rattle.rights_test.proofs.reading.rights_of.Given as goal
 
 -- the rights of the records so far, and the records that are left
-abbrev pub invariant-loop-row : goal.invariant-loop-row
-invariant-loop-row l = record {
-  count : length l.rights ≤ l.row;
+abbrev pub invariant-loop-place : goal.invariant-loop-place
+invariant-loop-place l = record {
+  count : length l.rights ≤ l.place;
   kept : All (IsTransmissionRight (length l.buses)) l.rights;
-  is : read_rows (λ done. right_in l.buses) [] 2 l.table ≡ read_rows (λ done. right_in l.buses) l.rights (l.row + 2) (drop l.row l.table);
+  is : read_rows (λ done. right_in l.buses) [] 2 l.table ≡ read_rows (λ done. right_in l.buses) l.rights (l.place + 2) (drop l.place l.table);
 }

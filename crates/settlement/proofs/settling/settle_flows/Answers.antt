@@ -14,7 +14,7 @@ use Rattle.market_model.specs.Dispatch.{dispatch_with, places}
 use Rattle.market_model.specs.PutIn.{dispatch_of}
 use Rattle.limit_screen.proofs.ScreenLemmas.{flow_count}
 use Rattle.market_model.specs.declared.stops.Stop.TheVariants as why
-use Rattle.market_model.specs.Settlement.{left_terms, pay_of_load, pay_of_reserve, pay_of_unit}
+use Rattle.market_model.specs.Settlement.{surplus_terms_by, pay_of_load, pay_of_reserve, pay_of_unit}
 use Rattle.market_model.specs.SumTables.{left_of_all, payment}
 use Rattle.settlement.specs.Paying.{paid_terms}
 use Rattle.settlement.proofs.BlockFlows.{flows_of_blocks}
@@ -68,7 +68,7 @@ returns-in_err-surplus-clause-cause g c =
     let pays = c.in_ok-units.ensures.pays (map value c.args.reserve.now) price d (ap (map value) c.deref.ensures.value ∙ c.in_ok-by_unit.ensures.own) in
     rw given
     (inl (
-      left_terms m x price d,
+      surplus_terms_by m x price d,
       payment _ left_of_all,
       surplus_refused value m x price d c.in_ok-loads.loads c.in_ok-units.units c.in_ok-loads.ensures.loads pays g.N.Exact.bound p
           (subst₂ (λ (ls : List (Load g.row.N.Denot)) (us : List (UnitPay g.row.N.Denot)). IsRefusedIn (paid_terms value ls us) g.N.Exact.bound p) c.slice.ensures c.slice-2.ensures c.in_err-surplus.ensures.cause),

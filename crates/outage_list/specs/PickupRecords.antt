@@ -10,8 +10,8 @@ use Rattle.record_reading.specs.declared.Why.TheVariants as why
 use Rattle.csv_table.specs.Table.{number_in}
 use Rattle.market_data.specs.Scales.{share_places, most_share}
 use Rattle.net_case.specs.Networks.{LiveNetwork}
-use Rattle.outage_list.specs.declared.takings.TakerRecord.{TakerRecord}
-use Rattle.outage_list.specs.declared.takings.Taking.{Taking}
+use Rattle.outage_list.specs.declared.pickup_records.TakerRecord.{TakerRecord}
+use Rattle.outage_list.specs.declared.pickup_records.UnitPickup.{UnitPickup}
 use Rattle.outage_list.specs.declared.unit_fault.UnitOutageFault.{UnitOutageFault}
 use Rattle.outage_list.specs.declared.unit_fault.UnitOutageFault.TheVariants as fault
 
@@ -55,8 +55,8 @@ are_gen_rows network r = is_gen_row network r.unit && is_gen_row network r.taker
 abbrev pub are_live : LiveNetwork → TakerRecord → Bool
 are_live network r = is_live_unit network r.unit && is_live_unit network r.taker
 
-unfoldable pub taking_faults : LiveNetwork → ℕ → TakerRecord → List (Bool × UnitOutageFault)
-taking_faults network line r =
+unfoldable pub unit_pickup_faults : LiveNetwork → ℕ → TakerRecord → List (Bool × UnitOutageFault)
+unit_pickup_faults network line r =
     (not (are_gen_rows network r), fault.NoUnit line)
     ∷ (not (are_live network r), fault.DeadUnit line)
     ∷ (int_eq r.unit r.taker, fault.SameUnit line)
@@ -64,23 +64,23 @@ taking_faults network line r =
     ∷ []
 
 -- what a record says whose numbers name live units
-abbrev pub taking_by : LiveNetwork → TakerRecord → Taking
-taking_by network r = record { lost = place_named network r.unit; taker = place_named network r.taker; share = r.share }
+abbrev pub unit_pickup_by : LiveNetwork → TakerRecord → UnitPickup
+unit_pickup_by network r = record { lost = place_named network r.unit; taker = place_named network r.taker; share = r.share }
 
 -- whether a record of these units stands among others
-abbrev pub stands : List Taking → Taking → Bool
+abbrev pub stands : List UnitPickup → UnitPickup → Bool
 stands done t = list_any (λ other. (other.lost == t.lost) && (other.taker == t.taker)) done
 
 -- what a record says behind others: its numbers, then what they name, then whether its units stood before
-unfoldable pub taking_in : LiveNetwork → List Taking → ℕ → Record → Result Taking UnitOutageFault
-taking_in network done line r =
+unfoldable pub unit_pickup_in : LiveNetwork → List UnitPickup → ℕ → Record → Result UnitPickup UnitOutageFault
+unit_pickup_in network done line r =
     and_then (record_in line r) (λ numbers.
-    and_then (checked (taking_faults network line numbers) fine) (λ _.
-    if stands done (taking_by network numbers) then Err (fault.Twice line) else Ok (taking_by network numbers)))
+    and_then (checked (unit_pickup_faults network line numbers) fine) (λ _.
+    if stands done (unit_pickup_by network numbers) then Err (fault.Twice line) else Ok (unit_pickup_by network numbers)))
 
 -- ---- what is kept of it
 -- of one of so many units another takes a share above 0
-pub record IsTaking (units : ℕ) (t : Taking) : Type 0 where
+pub record IsUnitPickup (units : ℕ) (t : UnitPickup) : Type 0 where
   pub lost : t.lost < units
   pub taker : t.taker < units
   pub above : pos 0 <ℤ t.share

@@ -4,7 +4,7 @@ ghost use Rattle.std.specs.Prelude.{◌≡◌, ◌≢◌, ◌+◌, ◌<◌, ◌�
 ghost use Rattle.record_reading.specs.Rows.{read_rows};
 ghost use Rattle.record_reading.specs.Steps.{checked, fine};
 ghost use Rattle.market_data.specs.Scales.{most_share};
-ghost use Rattle.outage_list.specs.Takings.{IsTaking, are_gen_rows, are_live, is_gen_row, is_live_unit, place_named, record_in, share_cell, stands, taking_faults, taking_in, unit_place};
+ghost use Rattle.outage_list.specs.PickupRecords.{IsUnitPickup, are_gen_rows, are_live, is_gen_row, is_live_unit, place_named, record_in, share_cell, stands, unit_pickup_faults, unit_pickup_in, unit_place};
 
 use crate::UnitOutageFault;
 use csv_table::Table;
@@ -25,7 +25,7 @@ struct TakerRecord {
 
 /// What a unit picks up of the output of a unit that is lost, both by their places among the live units.
 #[derive(Clone, Copy, Debug, PartialEq, Eq)]
-pub(crate) struct Taking {
+pub(crate) struct UnitPickup {
     pub(crate) lost: usize,
     pub(crate) taker: usize,
     /// In 10^-6.
@@ -33,16 +33,16 @@ pub(crate) struct Taking {
 }
 
 /// The share in the third cell of a record.
-#[tactic(auto, unfolding(crate::specs::Takings::share_cell))]
-fn share_of(table: &Table, row: usize) -> Result<i64, UnitOutageFault>
-    requires { (row < length table.now) × (row + 2 < 2 ^ 64) }
+#[tactic(auto, unfolding(crate::specs::PickupRecords::share_cell))]
+fn share_of(table: &Table, place: usize) -> Result<i64, UnitOutageFault>
+    requires { (place < length table.now) × (place + 2 < 2 ^ 64) }
     ensures size { IfOk result (λ share. unsigned_abs share ≤ most_share) }
-    ensures is { result ≡ share_cell (row + 2) (get_or table.now row []) }
+    ensures is { result ≡ share_cell (place + 2) (get_or table.now place []) }
 {
-    let share = table.number(row, 2, SHARE_PLACES)?;
+    let share = table.number(place, 2, SHARE_PLACES)?;
     if share.unsigned_abs() > MOST_SHARE {
         return Err(UnitOutageFault::Frame(FrameFault::Cell {
-            line: row + 2,
+            line: place + 2,
             col: 3,
             why: Why::Bounds,
         }));
@@ -51,15 +51,15 @@ fn share_of(table: &Table, row: usize) -> Result<i64, UnitOutageFault>
 }
 
 /// The numbers of a record, from left to right.
-#[tactic(auto, unfolding(crate::specs::Takings::record_in))]
-fn record_of(table: &Table, row: usize) -> Result<TakerRecord, UnitOutageFault>
-    requires { (row < length table.now) × (row + 2 < 2 ^ 64) }
+#[tactic(auto, unfolding(crate::specs::PickupRecords::record_in))]
+fn record_of(table: &Table, place: usize) -> Result<TakerRecord, UnitOutageFault>
+    requires { (place < length table.now) × (place + 2 < 2 ^ 64) }
     ensures size { IfOk result (λ numbers. unsigned_abs numbers.share ≤ most_share) }
-    ensures is { result ≡ record_in (row + 2) (get_or table.now row []) }
+    ensures is { result ≡ record_in (place + 2) (get_or table.now place []) }
 {
-    let unit = table.number(row, 0, 0)?;
-    let taker = table.number(row, 1, 0)?;
-    let share = share_of(table, row)?;
+    let unit = table.number(place, 0, 0)?;
+    let taker = table.number(place, 1, 0)?;
+    let share = share_of(table, place)?;
     Ok(TakerRecord { unit, taker, share })
 }
 
@@ -72,7 +72,7 @@ fn is_gen_row(network: &Network, number: i64) -> bool
 }
 
 /// The place of the live unit of this row.
-#[tactic(auto, unfolding(crate::specs::Takings::unit_place))]
+#[tactic(auto, unfolding(crate::specs::PickupRecords::unit_place))]
 fn unit_place(network: &Network, number: i64) -> Option<usize>
     ensures { result ≡ unit_place network.now number }
 {
@@ -114,11 +114,15 @@ fn are_live(network: &Network, numbers: TakerRecord) -> bool
 }
 
 /// Refuses a record that names no two live units, or has no share.
-#[tactic(auto, unfolding(crate::specs::Takings::taking_faults))]
-fn check_taking(network: &Network, numbers: TakerRecord, line: usize) -> Result<(), UnitOutageFault>
+#[tactic(auto, unfolding(crate::specs::PickupRecords::unit_pickup_faults))]
+fn check_unit_pickup(
+    network: &Network,
+    numbers: TakerRecord,
+    line: usize,
+) -> Result<(), UnitOutageFault>
     ensures live { IfOk result (λ _. are_live network.now numbers ≡ true) }
     ensures share { IfOk result (λ _. pos 0 <ℤ numbers.share) }
-    ensures is { result ≡ checked (taking_faults network.now line numbers) fine }
+    ensures is { result ≡ checked (unit_pickup_faults network.now line numbers) fine }
 {
     if !are_gen_rows(network, numbers) {
         return Err(UnitOutageFault::NoUnit { line });
@@ -136,52 +140,52 @@ fn check_taking(network: &Network, numbers: TakerRecord, line: usize) -> Result<
 }
 
 /// Whether a record of these units stands among others.
-fn stands(done: &[Taking], taking: Taking) -> bool
-    ensures { result ≡ stands done.now taking }
+fn stands(done: &[UnitPickup], unit_pickup: UnitPickup) -> bool
+    ensures { result ≡ stands done.now unit_pickup }
 {
-    done.iter().any(|other| other.lost == taking.lost && other.taker == taking.taker)
+    done.iter().any(|other| other.lost == unit_pickup.lost && other.taker == unit_pickup.taker)
 }
 
 /// What a record says, in the light of those before it.
-#[tactic(auto, unfolding(crate::specs::Takings::taking_in))]
-fn taking_of(
+#[tactic(auto, unfolding(crate::specs::PickupRecords::unit_pickup_in))]
+fn unit_pickup_of(
     network: &Network,
-    done: &[Taking],
+    done: &[UnitPickup],
     table: &Table,
-    row: usize,
-) -> Result<Taking, UnitOutageFault>
-    requires { (row < length table.now) × (row + 2 < 2 ^ 64) }
-    ensures kept { IfOk result (IsTaking (length network.now.units)) }
-    ensures is { result ≡ taking_in network.now done.now (row + 2) (get_or table.now row []) }
+    place: usize,
+) -> Result<UnitPickup, UnitOutageFault>
+    requires { (place < length table.now) × (place + 2 < 2 ^ 64) }
+    ensures kept { IfOk result (IsUnitPickup (length network.now.units)) }
+    ensures is { result ≡ unit_pickup_in network.now done.now (place + 2) (get_or table.now place []) }
 {
-    let numbers = record_of(table, row)?;
-    check_taking(network, numbers, row + 2)?;
-    let taking = Taking {
+    let numbers = record_of(table, place)?;
+    check_unit_pickup(network, numbers, place + 2)?;
+    let unit_pickup = UnitPickup {
         lost: place_named(network, numbers.unit),
         taker: place_named(network, numbers.taker),
         share: numbers.share,
     };
-    if stands(done, taking) {
-        return Err(UnitOutageFault::Twice { line: row + 2 });
+    if stands(done, unit_pickup) {
+        return Err(UnitOutageFault::Twice { line: place + 2 });
     }
-    Ok(taking)
+    Ok(unit_pickup)
 }
 
 /// What the records of a table say.
-pub(crate) fn takings_of(
+pub(crate) fn unit_pickups_of(
     alloc: Global,
     network: &Network,
     table: &Table,
-) -> Result<List<Taking>, UnitOutageFault>
-    ensures count { IfOk result (λ takings. length takings ≤ length table.now) }
-    ensures kept { IfOk result (All (IsTaking (length network.now.units))) }
-    ensures ok { IfOk result (λ takings. read_rows (taking_in network.now) [] 2 table.now ≡ Ok takings) }
-    ensures err { IfErr result (λ fault. fault ≢ UnitOutageFault.Memory → read_rows (taking_in network.now) [] 2 table.now ≡ Err fault) }
+) -> Result<List<UnitPickup>, UnitOutageFault>
+    ensures count { IfOk result (λ unit_pickups. length unit_pickups ≤ length table.now) }
+    ensures kept { IfOk result (All (IsUnitPickup (length network.now.units))) }
+    ensures ok { IfOk result (λ unit_pickups. read_rows (unit_pickup_in network.now) [] 2 table.now ≡ Ok unit_pickups) }
+    ensures err { IfErr result (λ fault. fault ≢ UnitOutageFault.Memory → read_rows (unit_pickup_in network.now) [] 2 table.now ≡ Err fault) }
 {
-    let mut takings = List::new(alloc);
-    for row in 0..table.len() {
-        let taking = taking_of(network, takings.slice(), table, row)?;
-        takings.push(taking)?;
+    let mut unit_pickups = List::new(alloc);
+    for place in 0..table.len() {
+        let unit_pickup = unit_pickup_of(network, unit_pickups.slice(), table, place)?;
+        unit_pickups.push(unit_pickup)?;
     }
-    Ok(takings)
+    Ok(unit_pickups)
 }
