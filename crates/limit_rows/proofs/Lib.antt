@@ -1,6 +1,7 @@
 pub mod GroupLemmas
 pub mod LineLemmas
 pub mod NumberingLemmas
+pub mod CountLemmas
 pub mod ApartLemmas
 mod PickupSteps
 pub mod PlaceLemmas

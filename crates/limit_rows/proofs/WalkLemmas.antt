@@ -4,7 +4,7 @@ use Rattle.std.specs.List.{flat_map, slice_get}
 use Rattle.std.specs.Iterator.{Yields, YieldsFirst}
 use Rattle.std.proofs.Common.{arith, ap, sym, subst, ◌∙◌, drop, length-append}
 use Rattle.std.proofs.Math.Nat.{mul-le-mul}
-use Rattle.std.proofs.lemmas.List.{append-nil, drop_all, drop_more}
+use Rattle.std.proofs.lemmas.List.{append-nil, drop_all, drop_more, length-drop}
 use Rattle.std.proofs.lemmas.List.Elements.{Contains-append_right}
 use Rattle.std.proofs.lemmas.List.FromFn.{length-range_with_len}
 use Rattle.std.proofs.lemmas.Option.{slice_get_within, get_or_from_slice_get}
@@ -18,7 +18,7 @@ use Rattle.market_model.specs.LimitRows.{bears, causes, rows, rows_of}
 use Rattle.market_model.specs.Market.{IsMarket}
 use Rattle.market_model.proofs.LostLemmas.{place_at}
 use Rattle.limit_rows.specs.Walk.{lines_from, rows_from, rows_under}
-use Rattle.limit_rows.proofs.GroupLemmas.{length-causes, length-map, rows-causes}
+use Rattle.limit_rows.proofs.GroupLemmas.{length-causes, length-map}
 use Rattle.market_model.proofs.RowMembers.{row_on}
 
 module _ (m : Parts) where
@@ -49,6 +49,11 @@ module _ (m : Parts) where
   all_under : (behind : List Cause) → flat_map (rows_of m) behind ≡ rows_under m 0 behind
   all_under [] = refl
   all_under (cause ∷ behind) = refl
+
+  -- the rows of a cause, and those of the causes behind it
+  pub rows_cause : (place : ℕ) (cause : Cause) → slice_get (causes m) place ≡ Some cause → rows_from m place 0 ≡ rows_of m cause ++ rows_from m (place + 1) 0
+  rows_cause place cause at =
+      ap (rows_under m 0) (cause_next place cause at) ∙ ap (λ (rs : List Row). rows_of m cause ++ rs) (all_under (drop (place + 1) (causes m)))
 
   -- the row that comes next
   pub row_next : (place line l : ℕ) (cause : Cause) → slice_get (causes m) place ≡ Some cause → filter (bears m cause) (lines_from m line) ≡ l ∷ filter (bears m cause) (lines_from m (l + 1))
@@ -87,10 +92,14 @@ module _ (m : Parts) where
   under_few [] = Prim.omega arith
   under_few (cause ∷ gs) = Prim.omega (arith, lines_few cause, under_few gs, length-append (rows_of m cause) (flat_map (rows_of m) gs))
 
+  pub behind_few : IsMarket m → (place : ℕ) → length (rows_from m place 0) ≤ (most_outages + 1 + most_units) * most_lines
+  behind_few market place =
+      let behind : List Cause = drop place (causes m) in
+      let causes_few : length (drop place (causes m)) ≤ most_outages + 1 + most_units = Prim.omega (arith, length-causes m, length-drop place (causes m), market.outage_count, market.unit_outages.count) in
+      Prim.omega (arith, ap length (all_under behind), under_few behind, mul-le-mul causes_few market.line_count)
+
   pub rows_few : IsMarket m → length (rows m) ≤ (most_outages + 1 + most_units) * most_lines
-  rows_few market =
-      let causes_few : length (causes m) ≤ most_outages + 1 + most_units = Prim.omega (arith, length-causes m, market.outage_count, market.unit_outages.count) in
-      Prim.omega (arith, ap length (rows-causes m), under_few (causes m), mul-le-mul causes_few market.line_count)
+  rows_few market = let few = behind_few market 0 in let all = ap length all_from_start in Prim.omega (arith, few, all)
 
   -- ---- a loop over the rows, which has taken some
   module _ (s t u taken : List Row) (start : s ≡ rows m) (by : Yields (YieldsFirst (λ (left : List Row). left)) s taken t) where

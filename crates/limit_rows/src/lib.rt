@@ -2,6 +2,7 @@
 #![tactic(auto)]
 
 mod causes;
+mod counting;
 mod factors;
 mod flowing;
 pub mod laws;

@@ -5,7 +5,7 @@ ghost use Rattle.std.specs.Iterator.{YieldsFirst, item_count};
 ghost use Rattle.market_data.specs.Scales.{most_lines, most_outages, most_units};
 ghost use Rattle.market_model.specs.declared.limits.Row.{Row};
 ghost use Rattle.market_model.specs.LimitRows.{rows, IsCauseOf};
-ghost use Rattle.limit_rows.specs.Walk.{IsNextLine};
+ghost use Rattle.limit_rows.specs.Walk.{rows_from, IsNextLine};
 
 use crate::causes::{cause_at, cause_count, has_row};
 use market_model::{Cause, Market, Row};
@@ -65,6 +65,19 @@ impl<'a> Iterator for RowWalk<'a> {
     }
 }
 
+/// The rows of the cause at a place, and those of the causes behind it.
+pub(crate) fn rows_behind(market: &Market, cause: usize) -> RowWalk<'_>
+    ensures rows { result ≡ rows_from market.now cause 0 }
+    ensures few { length (rows_from market.now cause 0) ≤ (most_outages + 1 + most_units) * most_lines }
+{
+    let _lines = market.lines();
+    RowWalk {
+        market,
+        place: cause,
+        line: 0,
+    }
+}
+
 /// The rows of a market, in its order.
 pub fn rows(market: &Market) -> RowWalk<'_>
     ensures rows { result ≡ rows market.now }
@@ -72,9 +85,5 @@ pub fn rows(market: &Market) -> RowWalk<'_>
     ensures stand { (r : Row) → Contains (rows market.now) r → (r.line < length market.now.lines) × IsCauseOf market.now r.cause }
 {
     let _lines = market.lines();
-    RowWalk {
-        market,
-        place: 0,
-        line: 0,
-    }
+    rows_behind(market, 0)
 }

@@ -1,19 +1,25 @@
 -- What blocks are worth and soft limits cost, one by one, and what is refused of that.
-use Rattle.std.specs.Prelude.{◌≡◌, ◌⊎◌, ℕ, ◌+◌, ◌<◌, Bool, true, false, cond, List, [], ◌∷◌, ◌++◌, map, filter, length, Contains}
+use Rattle.std.specs.Prelude.{◌≡◌, ◌⊎◌, ◌||◌, ℕ, ◌+◌, ◌<◌, pos, Bool, true, false, cond, List, [], ◌∷◌, ◌++◌, map, filter, length, Contains, None, refl}
+use Rattle.std.specs.Int.{is_positive}
+use Rattle.std.specs.List.{list_any}
 use Rattle.std.proofs.Common.{ap, ap₂, sym, ◌∙◌, inl, inr, get_or, append_assoc}
 use Rattle.std.proofs.lemmas.List.{append-nil, map-append}
 use Rattle.std.proofs.lemmas.List.Elements.{filter-append}
+use Rattle.std.proofs.lemmas.List.Folds.{list_any_at}
 use Rattle.fraction_theory.specs.Fraction.{Fraction, whole, neg_ℚ, ◌+ℚ◌, ◌*ℚ◌}
 use Rattle.fraction_theory.specs.Sums.{Term, Product, term_value, total}
 use Rattle.fraction_theory.proofs.FieldLaws.{+ℚ_assoc, +ℚ_nil}
+use Rattle.fraction_theory.proofs.ListSums.{Contains-cons, Contains-head}
 use Rattle.fraction_theory.proofs.SumLaws.{total-append}
 use Rattle.exact_fraction.specs.declared.Passed.{Passed}
 use Rattle.market_model.specs.declared.limits.Row.{Row}
 use Rattle.market_model.specs.declared.participants.Block.{Block}
+use Rattle.market_model.specs.declared.participants.Line.{Line}
 use Rattle.market_model.specs.declared.participants.Parts.{Parts}
 use Rattle.market_model.specs.declared.participants.ReserveOffer.{ReserveOffer}
-use Rattle.market_model.specs.Dispatch.{Dispatch, places, dispatch_with, signed_by_side, block_at, accepted, offer_at, reserved}
-use Rattle.market_model.specs.LimitRows.{carried, flow_by, is_soft, penalty, rows}
+use Rattle.market_model.specs.Dispatch.{Dispatch, places, dispatch_with, signed_by_side, block_at, accepted, line_at, offer_at, reserved}
+use Rattle.market_model.specs.LimitRows.{carried, flow_by, is_outage, is_soft, penalty, penalty_of, rows}
+use Rattle.market_model.specs.Lines.{hard_line}
 use Rattle.market_model.specs.Market.{IsMarket}
 use Rattle.market_model.specs.NamedSums.{IsRefusedIn, IsShareRefusal}
 use Rattle.market_model.specs.Optimality.{block_value, penalty_terms, value_terms, welfare, welfare_for, welfare_terms}
@@ -23,9 +29,11 @@ use Rattle.market_model.specs.Reserves.{offer_price, reserve_cost_terms}
 use Rattle.market_model.specs.SumTables.{IsFlowRefusal}
 use Rattle.market_model.proofs.MorePlaces.{total-places_more}
 use Rattle.market_model.proofs.PutInSteps.{accepted_is}
+use Rattle.market_model.proofs.RowMembers.{row_parts}
 use Rattle.market_model.proofs.SumSteps.{behind, in_front, share_at, terms_at}
 use Rattle.limit_screen.proofs.ScreenLemmas.{flow_refusal_same, law_of_row_flows, row_terms}
 use Rattle.limit_screen.specs.Flows.{carried_at, flows_at}
+use Rattle.settlement.specs.GivingWay.{gives_way}
 use Rattle.settlement.specs.Refusals.{IsWelfareRefusal}
 
 -- ---- blocks
@@ -114,6 +122,34 @@ module _ (m : Parts) (x : Dispatch) where
           split =
               in_front (energy_terms (rows m)) (energy_terms g) (penalty_terms m left x) (reserve_cost_terms m x) (cost_term r)
               (behind (value_terms m x) (penalty_terms m (rows m) x) (penalty_terms m g x) (penalty_terms m left x) (cost_term r) costs)
+
+-- ---- markets in which no limit gives way
+none_kept : {T : Type 0} (p : T → Bool) (xs : List T) → ((x : T) → Contains xs x → p x ≡ false) → filter p xs ≡ []
+none_kept p [] h = refl
+none_kept p (x ∷ xs) h = ap (λ (b : Bool). cond b (x ∷ filter p xs) (filter p xs)) (h x (Contains-head x xs)) ∙ none_kept p xs (λ y c. h y (Contains-cons x xs y c))
+
+-- of a line both limits do not
+neither_soft : (line : Line) (post : Bool) → gives_way line ≡ false → is_positive (penalty_of post line) ≡ false
+neither_soft line post h = by (is_positive line.base_price) (is_positive line.post_price) post refl refl h
+  where
+    by : (x y post : Bool) → is_positive line.base_price ≡ x → is_positive line.post_price ≡ y → (x || y) ≡ false → is_positive (penalty_of post line) ≡ false
+    by true y post e f h = absurd Prim.cc
+    by false true post e f h = absurd Prim.cc
+    by false false true e f h = f
+    by false false false e f h = e
+
+module _ (m : Parts) (none : list_any gives_way m.lines ≡ false) where
+  line_hard : (l : ℕ) → l < length m.lines → (b : Bool) → gives_way (line_at m l) ≡ b → b ≡ false
+  line_hard l inside true e = sym (list_any_at gives_way m.lines l (hard_line 0 None None (pos 0)) inside e) ∙ none
+  line_hard l inside false e = refl
+
+  row_hard : (r : Row) → Contains (rows m) r → is_soft m r ≡ false
+  row_hard r c =
+      neither_soft (line_at m r.line) (is_outage r.cause) (line_hard r.line (row_parts m r c).line (gives_way (line_at m r.line)) refl)
+
+  -- all that counts is what blocks are worth
+  pub worth_of_blocks : (x : Dispatch) (values : Fraction) → values ≡ total (value_terms m x) → values ≡ total (energy_terms m x (rows m))
+  worth_of_blocks x values is = is ∙ worth_of_values m x ∙ ap (λ (rs : List Row). total (value_terms m x ++ map (cost_term m x) rs)) (sym (none_kept (is_soft m) (rows m) row_hard))
 
 -- ---- reserve
 module _ {N : Type 0} (value : N → Fraction) (m : Parts) (rs : List N) where

@@ -1,3 +1,4 @@
+pub mod GivingWay
 pub mod Paying
 pub mod Refusals
 pub mod Laws

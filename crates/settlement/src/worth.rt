@@ -1,10 +1,11 @@
 //! What a dispatch is worth.
 
 ghost use Rattle.std.specs.Prelude.{◌≡◌, ◌⊎◌, ◌+◌, ◌<◌, ◌++◌, List, length, map, IfOk, IfErr};
+ghost use Rattle.std.specs.List.{list_any};
 ghost use Rattle.fraction_theory.specs.Fraction.{Fraction, neg_ℚ, ◌+ℚ◌, ◌*ℚ◌, whole};
 ghost use Rattle.market_data.specs.Participants.{IsDatum};
 ghost use Rattle.fraction_theory.specs.Sums.{total};
-ghost use Rattle.market_model.specs.Dispatch.{dispatch_with};
+ghost use Rattle.market_model.specs.Dispatch.{Dispatch, dispatch_with};
 ghost use Rattle.market_model.specs.LimitRows.{IsCauseOf, flow_by, penalty, rows as rows_of};
 ghost use Rattle.market_model.specs.NamedSums.{IsRefusedIn, IsShareRefusal};
 ghost use Rattle.market_model.specs.Optimality.{penalty_terms, value_terms, welfare as welfare_of, welfare_terms};
@@ -13,13 +14,14 @@ ghost use Rattle.market_model.specs.PutIn.{dispatch_of};
 ghost use Rattle.market_model.specs.SumTables.{IsFlowRefusal};
 ghost use Rattle.market_model.specs.Valued.{passed_at};
 ghost use Rattle.limit_screen.specs.Flows.{carried_at, flows_at};
+ghost use Rattle.settlement.specs.GivingWay.{gives_way};
 ghost use Rattle.settlement.specs.Refusals.{IsWelfareRefusal};
 
 use crate::rows::excess;
 use exact_fraction::{Exact, Passed};
 use limit_rows::{is_soft, penalty_at, row_flow, rows};
 use limit_screen::carried_flows;
-use market_model::{Market, ReserveOffer, Row, block_value, datum};
+use market_model::{Line, Market, ReserveOffer, Row, block_value, datum};
 
 /// The value of what is bought less the cost of what is sold, in block order.
 fn values<N: Exact>(market: &Market, dispatch: &[N]) -> Result<N, Passed<N>>
@@ -47,6 +49,43 @@ fn less_penalty<N: Exact>(market: &Market, row: Row, flows: &[N], sum: N) -> Res
     let excess = excess(market, row, flow)?;
     let penalty: N = datum(penalty_at(market, row));
     sum.plus_product(penalty.neg(), excess)
+}
+
+/// Whether a limit of a line gives way, in the base or after outages.
+fn is_giving_way(line: &Line) -> bool
+    ensures { result ≡ gives_way line.now }
+{
+    line.base_price > 0 || line.post_price > 0
+}
+
+/// Whether one of some line does.
+fn has_giving_way(market: &Market) -> bool
+    ensures { result ≡ list_any gives_way market.now.lines }
+{
+    let lines = market.lines().slice();
+    lines.iter().any(|line| is_giving_way(line))
+}
+
+/// The value of blocks less what limits cost: the penalties of those that give way, in row order. Rows are gone over only where a line has
+/// such a limit.
+fn less_penalties<N: Exact>(market: &Market, flows: &[N], values: N) -> Result<N, Passed<N>>
+    requires { length flows.now ≡ length market.now.buses + length market.now.lines + length market.now.unit_outages }
+    ensures worth { (x : Dispatch) → map N.value flows.now ≡ flows_at market.now x → N.value values ≡ total (value_terms market.now x)
+        → IfOk result (λ worth. N.value worth ≡ total (value_terms market.now x ++ penalty_terms market.now (rows_of market.now) x)) }
+    ensures cause { (x : Dispatch) → map N.value flows.now ≡ flows_at market.now x → N.value values ≡ total (value_terms market.now x)
+        → IfErr result (λ passed. IsWelfareRefusal market.now x N.bound (passed_at N.value passed)) }
+{
+    let _buses = market.buses();
+    if !has_giving_way(market) {
+        return Ok(values);
+    }
+    let mut sum = values;
+    for row in rows(market) {
+        if is_soft(market, row) {
+            sum = less_penalty(market, row, flows, sum)?;
+        }
+    }
+    Ok(sum)
 }
 
 /// What accepting a MW of an offer of reserve is worth, in 10^-6 per MWh: the opposite of its price.
@@ -93,12 +132,7 @@ pub fn welfare<N: Exact>(
     ensures worth { IfOk result (λ worth. N.value worth ≡ welfare_of market.now (dispatch_with (map N.value dispatch.now) (map N.value reserve.now))) }
     ensures cause { IfErr result (λ passed. IsWelfareRefusal market.now (dispatch_with (map N.value dispatch.now) (map N.value reserve.now)) N.bound (passed_at N.value passed)) }
 {
-    let _buses = market.buses();
-    let mut sum = values(market, dispatch)?;
-    for row in rows(market) {
-        if is_soft(market, row) {
-            sum = less_penalty(market, row, flows, sum)?;
-        }
-    }
-    less_reserve_costs(market, reserve, sum)
+    let of_blocks = values(market, dispatch)?;
+    let of_energy = less_penalties(market, flows, of_blocks)?;
+    less_reserve_costs(market, reserve, of_energy)
 }

@@ -1,0 +1,19 @@
+-- How many lines have limits.
+use Rattle.std.specs.Prelude.{◌≡◌, ℕ, Bool, true, false, length, filter, is_some}
+use Rattle.market_model.specs.declared.participants.Parts.{Parts}
+use Rattle.market_model.specs.Dispatch.{places, line_at}
+use Rattle.market_model.specs.LimitRows.{limit_of}
+use Rattle.limit_rows.specs.declared.counting.LimitCounts.{LimitCounts}
+
+-- whether a line has a limit after outages, or else in the base
+abbrev pub has_limit : Parts → Bool → ℕ → Bool
+has_limit m post l = is_some (limit_of post (line_at m l))
+
+-- how many of the first lines have one
+abbrev pub limits_to : Parts → Bool → ℕ → ℕ
+limits_to m post k = length (filter (has_limit m post) (places k))
+
+-- the numbers of all lines
+pub record AreLimitCounts (m : Parts) (counts : LimitCounts) : Type 0 where
+  pub base : counts.base ≡ limits_to m false (length m.lines)
+  pub post : counts.post ≡ limits_to m true (length m.lines)
