@@ -283,6 +283,3 @@ pub fn steps(alloc: Global, bytes: &[u8]) -> Result<Steps, StepFault>
     let table = read_table(alloc, bytes, EDIT_HEADER, Some(MOST_STEPS))??;
     steps_of(alloc, &table)
 }
-
-#[cfg(test)]
-mod tests;

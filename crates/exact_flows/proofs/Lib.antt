@@ -5,4 +5,3 @@ pub mod Places
 pub mod PutIn
 pub mod Reading
 pub mod Terms
-pub mod Worked

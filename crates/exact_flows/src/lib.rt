@@ -14,6 +14,3 @@ mod stop;
 pub use flows::exact_flows;
 pub use line::Line;
 pub use stop::FlowStop;
-
-#[cfg(test)]
-mod tests;

@@ -16,6 +16,3 @@ mod stops;
 pub use losing::make_loss;
 pub use shifting::make_shift;
 pub use stops::{MOST_MADE, MakeStop};
-
-#[cfg(test)]
-mod tests;

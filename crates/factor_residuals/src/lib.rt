@@ -15,6 +15,3 @@ mod spots;
 
 pub use residuals::{bus_residual, loop_residual, outage_bus_residual, outage_loop_residual};
 pub use spots::{Residual, Spot};
-
-#[cfg(test)]
-mod tests;

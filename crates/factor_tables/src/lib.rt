@@ -28,6 +28,3 @@ pub use outage_numbers::{OUTAGE_HEADER, OutageRows, outage_rows};
 pub use penalty_list::{Penalties, Penalty};
 pub use penalty_reading::{PENALTY_HEADER, penalties};
 pub use table_fault::TableFault;
-
-#[cfg(test)]
-mod tests;

@@ -16,6 +16,30 @@ const LOSS: &str = "branch,outage,factor\n2,1,1\n3,1,-1\n";
 const THIRDS: &str =
     "branch,bus,factor\n1,1,0\n1,2,-0.666667\n1,3,-0.333333\n2,1,0\n2,2,-0.333333\n2,3,-0.666667\n3,1,0\n3,2,0.333333\n3,3,-0.333333\n";
 
+/// With 0.001 in its first branch, of 1 MW from bus 2 to bus 1, the reference, 127/128 goes over the branch between them and 1/128 by bus 3;
+/// of 1 MW from bus 3, 101/128 goes over the branch between them and 27/128 by bus 2.
+const UNEVEN: &str = "function mpc = uneven
+mpc.version = '2';
+mpc.baseMVA = 100;
+mpc.bus = [
+1 3 0 0 0 0 1 1 0 230 1 1.1 0.9;
+2 1 0 0 0 0 1 1 0 230 1 1.1 0.9;
+3 1 0 0 0 0 1 1 0 230 1 1.1 0.9;
+];
+mpc.gen = [
+1 0 0 0 0 1 100 1 100 0;
+];
+mpc.branch = [
+1 2 0 0.2 0 0 0 0 0 0 1 -360 360;
+1 3 0 0.027 0 0 0 0 0 0 1 -360 360;
+2 3 0 0.1 0 0 0 0 0 0 1 -360 360;
+];
+";
+
+/// Each is half-way between two numbers of six places, and the one farther from 0 is taken.
+const HALVES: &str =
+    "branch,bus,factor\n1,1,0\n1,2,-0.992188\n1,3,-0.210938\n2,1,0\n2,2,-0.007813\n2,3,-0.789063\n3,1,0\n3,2,0.007813\n3,3,-0.210938\n";
+
 /// No outages are lost, and so there are no records of outage factors.
 const NO_OUTAGES: &str = "branch\n";
 
@@ -33,15 +57,16 @@ struct Want {
     loss: &'static str,
 }
 
-/// Makes tables of the case with this start of its first branch, and compares.
+/// Makes tables of a case with this start of its first branch, and compares.
 fn makes<R: Abort + AllocGlobal>(
     rt: &R,
+    case: &str,
     branch: &str,
     outages: &str,
     wanted: bool,
     want: Want,
 ) -> Result<(), Fail> {
-    let case = TRIANGLE.replace(rt.alloc(), "1 2 0 0.2", branch)?;
+    let case = case.replace(rt.alloc(), "1 2 0 0.2", branch)?;
     let told = factors_told(
         rt.alloc(),
         case.as_bytes(),
@@ -60,8 +85,9 @@ fn makes<R: Abort + AllocGlobal>(
 
 #[test]
 fn makes_tables(rt: HostRuntime) -> Result<(), Fail> {
-    for (branch, outages, wanted, want) in [
+    for (case, branch, outages, wanted, want) in [
         (
+            TRIANGLE,
             "1 2 0 0.2",
             "branch\n1\n",
             true,
@@ -73,6 +99,7 @@ fn makes_tables(rt: HostRuntime) -> Result<(), Fail> {
             },
         ),
         (
+            TRIANGLE,
             "1 2 0 0.2",
             "branch\n1\n",
             false,
@@ -84,6 +111,7 @@ fn makes_tables(rt: HostRuntime) -> Result<(), Fail> {
             },
         ),
         (
+            TRIANGLE,
             "1 2 0 0.1",
             NO_OUTAGES,
             true,
@@ -94,8 +122,20 @@ fn makes_tables(rt: HostRuntime) -> Result<(), Fail> {
                 loss: NO_LOSS,
             },
         ),
+        (
+            UNEVEN,
+            "1 2 0 0.001",
+            "branch\n1\n",
+            true,
+            Want {
+                status: Status::Done,
+                text: "shift records 9\noutage records 2\n",
+                shift: HALVES,
+                loss: LOSS,
+            },
+        ),
     ] {
-        makes(&rt, branch, outages, wanted, want)?;
+        makes(&rt, case, branch, outages, wanted, want)?;
     }
     Ok(())
 }
@@ -121,7 +161,7 @@ fn refuses_to_make(rt: HostRuntime) -> Result<(), Fail> {
             shift: "",
             loss: "",
         };
-        makes(&rt, branch, outages, true, want)?;
+        makes(&rt, TRIANGLE, branch, outages, true, want)?;
     }
     Ok(())
 }

@@ -5,6 +5,3 @@ pub mod laws;
 mod writing;
 
 pub use writing::{loss_text, shift_text};
-
-#[cfg(test)]
-mod tests;

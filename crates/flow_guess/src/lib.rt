@@ -16,6 +16,3 @@ mod told;
 
 pub use guesser::Guesser;
 pub use links::{Link, are_links, is_link};
-
-#[cfg(test)]
-mod tests;

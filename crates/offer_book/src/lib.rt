@@ -11,6 +11,3 @@ pub use edit_parts::{Edit, EditFault};
 pub use edits::edit;
 pub use offer_table::{OfferFault, blocks};
 pub use reserve_reading::{RESERVE_HEADER, ReserveFault, reserves};
-
-#[cfg(test)]
-mod tests;

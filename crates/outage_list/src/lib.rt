@@ -9,6 +9,3 @@ mod unit_listing;
 pub use listing::{OutageFault, Outages, listed};
 pub use unit_fault::UnitOutageFault;
 pub use unit_listing::{UNIT_OUTAGE_HEADER, UnitOutages, unit_outages};
-
-#[cfg(test)]
-mod tests;

@@ -10,8 +10,6 @@ mod memory_sink;
 mod memory_store;
 mod named_file;
 mod out_sink;
-#[cfg(test)]
-mod tests;
 mod transfer;
 
 pub use bounded_bytes::NoRoom;

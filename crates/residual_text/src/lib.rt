@@ -4,6 +4,3 @@
 mod lines;
 
 pub use lines::residuals_text;
-
-#[cfg(test)]
-mod tests;

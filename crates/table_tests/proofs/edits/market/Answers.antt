@@ -1,4 +1,4 @@
-use Rattle.std.proofs.Common.{◌≡◌, ◌<◌, pos, [], ◌∷◌, Some, None, ℕ, get_or, zero, suc, arith, refl}
+use Rattle.std.proofs.Common.{◌<◌, pos, [], ◌∷◌, Some, None, ℕ, get_or, zero, suc, arith, refl}
 use Rattle.std.proofs.lemmas.Int.{ints}
 use Rattle.std.proofs.lemmas.List.Elements.{All-cons, All-nil}
 use Rattle.market_data.specs.Participants.{IsBus, IsUnit}
@@ -13,7 +13,7 @@ use Rattle.market_model.specs.Market.{bare_parts, IsMarket, IsBlock, IsLine, Has
 use Rattle.market_model.specs.Stairs.{stair_in}
 use Rattle.market_model.proofs.LinePenalties.{hard_is_line}
 use Rattle.market_model.proofs.PlainMarkets.{is_no_reserve, no_unit_outages}
-use Rattle.offer_book.proofs.tests.edits.market.Goals as goal
+use Rattle.table_tests.proofs.edits.market.Goals as goal
 
 abbrev the_bus : Bus
 the_bus = record { number = 3; pd = pos 60000000000; gs = pos 5000000000 }
@@ -67,8 +67,4 @@ is_market = record {
 
 pub assemble-requires : goal.assemble-requires
 assemble-requires c =
-    let buses : c.push.new.self ≡ the_bus ∷ [] = rw c.new-buses.ensures at c.in_ok-push.ensures in
-    let units : c.push-2.new.self ≡ the_unit ∷ [] = rw c.new-units.ensures at c.in_ok-push-2.ensures in
-    let blocks : c.push-4.new.self ≡ cheap ∷ dear ∷ [] = rw (c.in_ok-push-3.ensures, c.new-blocks.ensures) at c.in_ok-push-4.ensures in
-    let lines : c.push-5.new.self ≡ the_line ∷ [] = rw (c.new-lines.ensures, c.hard.ensures) at c.in_ok-push-5.ensures in
-    rw (c.bare.ensures, buses, units, blocks, lines) is_market
+    rw (c.bare.ensures, c.in_ok-buses.ensures, c.in_ok-units.ensures, c.in_ok-blocks.ensures, c.in_ok-lines.ensures, c.hard.ensures) is_market

@@ -1,6 +1,6 @@
 use Rattle.std.proofs.Common.{rules}
-use Rattle.exact_flows.proofs.Worked.{triangle_is, triangle_joined}
-use Rattle.exact_flows.proofs.tests.triangle.Goals as goal
+use Rattle.factor_tests.proofs.WorkedFlows.{triangle_is, triangle_joined}
+use Rattle.factor_tests.proofs.flows.triangle.Goals as goal
 
 pub exact_flows-requires-clause-network : goal.exact_flows-requires-clause-network
 exact_flows-requires-clause-network c = search (rules, triangle_is)

@@ -1,15 +1,15 @@
-//! Flows of a triangle that are worked by hand. Of 1 that goes from bus 1 to bus 0, three quarters take the side between them, and the
-//! rest goes round by bus 2, over two branches by their susceptances.
+//! `exact_flows`: flows of a triangle that are worked by hand. Of 1 that goes from bus 1 to bus 0, three quarters take the side between
+//! them, and the rest goes round by bus 2, over two branches by their susceptances.
+
 ghost use Rattle.std.specs.Prelude.{IfSome, pos};
 ghost use Rattle.fraction_theory.specs.Fraction.{whole};
 ghost use Rattle.fraction_theory.specs.Order.{◌<ℚ◌};
 
-use crate::{Line, exact_flows};
+use exact_flows::{Line, exact_flows};
 use exact_fraction::{Exact, Frac};
 use plain_list::List;
 use std::alloc::Global;
 use std::cmp::Ordering;
-use std::test::Fail;
 
 /// So many thirds, where they are above 0.
 fn thirds<N: Exact>(count: u8) -> Option<N>
@@ -53,11 +53,13 @@ fn triangle(alloc: Global) -> Option<List<Frac>> {
     exact_flows(alloc, 3, 0, &lines).ok()
 }
 
-/// Whether the flows of the triangle are so many twentieths.
+/// So many twentieths each, by branch, and for each by the bus of the 1.
+const TWENTIETHS: [i8; 12] = [0, -15, -5, 0, -5, -15, 0, 2, -2, 0, -3, 3];
+
+/// Whether these are the flows of the triangle.
 fn are(alloc: Global, twentieths: &[i8; 12]) -> bool {
-    let flows = match triangle(alloc) {
-        Some(flows) => flows,
-        None => return false,
+    let Some(flows) = triangle(alloc) else {
+        return false;
     };
     if flows.len() != 12 {
         return false;
@@ -72,8 +74,6 @@ fn are(alloc: Global, twentieths: &[i8; 12]) -> bool {
 }
 
 #[test]
-fn flows_divide(rt: HostRuntime) -> Result<(), Fail> {
-    let twentieths = [0, -15, -5, 0, -5, -15, 0, 2, -2, 0, -3, 3];
-    assert!(rt; are(rt.alloc(), &twentieths));
-    Ok(())
+fn flows_divide(rt: HostRuntime) {
+    assert!(rt; are(rt.alloc(), &TWENTIETHS));
 }
