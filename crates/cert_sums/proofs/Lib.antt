@@ -4,4 +4,3 @@ pub mod OwnLemmas
 pub mod BlockFlows
 pub mod BoundLemmas
 pub mod RoomLemmas
-pub mod TestMarkets

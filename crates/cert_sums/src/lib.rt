@@ -15,6 +15,3 @@ pub use flowing::carried_flows;
 pub use pricing::{NamedRow, unit_price};
 pub use putting::injections;
 pub use worths::{NamedRoom, energy_worth, reserve_worth};
-
-#[cfg(test)]
-mod tests;

@@ -1,2 +1,1 @@
-pub mod ReserveMarkets
 pub mod WorkedMarkets

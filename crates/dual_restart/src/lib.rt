@@ -79,6 +79,3 @@ impl<N: Exact> Warm<N> {
         self.dict = None;
     }
 }
-
-#[cfg(test)]
-mod tests;

@@ -1,4 +1,4 @@
--- The markets of the tests are markets.
+-- The triangles of `clear_tests` and `market_tests` are markets.
 use Rattle.std.proofs.Common.{◌≡◌, ◌≢◌, ℕ, pos, negsuc, List, [], ◌∷◌, length, ◌≤◌, All, Option, Some, None, ℤ, arith, refl}
 use Rattle.std.specs.Prelude.{AllPairs, Contains, IfSome, ◌≤ℤ◌}
 use Rattle.std.proofs.lemmas.Int.{ints}

@@ -21,6 +21,3 @@ pub use numbering::{count, id, place_of, position, row_at};
 pub use places::{found_row, limit_at, name_at, row_named};
 pub use softness::{excess_at, is_soft, most_flow, penalty_at};
 pub use walk::{RowWalk, rows};
-
-#[cfg(test)]
-mod tests;

@@ -1,4 +1,4 @@
--- The market of the tests is one.
+-- The market with reserve of `clear_tests` and `market_tests` is one.
 use Rattle.std.specs.Prelude.{◌≢◌, ◌<◌, ℕ, ℤ, pos, ◌≤ℤ◌, true, List, [], ◌∷◌, All, AllPairs, slice_index_or}
 use Rattle.std.proofs.Common.{arith, zero, suc}
 use Rattle.std.proofs.lemmas.Int.{ints}

@@ -13,6 +13,3 @@ pub use flowing::{bus_injections, carried_flows, flows, flows_made};
 pub use parts::{WholeParts, whole_parts};
 pub use screening::{worst, worst_row, worst_row_by_parts};
 pub use sharing::{rooms, worst_room};
-
-#[cfg(test)]
-mod tests;

@@ -1,4 +1,3 @@
 pub mod BusSteps
 pub mod FitLemmas
 pub mod PaySteps
-pub mod TestMarkets

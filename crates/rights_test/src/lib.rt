@@ -12,6 +12,3 @@ pub use fitting::fit;
 pub use paying::pay;
 pub use reading::{MOST_RIGHTS, RIGHT_HEADER, rights};
 pub use right_parts::{Fit, Payments, Rights, RightsFault};
-
-#[cfg(test)]
-mod tests;

@@ -5,4 +5,3 @@ pub mod OfferLemmas
 pub mod RowLemmas
 pub mod MoneyLemmas
 pub mod WorthLemmas
-pub mod TestMarkets

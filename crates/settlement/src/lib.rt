@@ -15,6 +15,3 @@ pub use settling::{settle, settle_flows};
 /// Why a settlement was not made.
 pub use market_model::Stop as MoneyStop;
 pub use worth::welfare;
-
-#[cfg(test)]
-mod tests;

@@ -2,7 +2,7 @@ use Rattle.std.proofs.Common.{rules, ◌≡◌, subst, sym, w64}
 use mir.Val.{to_z, of_z}
 use Rattle.std.specs.Prelude.{ℤ}
 use Rattle.market_model.specs.Market.{IsMarket}
-use Rattle.clear_tests.proofs.ReserveMarkets.{needing, needing_is_market}
+use Rattle.limit_screen.proofs.TestMarkets.{needing, needing_is_market}
 use Rattle.clear_tests.proofs.reserves.needing.Goals as goal
 
 pub assemble-requires : goal.assemble-requires

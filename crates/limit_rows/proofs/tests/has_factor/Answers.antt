@@ -1,6 +1,0 @@
-use Rattle.std.proofs.Common.{sym, ◌∙◌}
-use Rattle.limit_rows.proofs.NameLemmas.{named_row}
-use Rattle.limit_rows.proofs.tests.has_factor.Goals as goal
-
-pub coefficient-requires-clause-row : goal.coefficient-requires-clause-row
-coefficient-requires-clause-row c = named_row c.args.market.now c.args.row c.in-Some.field-0 (sym c.position.ensures.is ∙ c.in-Some.is)

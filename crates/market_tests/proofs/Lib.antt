@@ -1,0 +1,3 @@
+pub mod TriangleMarkets
+pub mod NothingNamed
+pub mod RestartLemmas
