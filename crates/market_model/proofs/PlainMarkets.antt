@@ -1,8 +1,8 @@
 -- Markets without branches keep what every market keeps.
-use Rattle.std.specs.Prelude.{◌≢◌, ℕ, ◌<◌, ◌≤◌, List, [], ◌∷◌, length, map, All, AllPairs, slice_index_or, refl}
-use Rattle.std.proofs.Common.{arith, zero, suc}
+use Rattle.std.specs.Prelude.{◌≢◌, ℕ, ◌<◌, ◌≤◌, List, [], length, map, All, AllPairs, slice_index_or, refl}
+use Rattle.std.proofs.Common.{arith}
 use Rattle.std.proofs.lemmas.Int.{ints}
-use Rattle.std.proofs.lemmas.List.Elements.{All-cons, All-nil}
+use Rattle.std.proofs.lemmas.List.Elements.{All-nil}
 use Rattle.market_data.specs.Participants.{IsBus, IsUnit}
 use Rattle.market_data.specs.Scales.{most_blocks, most_buses, most_units}
 use Rattle.market_data.specs.declared.participants.Bus.{Bus}
@@ -69,24 +69,7 @@ plain_market buses units blocks h = record {
   reserve = is_no_reserve (length units);
 }
 
--- a market of one bus, unit and block, and one of nothing
-pub one_each : (b : Bus) (u : unit.Unit) (k : Block) → IsBus b → IsUnit 1 u → IsBlock 1 k → HasRoom (k ∷ []) 0 u → IsMarket (bare_parts (b ∷ []) (u ∷ []) (k ∷ []))
-one_each b u k is_bus is_unit is_block room = plain_market (b ∷ []) (u ∷ []) (k ∷ []) (record {
-  bus_count = Prim.omega arith;
-  unit_count = Prim.omega arith;
-  block_count = Prim.omega arith;
-  buses = All-cons IsBus b [] is_bus (All-nil IsBus);
-  bus_numbers = λ i j d p q. absurd (Prim.omega (arith, p, q));
-  units = All-cons (IsUnit 1) u [] is_unit (All-nil (IsUnit 1));
-  unit_rows = λ i j d p q. absurd (Prim.omega (arith, p, q));
-  blocks = All-cons (IsBlock 1) k [] is_block (All-nil (IsBlock 1));
-  room = at_place;
-})
-  where
-    at_place : (place : ℕ) (d : unit.Unit) → place < 1 → HasRoom (k ∷ []) place (slice_index_or (u ∷ []) place d)
-    at_place zero d h = room
-    at_place (suc n) d h = absurd (Prim.omega (arith, h))
-
+-- a market of nothing
 pub nothing : IsMarket (bare_parts [] [] [])
 nothing = plain_market [] [] [] (record {
   bus_count = Prim.omega arith;

@@ -34,6 +34,3 @@ pub use reserving::{
     room_used,
 };
 pub use stops::Stop;
-
-#[cfg(test)]
-mod tests;
