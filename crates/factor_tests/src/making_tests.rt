@@ -16,8 +16,8 @@ const LOSS: &str = "branch,outage,factor\n2,1,1\n3,1,-1\n";
 const THIRDS: &str =
     "branch,bus,factor\n1,1,0\n1,2,-0.666667\n1,3,-0.333333\n2,1,0\n2,2,-0.333333\n2,3,-0.666667\n3,1,0\n3,2,0.333333\n3,3,-0.333333\n";
 
-/// With 0.001 in its first branch, of 1 MW from bus 2 to bus 1, the reference, 127/128 goes over the branch between them and 1/128 by bus 3;
-/// of 1 MW from bus 3, 101/128 goes over the branch between them and 27/128 by bus 2.
+/// With 0.001 in its first branch, of 1 MW from bus 2 to bus 1, the reference, 127/128 goes over the branch between them and 1/128 by
+/// bus 3; of 1 MW from bus 3, 101/128 goes over the branch between them and 27/128 by bus 2.
 const UNEVEN: &str = "function mpc = uneven
 mpc.version = '2';
 mpc.baseMVA = 100;
