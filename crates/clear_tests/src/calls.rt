@@ -2,6 +2,7 @@
 //! flows. In the market bus prices are 10, 30 and 40, and the rent is all of the surplus.
 
 ghost use Rattle.std.specs.Prelude.{◌≤ℤ◌, pos, List, [], ◌∷◌, IfOk};
+ghost use Rattle.clear_loop.specs.Keeping.{FitsFrame};
 ghost use Rattle.limit_screen.specs.Screening.{AreNamesOf};
 ghost use Rattle.market_model.specs.Fitting.{FitsMarket};
 ghost use Rattle.market_model.specs.RightAnswers.{IsRight};
@@ -14,7 +15,7 @@ use clear_loop::{ClearFault, Clearer};
 use exact_fraction::{Exact, Frac, Frac63};
 use limit_screen::{flows, worst};
 use market_data::{MW_ONE, PRICE_ONE};
-use market_model::{Answer, Market, Money, Price, RowId, zeros};
+use market_model::{Answer, Load, Market, Money, Price, Rent, RowId, UnitPay, zeros};
 use offer_book::edit;
 use settlement::settle;
 use std::alloc::Global;
@@ -31,23 +32,44 @@ const IN_THE_BASE: RowId = RowId {
     unit: 0,
 };
 
-/// Whether units are paid 500 and 300 for 50 and 10 MW, the load pays 2400 for 60 and a limit earns 1600 by 40.
-fn is_settled<N: Exact>(money: &Money<N>) -> bool {
-    match (
-        money.units.slice(),
-        money.loads.slice(),
-        money.rents.slice(),
-    ) {
-        ([first, second], [one, two, three], [rent]) => {
+/// Whether units are paid 500 and 300 for 50 and 10 MW.
+fn are_paid<N: Exact>(units: &[UnitPay<N>]) -> bool {
+    match units {
+        [first, second] => {
             are(&[first.mw, second.mw], &[50, 10], MW_ONE)
                 && are(&[first.paid, second.paid], &[500, 300], MONEY_ONE)
-                && are(&[one.mw, two.mw, three.mw], &[0, 0, 60], MW_ONE)
-                && are(&[one.pays, two.pays, three.pays], &[0, 0, 2400], MONEY_ONE)
-                && are(&[rent.flow, rent.over], &[40, 0], MW_ONE)
-                && are(&[rent.rent, money.surplus], &[1600, 1600], MONEY_ONE)
         }
         _ => false,
     }
+}
+
+/// Whether the load at the third bus pays 2400 for 60 MW.
+fn are_billed<N: Exact>(loads: &[Load<N>]) -> bool {
+    match loads {
+        [one, two, three] => {
+            are(&[one.mw, two.mw, three.mw], &[0, 0, 60], MW_ONE)
+                && are(&[one.pays, two.pays, three.pays], &[0, 0, 2400], MONEY_ONE)
+        }
+        _ => false,
+    }
+}
+
+/// Whether a limit earns 1600 by 40 MW, which is all of the surplus.
+fn are_earned<N: Exact>(rents: &[Rent<N>], surplus: N) -> bool {
+    match rents {
+        [rent] => {
+            are(&[rent.flow, rent.over], &[40, 0], MW_ONE)
+                && are(&[rent.rent, surplus], &[1600, 1600], MONEY_ONE)
+        }
+        _ => false,
+    }
+}
+
+/// Whether a settlement is that.
+fn is_settled<N: Exact>(money: &Money<N>) -> bool {
+    are_paid(money.units.slice())
+        && are_billed(money.loads.slice())
+        && are_earned(money.rents.slice(), money.surplus)
 }
 
 /// The answer of a market.
@@ -59,8 +81,8 @@ fn answer_of<N: Exact>(alloc: Global, market: &Market) -> Result<Answer<N>, Clea
     clearer.clear(alloc, market)
 }
 
-/// The prices of the duals of the market's answer, and its settlement.
-fn is_priced_and_settled<N: Exact + Debug>(
+/// The prices of the duals of the market's answer.
+fn is_priced<N: Exact + Debug>(
     alloc: Global,
     market: &Market,
     answer: &Answer<N>,
@@ -76,6 +98,18 @@ fn is_priced_and_settled<N: Exact + Debug>(
     };
     let mut out = vec![in alloc; unpriced; market.buses().len()]?;
     prices(market, &answer.duals, &mut out)?;
+    Ok(are_prices(&out, &[0, 20, 30], &[10, 30, 40]))
+}
+
+/// The settlement of the market's answer.
+fn is_settled_anew<N: Exact + Debug>(
+    alloc: Global,
+    market: &Market,
+    answer: &Answer<N>,
+) -> Result<bool, Fail>
+    requires fits { FitsMarket market.now answer.now }
+    requires right { IsRight market.now (answer_at N.value answer.now) }
+{
     let dispatch = answer.dispatch.slice();
     let money = settle(
         alloc,
@@ -85,13 +119,23 @@ fn is_priced_and_settled<N: Exact + Debug>(
         answer.prices.slice(),
         &answer.duals,
     )?;
-    Ok(are_prices(&out, &[0, 20, 30], &[10, 30, 40]) && is_settled(&money))
+    Ok(is_settled(&money))
 }
 
-fn prices_and_money<N: Exact + Debug>(alloc: Global) -> Result<bool, Fail> {
+/// Whether the answer of a market is priced and settled so.
+fn are_priced_and_settled<N: Exact + Debug>(
+    alloc: Global,
+    market: &Market,
+) -> Result<(bool, bool), Fail> {
+    let answer: Answer<N> = answer_of(alloc, market)?;
+    let priced = is_priced(alloc, market, &answer)?;
+    let settled = is_settled_anew(alloc, market, &answer)?;
+    Ok((priced, settled))
+}
+
+fn prices_and_money<N: Exact + Debug>(alloc: Global) -> Result<(bool, bool), Fail> {
     let market = limited(alloc)?;
-    let answer: Answer<N> = answer_of(alloc, &market)?;
-    is_priced_and_settled(alloc, &market, &answer)
+    are_priced_and_settled::<N>(alloc, &market)
 }
 
 /// The worst limit by its name, where some are taken and the two blocks have these MW accepted.
@@ -164,23 +208,33 @@ fn worst_by_excess<N: Exact + Debug>(alloc: Global) -> Result<bool, Fail> {
 }
 
 /// Whether the limit of 45 after the outage is taken alone.
-fn takes_alone<N: Exact + Debug>(alloc: Global, market: &Market) -> Result<bool, Fail> {
-    let mut clearer: Clearer<N> = Clearer::new(market);
+fn takes_alone<N: Exact + Debug>(
+    alloc: Global,
+    market: &Market,
+    clearer: &mut Clearer<N>,
+) -> Result<bool, Fail>
+    requires { FitsFrame market.now clearer.old }
+{
     let answer = clearer.clear(alloc, market)?;
-    Ok(has_taken(&clearer, 1) && is_answer(&answer, &[45, 15], &[0, 20, 20], &[10, 30, 30]))
+    Ok(has_taken(clearer, 1) && is_answer(&answer, &[45, 15], &[0, 20, 20], &[10, 30, 30]))
 }
 
 /// Both limits are passed, and that after the outage by more.
+fn takes_later<N: Exact + Debug>(alloc: Global, market: &mut Market) -> Result<bool, Fail> {
+    edit(market, &limit(true, 45 * MW_ONE))?;
+    let mut clearer: Clearer<N> = Clearer::new(market);
+    takes_alone(alloc, market, &mut clearer)
+}
+
 fn takes_the_worst<N: Exact + Debug>(alloc: Global) -> Result<bool, Fail> {
     let mut market = limited(alloc)?;
-    edit(&mut market, &limit(true, 45 * MW_ONE))?;
-    takes_alone::<N>(alloc, &market)
+    takes_later::<N>(alloc, &mut market)
 }
 
 #[test]
 fn prices_of_duals_and_a_settlement(rt: HostRuntime) -> Result<(), Fail> {
-    assert!(rt; prices_and_money::<Frac>(rt.alloc())?);
-    assert!(rt; prices_and_money::<Frac63>(rt.alloc())?);
+    assert_eq!(rt; prices_and_money::<Frac>(rt.alloc())?, (true, true));
+    assert_eq!(rt; prices_and_money::<Frac63>(rt.alloc())?, (true, true));
     Ok(())
 }
 

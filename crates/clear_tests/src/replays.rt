@@ -142,10 +142,17 @@ fn replays_few<N: Exact>(
     }
 }
 
+/// The same in a session of the market.
+fn replays_anew<N: Exact>(alloc: Global, steps: &Steps) -> Result<bool, Memory>
+    requires { All IsStep steps.now }
+{
+    let mut session: Session<N> = Session::new(limited(alloc)?);
+    replays_few(&mut session, alloc, steps)
+}
+
 fn replays<N: Exact>(alloc: Global) -> Result<bool, Fail> {
     let steps = few_steps(alloc)?;
-    let mut session: Session<N> = Session::new(limited(alloc)?);
-    Ok(replays_few(&mut session, alloc, &steps)?)
+    Ok(replays_anew::<N>(alloc, &steps)?)
 }
 
 /// A price of all that 63 bits hold, which nothing is paid by; then prices at which what the first unit is paid is more than they hold; the
@@ -197,10 +204,17 @@ fn replays_dear(session: &mut Session<Frac63>, alloc: Global, steps: &Steps) -> 
     )
 }
 
+/// The same in a session of the market.
+fn replays_dear_anew(alloc: Global, steps: &Steps) -> Result<bool, Memory>
+    requires { All IsStep steps.now }
+{
+    let mut session: Session<Frac63> = Session::new(limited(alloc)?);
+    replays_dear(&mut session, alloc, steps)
+}
+
 fn passes_63_bits(alloc: Global) -> Result<bool, Fail> {
     let steps = dear_steps(alloc)?;
-    let mut session: Session<Frac63> = Session::new(limited(alloc)?);
-    Ok(replays_dear(&mut session, alloc, &steps)?)
+    Ok(replays_dear_anew(alloc, &steps)?)
 }
 
 /// With unit 2 at 2000 a MW of flow is worth 3980, so 5 MW beyond the limit at 3000 are cheaper: 15,000, where 63 bits hold 9,223.

@@ -74,8 +74,8 @@ fn needing(alloc: Global, need: i64) -> Result<Market, Memory>
     let buses = listed(alloc, &BUSES)?;
     let units = listed(alloc, &UNITS)?;
     let blocks = listed(alloc, &BLOCKS)?;
-    let mut parts = Parts::bare(alloc, buses, units, blocks);
     let offers = listed(alloc, &OFFERS)?;
+    let mut parts = Parts::bare(alloc, buses, units, blocks);
     parts.reserve = Reserve {
         listed: true,
         offers,

@@ -169,11 +169,15 @@ pub(crate) fn soft(alloc: Global, price: i64, excess: i64) -> Result<Market, Mem
     requires { IsPenalty price excess }
     ensures { IfOk result (λ market. (g : List Row) × AreNamesOf market g (record { branch = 2; outage = 0; unit = 0 } ∷ [])) }
 {
+    let lines = lines(alloc, price, excess)?;
+    let outages = listed(alloc, &[1])?;
+    let shift = listed(alloc, &SHIFT)?;
+    let loss = listed(alloc, &LOSS)?;
     let mut parts = participants(alloc)?;
-    parts.lines = lines(alloc, price, excess)?;
-    parts.outages = listed(alloc, &[1])?;
-    parts.shift = listed(alloc, &SHIFT)?;
-    parts.loss = listed(alloc, &LOSS)?;
+    parts.lines = lines;
+    parts.outages = outages;
+    parts.shift = shift;
+    parts.loss = loss;
     assemble(alloc, parts)
 }
 

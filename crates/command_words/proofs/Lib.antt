@@ -1,5 +1,6 @@
 pub mod EnteredLemmas
 pub mod GivenLemmas
+pub mod OptionLemmas
 pub mod PlainLemmas
 pub mod RequestLemmas
 pub mod RingLemmas

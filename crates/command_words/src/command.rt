@@ -1,7 +1,7 @@
 //! The command that the words of a run are read by.
 
-ghost use Rattle.std.specs.Prelude.{◌≡◌, false, IfOk, codes, pos};
-ghost use Rattle.clap.specs.Words.{app_of, new_app, rule_of, with_subcommand};
+ghost use Rattle.std.specs.Prelude.{◌≡◌, false, fold, IfOk, codes, pos};
+ghost use Rattle.clap.specs.Words.{App, app_of, new_app, rule_of, with_subcommand};
 ghost use Rattle.clap.specs.declared.builder.command.Command.TheViews.{out-Command as fields_of};
 ghost use Rattle.clap.specs.declared.builder.value_parser.ValueParser.TheVariants.{Names, Signed};
 ghost use Rattle.command_words.specs.Words.{check_app, choice_rule, clear_app, factors_app, file_rule, make_app, migrate_app, needs_subcommand, pool_app, replay_app, rights_app, sced_app_over, table_rule, value_rule, verify_app, with_file, with_market, with_places, with_table};
@@ -46,6 +46,31 @@ const READ: &str = "The certificate that is verified";
 const MIGRATED: &str = "The certificate that is written anew";
 
 const OUT: &str = "The file that it is written to";
+
+/// The files of a market with limits that must be there.
+const MARKET_FILES: [(&str, &str); 3] = [("case", CASE), ("ptdf", PTDF), ("offers", OFFERS)];
+
+/// Those that may be there.
+const MARKET_TABLES: [(&str, &str); 6] = [
+    ("lodf", LODF),
+    ("contingencies", CONTINGENCIES),
+    ("unit-outages", UNIT_OUTAGES),
+    ("reserves", RESERVES),
+    ("offsets", OFFSETS),
+    ("penalties", PENALTIES),
+];
+
+/// The files of `check` that must be there.
+const CHECKED_FILES: [(&str, &str); 2] = [("case", CASE), ("ptdf", PTDF)];
+
+/// Those that may be there.
+const CHECKED_TABLES: [(&str, &str); 2] = [("lodf", LODF), ("contingencies", CONTINGENCIES)];
+
+/// The files of `factors` that must be there.
+const FACTOR_FILES: [(&str, &str); 2] = [("case", CASE), ("ptdf-out", PTDF_OUT)];
+
+/// Those that may be there.
+const FACTOR_TABLES: [(&str, &str); 2] = [("lodf-out", LODF_OUT), ("contingencies", CONTINGENCIES)];
 
 /// The kit that proves and builds the program, as `rt version` prints it.
 const VERSION: &str = "rattle-kit-13f logic dac8208d650f15bf";
@@ -148,6 +173,38 @@ fn with_table<'a>(
     command.arg(table_option(alloc, name, help))
 }
 
+/// A command with one more option for each of these names and lines of help, which names a file.
+fn with_each_file<'a>(
+    alloc: Global,
+    mut command: Command<'a>,
+    options: &[(&'a str, &'a str)],
+) -> Result<Command<'a>, AllocError>
+    requires { (fields_of command).has_globals ≡ false }
+    ensures app { IfOk result (λ made. app_of made ≡ fold (λ app option. with_file app option.0.now) (app_of command.entry) options.entry.now) }
+    ensures local { IfOk result (λ made. (fields_of made).has_globals ≡ false) }
+{
+    for &(name, help) in options {
+        command = with_file(alloc, command, name, help)?;
+    }
+    Ok(command)
+}
+
+/// A command with one more option for each of these names and lines of help, which may name a file.
+fn with_each_table<'a>(
+    alloc: Global,
+    mut command: Command<'a>,
+    options: &[(&'a str, &'a str)],
+) -> Result<Command<'a>, AllocError>
+    requires { (fields_of command).has_globals ≡ false }
+    ensures app { IfOk result (λ made. app_of made ≡ fold (λ app option. with_table app option.0.now) (app_of command.entry) options.entry.now) }
+    ensures local { IfOk result (λ made. (fields_of made).has_globals ≡ false) }
+{
+    for &(name, help) in options {
+        command = with_table(alloc, command, name, help)?;
+    }
+    Ok(command)
+}
+
 /// A command without options, with a line that says what it does.
 fn described<'a>(alloc: Global, name: &'a str, about: &'a str) -> Command<'a>
     ensures app { app_of result ≡ new_app name.entry.now }
@@ -193,15 +250,8 @@ fn with_market<'a>(
     ensures app { IfOk result (λ made. app_of made ≡ with_market (app_of command.entry) ratings.entry places.entry) }
     ensures local { IfOk result (λ made. (fields_of made).has_globals ≡ false) }
 {
-    let command = with_file(alloc, command, "case", CASE)?;
-    let command = with_file(alloc, command, "ptdf", PTDF)?;
-    let command = with_file(alloc, command, "offers", OFFERS)?;
-    let command = with_table(alloc, command, "lodf", LODF)?;
-    let command = with_table(alloc, command, "contingencies", CONTINGENCIES)?;
-    let command = with_table(alloc, command, "unit-outages", UNIT_OUTAGES)?;
-    let command = with_table(alloc, command, "reserves", RESERVES)?;
-    let command = with_table(alloc, command, "offsets", OFFSETS)?;
-    let command = with_table(alloc, command, "penalties", PENALTIES)?;
+    let command = with_each_file(alloc, command, &MARKET_FILES)?;
+    let command = with_each_table(alloc, command, &MARKET_TABLES)?;
     let command = command.arg(choice_option(alloc, "post-rating", "RATING", POST_RATING, ratings))?;
     with_places(alloc, command, places)
 }
@@ -285,10 +335,8 @@ fn check_command<'a>(alloc: Global, places: &'a [&'a str]) -> Result<Command<'a>
         "check",
         "Tells by how much the tables of factors miss the laws of the network",
     );
-    let command = with_file(alloc, command, "case", CASE)?;
-    let command = with_file(alloc, command, "ptdf", PTDF)?;
-    let command = with_table(alloc, command, "lodf", LODF)?;
-    let command = with_table(alloc, command, "contingencies", CONTINGENCIES)?;
+    let command = with_each_file(alloc, command, &CHECKED_FILES)?;
+    let command = with_each_table(alloc, command, &CHECKED_TABLES)?;
     with_places(alloc, command, places)
 }
 
@@ -297,10 +345,8 @@ fn factors_command<'a>(alloc: Global, places: &'a [&'a str]) -> Result<Command<'
     ensures local { IfOk result (λ made. (fields_of made).has_globals ≡ false) }
 {
     let command = described(alloc, "factors", "Makes tables of shift and outage factors");
-    let command = with_file(alloc, command, "case", CASE)?;
-    let command = with_file(alloc, command, "ptdf-out", PTDF_OUT)?;
-    let command = with_table(alloc, command, "lodf-out", LODF_OUT)?;
-    let command = with_table(alloc, command, "contingencies", CONTINGENCIES)?;
+    let command = with_each_file(alloc, command, &FACTOR_FILES)?;
+    let command = with_each_table(alloc, command, &FACTOR_TABLES)?;
     with_places(alloc, command, places)
 }
 
@@ -330,16 +376,17 @@ fn make_command<'a>(alloc: Global, sizes: &'a [&'a str]) -> Result<Command<'a>, 
     .arg(seed_value(alloc))
 }
 
-/// A command with one more subcommand.
+/// A command with one more subcommand, where that could be made.
 fn with_subcommand<'a>(
     command: Command<'a>,
-    subcommand: Command<'a>,
+    subcommand: Result<Command<'a>, AllocError>,
 ) -> Result<Command<'a>, AllocError>
-    requires { ((fields_of command).has_globals ≡ false) × ((fields_of subcommand).has_globals ≡ false) }
-    ensures app { IfOk result (λ made. app_of made ≡ with_subcommand (app_of command.entry) (app_of subcommand.entry).top) }
+    requires command { (fields_of command).has_globals ≡ false }
+    requires subcommand { IfOk subcommand (λ made. (fields_of made).has_globals ≡ false) }
+    ensures app { (app : App) → IfOk subcommand.entry (λ added. app_of added ≡ app) → IfOk result (λ made. app_of made ≡ with_subcommand (app_of command.entry) app.top) }
     ensures local { IfOk result (λ made. (fields_of made).has_globals ≡ false) }
 {
-    command.subcommand(subcommand)
+    command.subcommand(subcommand?)
 }
 
 /// The program without its subcommands, of which there must be one.
@@ -369,13 +416,13 @@ pub fn sced_command<'a>(
     ensures app { IfOk result (λ made. app_of made ≡ sced_app_over sizes.entry ratings.entry places.entry) }
     ensures local { IfOk result (λ made. (fields_of made).has_globals ≡ false) }
 {
-    let command = with_subcommand(bare_command(alloc), pool_command(alloc)?)?;
-    let command = with_subcommand(command, clear_command(alloc, ratings, places)?)?;
-    let command = with_subcommand(command, replay_command(alloc, ratings, places)?)?;
-    let command = with_subcommand(command, verify_command(alloc, ratings, places)?)?;
-    let command = with_subcommand(command, rights_command(alloc, ratings, places)?)?;
-    let command = with_subcommand(command, check_command(alloc, places)?)?;
-    let command = with_subcommand(command, factors_command(alloc, places)?)?;
-    let command = with_subcommand(command, migrate_command(alloc)?)?;
-    with_subcommand(command, make_command(alloc, sizes)?)
+    let command = with_subcommand(bare_command(alloc), pool_command(alloc))?;
+    let command = with_subcommand(command, clear_command(alloc, ratings, places))?;
+    let command = with_subcommand(command, replay_command(alloc, ratings, places))?;
+    let command = with_subcommand(command, verify_command(alloc, ratings, places))?;
+    let command = with_subcommand(command, rights_command(alloc, ratings, places))?;
+    let command = with_subcommand(command, check_command(alloc, places))?;
+    let command = with_subcommand(command, factors_command(alloc, places))?;
+    let command = with_subcommand(command, migrate_command(alloc))?;
+    with_subcommand(command, make_command(alloc, sizes))
 }

@@ -10,10 +10,10 @@ pub assemble-requires : goal.assemble-requires
 assemble-requires c =
     rw (
       c.in_ok-parts.ensures,
-      c.in_ok-parts-2.ensures,
-      c.in_ok-parts-3.ensures,
-      c.in_ok-parts-4.ensures,
-      c.in_ok-parts-5.ensures,
+      c.in_ok-lines.ensures,
+      c.in_ok-outages.ensures,
+      c.in_ok-shift.ensures,
+      c.in_ok-loss.ensures,
       to_z-of_z w64 c.args.price c.ranges.price,
       to_z-of_z w64 c.args.excess c.ranges.excess,
     )
@@ -26,10 +26,10 @@ returns c =
     let named = base_is_named price excess in
     let same = rw (
       c.in_ok-parts.ensures,
-      c.in_ok-parts-2.ensures,
-      c.in_ok-parts-3.ensures,
-      c.in_ok-parts-4.ensures,
-      c.in_ok-parts-5.ensures,
+      c.in_ok-lines.ensures,
+      c.in_ok-outages.ensures,
+      c.in_ok-shift.ensures,
+      c.in_ok-loss.ensures,
       to_z-of_z w64 price c.ranges.price,
       to_z-of_z w64 excess c.ranges.excess,
     ) at c.assemble.ensures in

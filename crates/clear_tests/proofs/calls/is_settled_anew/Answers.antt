@@ -1,11 +1,5 @@
 use Rattle.std.proofs.Common.{arith, ap, length}
-use Rattle.clear_tests.proofs.calls.is_priced_and_settled.Goals as goal
-
-pub prices-requires-clause-duals : goal.prices-requires-clause-duals
-prices-requires-clause-duals g c = c.requires.right.proper
-
-pub prices-requires-clause-out : goal.prices-requires-clause-out
-prices-requires-clause-out g c = omega (arith, c.deref_mut.ensures.len, c.in_ok-out.ensures.len, c.len.ensures, ap length c.buses.ensures.list)
+use Rattle.clear_tests.proofs.calls.is_settled_anew.Goals as goal
 
 pub settle-requires-clause-dispatch : goal.settle-requires-clause-dispatch
 settle-requires-clause-dispatch g c = omega (arith, ap length c.slice-dispatch.ensures, c.requires.fits.dispatch)
