@@ -196,7 +196,7 @@ pub(crate) fn needing(alloc: Global, need: i64) -> Result<Market, Memory>
     assemble(alloc, parts)
 }
 
-/// Whether a number is so many of the parts of one.
+/// Whether a number is the wanted one over so many parts.
 pub(crate) fn is<N: Exact>(number: N, wanted: i32, parts: u64) -> bool
     requires { (0 < parts) × (parts < 2 ^ 63) }
 {
