@@ -3,9 +3,9 @@ use Rattle.std.specs.Prelude.{◌≡◌, ◌⊎◌, ℕ, ℤ, ◌+◌, ◌-◌, 
 use Rattle.std.specs.List.{slice_get}
 use Rattle.std.specs.Ordering.{MatchOrdering}
 use Rattle.std.proofs.Common.{zero, suc, arith, inl, inr, ap, sym, subst, ◌∙◌, get_or, drop, take, Ordering, Less, Equal, Greater}
-use Rattle.std.proofs.lemmas.List.{length-append, get_or_append_left, get_or-append_right, get_or-drop, drop-map, take-map, take_rest}
+use Rattle.std.proofs.lemmas.List.{length-append, drop_at, drop-map, take-map, take_rest}
 use Rattle.std.proofs.Math.Seq.{take-append_seam}
-use Rattle.std.proofs.lemmas.List.FromFn.{length-map-range_with_len, get_or-map-range_with_len}
+use Rattle.std.proofs.lemmas.List.FromFn.{length-map-range_with_len}
 use Rattle.std.proofs.lemmas.List.Elements.{All-append, All-cons, All-nil}
 use Rattle.std.proofs.lemmas.Option.{slice_get_within, get_or_from_slice_get}
 use Rattle.fraction_theory.specs.Fraction.{Fraction, whole, neg_ℚ, ◌+ℚ◌, ◌-ℚ◌}
@@ -25,10 +25,10 @@ use Rattle.market_model.specs.Overrun.{IsBeyond, IsFirstMost, Keeps, Within, ove
 use Rattle.market_model.specs.declared.limits.Row.{Row}
 use Rattle.market_model.specs.LimitRows.{Carried, carried, flow_by, flow_terms, limit, line_flow, line_flows, lost_output, lost_outputs, most_excess, most_flow, rows}
 use Rattle.market_model.specs.NamedSums.{IsRefusedIn}
-use Rattle.market_model.specs.PutIn.{carried_in, put_in}
+use Rattle.market_model.specs.PutIn.{AreCarried, carried_in}
 use Rattle.market_model.specs.SumTables.{IsFlowRefusal, flow_of_row}
 use Rattle.market_model.proofs.LinePenalties.{penalties}
-use Rattle.limit_rows.proofs.FlowSteps.{flow_terms-same}
+use Rattle.limit_rows.proofs.FlowSteps.{row_terms_are}
 use Rattle.market_model.proofs.RowMembers.{at_places}
 use Rattle.limit_screen.specs.declared.screening.RowOverrun.{RowOverrun}
 use Rattle.market_model.specs.Market.{IsMarket}
@@ -184,46 +184,22 @@ module _ (m : Parts) (x : Dispatch) (fs : List Fraction) (puts : fs ≡ flows_at
   buses_count : length bus_part ≡ length m.buses
   buses_count = length-map-range_with_len (injection m x) 0 (length m.buses)
 
-  lines_count : length (line_flows m x) ≡ length m.lines
-  lines_count = length-map-range_with_len (line_flow m (injection m x)) 0 (length m.lines)
-
-  behind_buses : (place there : ℕ) → there ≡ length m.buses + place → get_or fs there (whole (pos 0)) ≡ get_or (line_flows m x ++ lost_outputs m x) place (whole (pos 0))
-  behind_buses place there e =
-      let past : length m.buses ≤ there = Prim.omega (arith, e) in
-      let left : there - length m.buses ≡ place = Prim.omega (arith, e) in
-      ap (λ (ys : List Fraction). get_or ys there (whole (pos 0))) puts
-      ∙ get_or-append_right bus_part (line_flows m x ++ lost_outputs m x) (length m.buses) there (whole (pos 0)) buses_count past
-      ∙ ap (λ (i : ℕ). get_or (line_flows m x ++ lost_outputs m x) i (whole (pos 0))) left
-
-  line_at_place : (l : ℕ) → l < length m.lines → (carried_at m fs).line l ≡ line_flow m (injection m x) l
-  line_at_place l h =
-      let from_0 : 0 + l ≡ l = Prim.omega arith in
-      behind_buses l (length m.buses + l) refl
-      ∙ get_or_append_left (line_flows m x) (lost_outputs m x) (whole (pos 0)) l (Prim.omega (arith, h, lines_count))
-      ∙ get_or-map-range_with_len (line_flow m (injection m x)) 0 (length m.lines) l l (whole (pos 0)) h from_0
-
-  lost_at_place : (k : ℕ) → k < length m.unit_outages → (carried_at m fs).lost k ≡ lost_output m x k
-  lost_at_place k h =
-      let past : length m.lines ≤ length m.lines + k = Prim.omega arith in
-      let left : (length m.lines + k) - length m.lines ≡ k = Prim.omega arith in
-      let from_0 : 0 + k ≡ k = Prim.omega arith in
-      behind_buses (length m.lines + k) (length m.buses + length m.lines + k) (Prim.omega arith)
-      ∙ get_or-append_right (line_flows m x) (lost_outputs m x) (length m.lines) (length m.lines + k) (whole (pos 0)) lines_count past
-      ∙ ap (λ (i : ℕ). get_or (lost_outputs m x) i (whole (pos 0))) left
-      ∙ get_or-map-range_with_len (lost_output m x) 0 (length m.unit_outages) k k (whole (pos 0)) h from_0
+  carried_there : AreCarried m x (drop (length m.buses) fs)
+  carried_there = ap (λ (ys : List Fraction). drop (length m.buses) ys) puts ∙ drop_at bus_part (line_flows m x ++ lost_outputs m x) (length m.buses) buses_count
 
   pub flow_count : length fs ≡ length m.buses + length m.lines + length m.unit_outages
   flow_count =
+      let lines : length (line_flows m x) ≡ length m.lines = length-map-range_with_len (line_flow m (injection m x)) 0 (length m.lines) in
       let lost : length (lost_outputs m x) ≡ length m.unit_outages = length-map-range_with_len (lost_output m x) 0 (length m.unit_outages) in
       let all : length fs ≡ length bus_part + (length (line_flows m x) + length (lost_outputs m x)) =
       ap length puts ∙ length-append bus_part (line_flows m x ++ lost_outputs m x) ∙ ap (λ (n : ℕ). length bus_part + n) (length-append (line_flows m x) (lost_outputs m x)) in
-      Prim.omega (arith, all, buses_count, lines_count, lost)
+      Prim.omega (arith, all, buses_count, lines, lost)
 
   -- the terms of a row's flow
   pub row_terms : (r : Row) → IsMarket m → Contains (rows m) r → flow_terms m (carried_at m fs) r ≡ flow_terms m (carried m x) r
   row_terms r market c =
       let places = at_places m market r c in
-      flow_terms-same m (carried_at m fs) (carried m x) line_at_place lost_at_place r places.0 places.1
+      row_terms_are m x (drop (length m.buses) fs) carried_there r places.0 places.1
 
 pub law_of_row_flows : LawOfRowFlows
 law_of_row_flows m x fs r market puts c = ap total (row_terms m x fs puts r market c)
@@ -237,17 +213,7 @@ buses_before value m x fs n count puts =
 
 -- and what is carried
 pub carried_behind : {N : Type 0} (value : N → Fraction) (m : Parts) (fs : List N) (n : ℕ) → n ≡ length m.buses → carried_in m (map value (take (length fs - n) (drop n fs))) ≡ carried_at m (map value fs)
-carried_behind {N} value m fs n count i = record {
-  line = λ l. at_place l (length m.buses + l) refl i;
-  lost = λ k. at_place (length m.lines + k) (length m.buses + length m.lines + k) (Prim.omega arith) i;
-}
-  where
-    at_place : (place there : ℕ) → there ≡ length m.buses + place → put_in (map value (take (length fs - n) (drop n fs))) place ≡ get_or (map value fs) there (whole (pos 0))
-    at_place place there e =
-        let behind : n + place ≡ there = Prim.omega (arith, count, e) in
-        ap (λ (ys : List N). put_in (map value ys) place) (take_rest fs n)
-        ∙ ap (λ ys. get_or ys place (whole (pos 0))) (sym (drop-map value n fs)) ∙ get_or-drop n (map value fs) place (whole (pos 0))
-        ∙ ap (λ (k : ℕ). get_or (map value fs) k (whole (pos 0))) behind
+carried_behind value m fs n count = ap (λ (ys : List Fraction). carried_in m ys) (ap (map value) (take_rest fs n) ∙ sym (drop-map value n fs) ∙ ap (λ (k : ℕ). drop k (map value fs)) count)
 
 -- where the flow of a row is refused
 pub flow_refusal_same : (m : Parts) (a b : Carried) (r : Row) (bound : ℕ) (p : Passed Fraction) → flow_terms m a r ≡ flow_terms m b r → IsFlowRefusal m a r bound p → IsFlowRefusal m b r bound p
