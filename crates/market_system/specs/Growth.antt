@@ -30,14 +30,10 @@ abbrev pub GrowsBy : Parts → List Row → List Row → Type 0
 GrowsBy m old [] = Unit {0}
 GrowsBy m old (r ∷ more) = ((x : Dispatch) × IsBestOver m old x × Broken m x r) × Contains (rows m) r × (¬ (Contains old r)) × GrowsBy m (old ++ r ∷ []) more
 
--- the old rows, with more behind them
+-- the old rows, with more behind them: rows that a clear may stand on, after the old ones were taken before it
 abbrev pub Growth : Parts → List Row → List Row → Type 0
 Growth m old new = (more : List Row) × (new ≡ old ++ more) × GrowsBy m old more
 
 -- rows that were not taken have no price in these duals
 abbrev pub PricesOnly : Parts → List Row → Duals Fraction → Type 0
 PricesOnly m taken d = (r : Row) → Contains (rows m) r → ¬ (Contains taken r) → (up_of m d r ≡ zero) × (down_of m d r ≡ zero)
-
--- the rows that a clear may stand on, after those taken before it
-abbrev pub Reached : Parts → List Row → List Row → Type 0
-Reached m taken g = Growth m taken g
