@@ -1,5 +1,5 @@
 -- The bound of duals added up: limit by limit, room by room, block by block and offer by offer.
-use Rattle.std.specs.Prelude.{◌≡◌, ◌⊎◌, ℕ, ◌+◌, ◌<◌, ◌≤◌, pos, Bool, true, false, cond, List, [], ◌∷◌, ◌++◌, map, filter, length, take, Contains, if◌then◌else◌, refl}
+use Rattle.std.specs.Prelude.{◌≡◌, ◌⊎◌, ℕ, ◌+◌, ◌<◌, ◌≤◌, pos, Bool, true, false, cond, List, [], ◌∷◌, ◌++◌, map, filter, length, take, Contains, refl, if◌then◌else◌}
 use Rattle.std.specs.List.{flat_map}
 use Rattle.std.proofs.Common.{zero as none, suc, inl, inr, arith, ap, ap₂, sym, subst, subst₂, ◌∙◌, append_assoc, get_or}
 use Rattle.std.proofs.lemmas.List.{take_all}
@@ -23,10 +23,9 @@ use Rattle.market_model.specs.Infeasibility.{block_most, block_weight, energy_le
 use Rattle.market_model.specs.LimitRows.{factor_terms, flow, loses_unit, most_flow, row_id, row_pickup, rows}
 use Rattle.market_model.specs.Market.{IsMarket}
 use Rattle.market_model.specs.NamedSums.{IsRefusal, IsRefusedIn, IsShareRefusal}
-use Rattle.market_model.specs.Optimality.{bus_price, down_of, named_rows, names_row, net_shadow_price, own_price, own_terms, reserve_worth_terms, room_price, room_price_in, unit_price, up_of, worth_terms}
+use Rattle.market_model.specs.Optimality.{bus_price, down_of, named_rows, names_row, net_shadow_price, own_price, own_terms, reserve_worth_terms, room_price, room_price_in, unit_price, up_of, worth_terms, ArePricesOf}
 use Rattle.market_model.specs.Reserves.{offer_places, offers_reserve, reserve_need, reserve_units, room}
 use Rattle.market_model.specs.SumTables.{IsPickupRefusal, IsRefusedAmong, IsRefusedInBusPrices, IsRefusedInPrices, OwnPriceSum, energy_of_unit, factor_at_bus, factor_of_pickup, farkas_bound_of_all, flow_in_limits, limited_row, own_price_of_unit, price_of_bus, price_of_unit, reserve_of_unit}
-use Rattle.settlement.specs.Paying.{ArePricesOf}
 use Rattle.market_model.proofs.FarkasLaw.{total-flat_map}
 use Rattle.market_model.proofs.FarkasParts.{farkas_terms-parts, need_refused as need_refused_in_terms}
 use Rattle.market_model.proofs.MorePlaces.{sum_by_more, total-filter_more, total-places_more}

@@ -16,7 +16,7 @@ use Rattle.market_model.specs.Market.{IsMarket}
 use Rattle.market_model.specs.NamedSums.{IsRefusedIn}
 use Rattle.market_model.proofs.SumParts.{flow_carried}
 use Rattle.market_model.specs.SumTables.{IsFlowRefusal, IsRefusedAmong, factor_of_pickup, flow_of_row, limited_row, FlowSum, flow_in_limits, PriceSum, reserve_in_room, RoomSum, IsRefusedInPrices, left_of_all, paid_by_load, paid_for_reserve, paid_to_unit, rent_of_row, SettledSum, own_price_of_unit, paid_output, paid_price, demand_of_bus, payment, paid_row}
-use Rattle.market_model.specs.Optimality.{names_row, Feasible, Supports, ProperDuals, bus_price, own_terms, welfare_terms}
+use Rattle.market_model.specs.Optimality.{names_row, Feasible, Supports, ProperDuals, bus_price, own_terms, welfare_terms, ArePricesOf}
 use Rattle.market_model.specs.Settlement.{load_terms, rent_terms, reserve_term, surplus_terms, unit_terms}
 use Rattle.market_system.specs.Growth.{BestFor, PricesOnly}
 use Rattle.market_system.specs.MarketNumbers.{IsRightChoice, IsInjecting, factor_of, of_flow, of_price, of_reserve, of_welfare, of_settlement}
@@ -33,7 +33,6 @@ use Rattle.limit_screen.proofs.ScreenLemmas.{flow_refusal_same, row_terms}
 use Rattle.limit_screen.specs.Flows.{carried_at, flows_at, IsFlowsRefusal}
 use Rattle.limit_screen.specs.Screening.{IsScreenRefusal}
 use Rattle.market_model.proofs.UnitPrices.{at_unit, left_at, own_at}
-use Rattle.settlement.specs.Paying.{ArePricesOf}
 use Rattle.settlement.specs.Refusals.{IsMoneyRefusal, IsWelfareRefusal}
 use Rattle.market_dict.specs.Findings.{IsSolvedBy}
 use Rattle.market_dict.specs.Takings.{limits_of, taken_of}

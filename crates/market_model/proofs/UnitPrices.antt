@@ -8,11 +8,11 @@ use Rattle.market_model.specs.declared.participants.Parts.{Parts}
 use Rattle.market_model.specs.Dispatch.{Dispatch, unit_at, output, demand}
 use Rattle.market_model.specs.LimitRows.{loses_unit, row_pickup, rows}
 use Rattle.market_model.specs.Market.{IsMarket}
-use Rattle.market_model.specs.Optimality.{bus_price, net_shadow_price, own_price, own_terms}
+use Rattle.market_model.specs.Optimality.{bus_price, net_shadow_price, own_price, own_terms, ArePricesOf}
 use Rattle.market_model.specs.Settlement.{surplus_terms_by, surplus_terms}
 use Rattle.market_model.proofs.PlaceLists.{map_same}
 
-module _ (m : Parts) (d : Duals Fraction) (price : ℕ → Fraction) (market : IsMarket m) (priced : (i : ℕ) → i < length m.buses → price i ≡ bus_price m d i) where
+module _ (m : Parts) (d : Duals Fraction) (price : ℕ → Fraction) (market : IsMarket m) (priced : ArePricesOf m d price) where
   -- the terms of a unit's own price are those of the duals
   pub own_at : (u : ℕ) → u < length m.units → own_terms m d price u ≡ own_terms m d (bus_price m d) u
   own_at u lt =

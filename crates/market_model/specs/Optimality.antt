@@ -162,6 +162,10 @@ congestion m d i = congestion_by m d (λ r. row_factor m r i)
 abbrev pub bus_price : Parts → Duals Fraction → ℕ → Fraction
 bus_price m d i = price_by m d (λ r. row_factor m r i)
 
+-- prices by bus that are those of duals
+abbrev pub ArePricesOf : Parts → Duals Fraction → (ℕ → Fraction) → Type 0
+ArePricesOf m d price = (i : ℕ) → i < length m.buses → price i ≡ bus_price m d i
+
 -- its two parts
 abbrev pub price_terms : Parts → Duals Fraction → ℕ → List Term
 price_terms m d i = Plain d.energy ∷ Plain (congestion m d i) ∷ []

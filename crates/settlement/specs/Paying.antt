@@ -1,6 +1,6 @@
 -- What units are paid, loads pay and limits earn at prices for the buses.
 -- Schweppe and others, Spot Pricing of Electricity: the merchandising surplus.
-use Rattle.std.specs.Prelude.{◌≡◌, ℕ, ◌<◌, List, ◌++◌, length, map}
+use Rattle.std.specs.Prelude.{ℕ, List, ◌++◌, map}
 use Rattle.fraction_theory.specs.Fraction.{Fraction, neg_ℚ}
 use Rattle.fraction_theory.specs.Sums.{Term, Plain}
 use Rattle.market_model.specs.declared.answered.Duals.{Duals}
@@ -8,11 +8,7 @@ use Rattle.market_model.specs.declared.answered.Load.{Load}
 use Rattle.market_model.specs.declared.answered.UnitPay.{UnitPay}
 use Rattle.market_model.specs.declared.participants.Parts.{Parts}
 use Rattle.market_model.specs.Dispatch.{Dispatch}
-use Rattle.market_model.specs.Optimality.{Feasible, Supports, bus_price}
-
--- the prices are those of the duals
-abbrev pub ArePricesOf : Parts → Duals Fraction → (ℕ → Fraction) → Type 0
-ArePricesOf m d price = (i : ℕ) → i < length m.buses → price i ≡ bus_price m d i
+use Rattle.market_model.specs.Optimality.{Feasible, Supports, ArePricesOf}
 
 -- the prices are those of duals that support the dispatch, which is feasible
 pub record IsSupportedAt (m : Parts) (x : Dispatch) (price : ℕ → Fraction) (d : Duals Fraction) : Type 0 where

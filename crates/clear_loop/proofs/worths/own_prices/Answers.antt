@@ -1,11 +1,10 @@
 use Rattle.std.proofs.Common.{◌∙◌, ap, length, subst, sym}
 use Rattle.std.proofs.lemmas.Result.{IfOk-weaker, IfErr-weaker}
 use Rattle.std.specs.Prelude.{List}
-use Rattle.market_model.specs.Optimality.{own_price, unit_price}
+use Rattle.market_model.specs.Optimality.{own_price, unit_price, ArePricesOf}
 use Rattle.market_model.specs.Valued.{duals_at, passed_at, total_at}
 use Rattle.market_model.proofs.PlaceLists.{map_same}
 use Rattle.market_model.proofs.StopLemmas.{on_passed_weaker}
-use Rattle.settlement.specs.Paying.{ArePricesOf}
 use Rattle.clear_loop.proofs.AnswerLemmas.{price_count, prices_of}
 use Rattle.clear_loop.proofs.FarkasSums.{own_refused, own_same}
 use Rattle.clear_loop.proofs.worths.own_prices.Goals as goal
