@@ -15,7 +15,7 @@ use Rattle.fraction_theory.specs.Sums.{total}
 use Rattle.fraction_theory.specs.declared.Sign.{Sign}
 use Rattle.fraction_theory.specs.declared.Sign.TheVariants.{Below, Zero, Above}
 use Rattle.fraction_theory.proofs.FieldLaws.{+ℚ_neg}
-use Rattle.fraction_theory.proofs.OrderLaws.{NonNeg-one, by_le1, not-≤ℚ, <ℚ-not-≤ℚ, ≤ℚ_refl, ≤ℚ_trans, <ℚ-≤ℚ, ≤ℚ_of_same, ≤ℚ-<ℚ_trans, +ℚ-≤ℚ, +ℚ-<ℚ, whole-≤ℚ}
+use Rattle.fraction_theory.proofs.OrderLaws.{NonNeg-one, by_le1, not-≤ℚ, <ℚ-not-≤ℚ, ≤ℚ_refl, ≤ℚ_trans, <ℚ-≤ℚ, ≤ℚ_of_same, ≤ℚ-<ℚ_trans, +ℚ-≤ℚ, +ℚ-<ℚ}
 use Rattle.fraction_theory.proofs.Ring.{at, padd, pneg, pnil, pone}
 use Rattle.fraction_theory.proofs.SignLaws.{IsSign, abs_within, sign_of_is}
 use Rattle.exact_fraction.specs.declared.Passed.{Passed}
@@ -27,11 +27,11 @@ use Rattle.market_model.specs.LimitRows.{Carried, carried, flow_by, flow_terms, 
 use Rattle.market_model.specs.NamedSums.{IsRefusedIn}
 use Rattle.market_model.specs.PutIn.{AreCarried, carried_in}
 use Rattle.market_model.specs.SumTables.{IsFlowRefusal, flow_of_row}
-use Rattle.market_model.proofs.LinePenalties.{penalties}
 use Rattle.limit_rows.proofs.FlowSteps.{row_terms_are}
 use Rattle.market_model.proofs.RowMembers.{at_places}
 use Rattle.limit_screen.specs.declared.screening.RowOverrun.{RowOverrun}
 use Rattle.market_model.specs.Market.{IsMarket}
+use Rattle.market_model.proofs.Excesses.{within_most}
 use Rattle.limit_screen.specs.Bounds.{IsLeastOf}
 use Rattle.limit_screen.specs.Flows.{carried_at, flows_at, LawOfRowFlows}
 use Rattle.limit_screen.specs.Screening.{AllKeep, IsWorstOf}
@@ -124,49 +124,36 @@ size_kept most f h = let both = within_size f most (sign_of f) refl h in record 
 pub not_passed : (most f : Fraction) → Within most f → ¬ (most <ℚ abs_ℚ f)
 not_passed most f within h = <ℚ-not-≤ℚ most (abs_ℚ f) h (abs_within f most within.above within.below)
 
--- the excess is at least 0
-more_kept : (F e : Fraction) → whole (pos 0) ≤ℚ e → F ≤ℚ (F +ℚ e)
-more_kept F e h = by_le1 (F ∷ e ∷ []) (at 0) (padd (at 0) (at 1)) pone pnil (at 1) NonNeg-one h refl
-
-pub limit_most : (m : Parts) → IsMarket m → (r : Row) → limit m r ≤ℚ most_flow m r
-limit_most m market r = more_kept (limit m r) (most_excess m r) (whole-≤ℚ (pos 0) _ (penalties m market r).exceeds)
-
 -- where some rows are taken, a flow f of a row
 module _ (m : Parts) (taken : List Row) (r : Row) (f : Fraction) where
-  pub keeps_not_beyond : Keeps m taken r f → ¬ (IsBeyond m taken r f)
-  keeps_not_beyond keeps beyond =
-      let new : ¬ (Contains taken r) = λ c. not_passed (most_flow m r) f (keeps.most c) (beyond.most c) in
-      not_passed (limit m r) f (keeps.limit new) (beyond.limit new)
-
   -- it doesn't pass its limit
   pub keeps_limit : IsMarket m → overrun m r f ≤ℚ whole (pos 0) → Keeps m taken r f
   keeps_limit market h =
-      let size : abs_ℚ f ≤ℚ limit m r = from_below (abs_ℚ f) (limit m r) h in
-      record {
-        limit = λ _. size_kept (limit m r) f size;
-        most = λ _. size_kept (most_flow m r) f (≤ℚ_trans (abs_ℚ f) (limit m r) (most_flow m r) size (limit_most m market r));
-      }
+      let within : Within (limit m r) f = size_kept (limit m r) f (from_below (abs_ℚ f) (limit m r) h) in
+      record { limit = λ _. within; most = λ _. within_most m market r f within }
 
   -- it passes that, by no more than its excess or by more
   pub keeps_most : Contains taken r → overrun m r f ≤ℚ most_excess m r → Keeps m taken r f
   keeps_most c h = record { limit = λ new. absurd (new c); most = λ _. size_kept (most_flow m r) f (most_kept (abs_ℚ f) (limit m r) (most_excess m r) h) }
 
   pub beyond_limit : ¬ (Contains taken r) → whole (pos 0) <ℚ overrun m r f → IsBeyond m taken r f
-  beyond_limit new h = record { limit = λ _. limit_passed (abs_ℚ f) (limit m r) h; most = λ c. absurd (new c) }
+  beyond_limit new h = λ keeps. not_passed (limit m r) f (keeps.limit new) (limit_passed (abs_ℚ f) (limit m r) h)
 
   pub beyond_most : whole (pos 0) <ℚ overrun m r f → most_excess m r <ℚ overrun m r f → IsBeyond m taken r f
-  beyond_most h more = record { limit = λ _. limit_passed (abs_ℚ f) (limit m r) h; most = λ _. most_passed (abs_ℚ f) (limit m r) (most_excess m r) more }
+  beyond_most h more = λ keeps.
+      let new : ¬ (Contains taken r) = λ c. not_passed (most_flow m r) f (keeps.most c) (most_passed (abs_ℚ f) (limit m r) (most_excess m r) more) in
+      beyond_limit new h keeps
 
 -- ---- the worst of some rows, with one more
 module _ {N : Type 0} (value : N → Fraction) (m : Parts) (taken : List Row) (f : Row → Fraction) (rs : List Row) (r : Row) where
   pub worse_than_kept : All (λ s. Keeps m taken s (f s)) rs → All (λ s. IsBeyond m taken s (f s) → overrun m s (f s) <ℚ overrun m r (f r)) rs
-  worse_than_kept all k d lt beyond = let s : Row = get_or rs k d in absurd (keeps_not_beyond m taken s (f s) (all k d lt) beyond)
+  worse_than_kept all k d lt beyond = absurd (beyond (all k d lt))
 
   -- one that keeps what it may be changes nothing
   pub kept : (worst : Option (RowOverrun N)) → IsWorstOf value m taken f rs worst → Keeps m taken r (f r) → IsWorstOf value m taken f (rs ++ r ∷ []) worst
   kept None before keeps = All-append (λ s. Keeps m taken s (f s)) rs (r ∷ []) before (All-one (λ s. Keeps m taken s (f s)) r keeps)
   kept (Some b) ((place, worst), is, low) keeps =
-      ((place, old_worst (λ s. IsBeyond m taken s (f s)) (λ s. overrun m s (f s)) rs r place b.row worst (λ beyond. absurd (keeps_not_beyond m taken r (f r) keeps beyond))), is, low)
+      ((place, old_worst (λ s. IsBeyond m taken s (f s)) (λ s. overrun m s (f s)) rs r place b.row worst (λ beyond. absurd (beyond keeps))), is, low)
 
   -- one whose overrun is not above a number that is not above that of the worst changes nothing
   pub no_worse : (worst : Option (RowOverrun N)) (most : ℤ) → IsMarket m → IsLeastOf worst most → IsWorstOf value m taken f rs worst → overrun m r (f r) ≤ℚ whole most → IsWorstOf value m taken f (rs ++ r ∷ []) worst

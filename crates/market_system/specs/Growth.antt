@@ -1,20 +1,21 @@
 -- Which limit rows a clear may have taken: rows are taken one by one, each because a best dispatch of the rows before it
 -- breaks it.
 -- Source: own; the method is that of taking violated limits alone (Wood and Wollenberg, security-constrained dispatch).
-use Rattle.std.specs.Prelude.{◌≡◌, ℕ, List, [], ◌∷◌, ◌++◌, ◌⊎◌}
+use Rattle.std.specs.Prelude.{◌≡◌, ℕ, List, [], ◌∷◌, ◌++◌}
 use Rattle.std.specs.List.{Contains}
-use Rattle.fraction_theory.specs.Fraction.{Fraction, neg_ℚ}
-use Rattle.fraction_theory.specs.Order.{◌≤ℚ◌, ◌<ℚ◌}
+use Rattle.fraction_theory.specs.Fraction.{Fraction}
+use Rattle.fraction_theory.specs.Order.{◌≤ℚ◌}
 use Rattle.market_model.specs.declared.answered.Duals.{Duals}
 use Rattle.market_model.specs.declared.participants.Parts.{Parts}
 use Rattle.market_model.specs.Dispatch.{Dispatch, zero}
 use Rattle.market_model.specs.Optimality.{Taken, FeasibleFor, welfare_for, up_of, down_of}
 use Rattle.market_model.specs.declared.limits.Row.{Row}
 use Rattle.market_model.specs.LimitRows.{rows, flow, limit}
+use Rattle.market_model.specs.Overrun.{Within}
 
 -- the flow passes the limit on one side
 abbrev pub Broken : Parts → Dispatch → Row → Type 0
-Broken m x r = (limit m r <ℚ flow m x r) ⊎ (flow m x r <ℚ neg_ℚ (limit m r))
+Broken m x r = ¬ (Within (limit m r) (flow m x r))
 
 -- feasible for these rows and rooms, and of the greatest welfare of all dispatches that are
 pub record BestFor (m : Parts) (t : Taken) (x : Dispatch) : Type 0 where
