@@ -15,11 +15,11 @@ use Rattle.market_model.specs.declared.answered.Price.{Price}
 use Rattle.market_model.specs.declared.participants.Parts.{Parts}
 use Rattle.market_model.specs.declared.limits.Row.{Row}
 use Rattle.market_model.specs.Dispatch.{places}
-use Rattle.market_model.specs.LimitRows.{factor_terms, rows, row_id, row_factor}
+use Rattle.market_model.specs.LimitRows.{rows, row_id, row_factor}
 use Rattle.market_model.specs.NamedSums.{IsRefusal, IsRefusedIn, IsShareRefusal}
 use Rattle.market_model.specs.Optimality.{net_shadow_price, names_row, named_rows, congestion, congestion_terms, congestion_by, price_terms}
 use Rattle.market_model.specs.RightAnswers.{price_made, price_of_parts}
-use Rattle.market_model.specs.SumTables.{IsRefusedInBusPrices, congestion_at}
+use Rattle.market_model.specs.SumTables.{IsRefusedInBusPrices, congestion_at, BusFactorSum, IsRefusedAmong}
 use Rattle.market_model.proofs.MorePlaces.{sum_by_more}
 use Rattle.market_model.proofs.PlaceLists.{put_more, map_same}
 use Rattle.market_model.proofs.SumSteps.{plus_at, share_at}
@@ -120,9 +120,9 @@ module _ (m : Parts) (d : Duals Fraction) where
   -- what a row adds to prices is refused at a bus, or in its factor there
   pub added_refused : (k : ℕ) (e : Dual Fraction) (r s : Row) (price : Fraction) (bound : ℕ) (p : Passed Fraction) → IsRowOfDual m d k e r → price ≡ neg_ℚ (e.up -ℚ e.down) → s ≡ r
       → ((bus : ℕ) × (bus < length m.buses) × IsShareRefusal (congestion_to m d bus k) price (row_factor m s bus) bound p)
-      ⊎ ((bus : ℕ) × (bus < length m.buses) × IsRefusedIn (factor_terms m s bus) bound p) → IsRefusedInBusPrices m d bound p
+      ⊎ IsRefusedAmong (BusFactorSum m s) bound p → IsRefusedInBusPrices m d bound p
   added_refused k e r s price bound p h is same (inl (bus, inside, why)) =
       let refused = congestion_refused m d bus k e r price (row_factor m s bus) (congestion_to m d bus k) bound p h is (ap (λ (t : Row). row_factor m t bus) same) refl why in
       inl (bus, inside, (congestion_terms m d bus, congestion_at, refused))
   added_refused k e r s price bound p h is same (inr why) =
-      inr (r, (k, h.inside, sym h.at), (why.0, why.1, subst (λ (t : Row). IsRefusedIn (factor_terms m t why.0) bound p) same why.2))
+      inr (r, (k, h.inside, sym h.at), subst (λ (t : Row). IsRefusedAmong (BusFactorSum m t) bound p) same why)

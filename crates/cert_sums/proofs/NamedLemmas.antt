@@ -16,7 +16,7 @@ use Rattle.market_model.specs.declared.limits.Row.{Row}
 use Rattle.market_model.specs.LimitRows.{factor_terms, rows, row_id, row_factor}
 use Rattle.market_model.specs.NamedSums.{IsRefusal, IsRefusedIn, IsShareRefusal}
 use Rattle.market_model.specs.Optimality.{bus_price, up_of, down_of, net_shadow_price, names_row, named_rows, congestion, congestion_terms, congestion_by, price_terms}
-use Rattle.market_model.specs.SumTables.{BusPriceSum, congestion_at, factor_at_bus, IsFactorRefusal, OwnPriceSum, price_of_bus, price_of_unit}
+use Rattle.market_model.specs.SumTables.{BusPriceSum, congestion_at, factor_at_bus, IsFactorRefusal, OwnPriceSum, price_of_bus, price_of_unit, factor_of_bus}
 use Rattle.market_model.proofs.MorePlaces.{sum_by_more}
 use Rattle.market_model.proofs.SumSteps.{plus_at, refusal_same, share_at}
 use Rattle.limit_rows.proofs.DualLemmas.{up_unnamed, down_unnamed, sum_named, terms_named}
@@ -130,7 +130,7 @@ module _ (m : Parts) (d : Duals Fraction) (i : ℕ) where
 
     -- the factor of the row
     pub factor_stops : (bound : ℕ) (p : Passed Fraction) → i < length m.buses → IsRefusedIn (factor_terms m e.row i) bound p → IsCongestionRefusal m d i bound p
-    factor_stops bound p inside why = inr (inr (e.row, is_named_row m d k e h, (factor_terms m e.row i, factor_at_bus i inside, why)))
+    factor_stops bound p inside why = inr (inr (e.row, is_named_row m d k e h, (factor_terms m e.row i, factor_of_bus _ (factor_at_bus i inside), why)))
 
 -- what is refused in the congestion is in the price
 pub in_congestion : (m : Parts) (d : Duals Fraction) (i : ℕ) (bound : ℕ) (p : Passed Fraction) → IsCongestionRefusal m d i bound p → IsPriceRefusal m d (BusPriceSum m d i) bound p

@@ -20,17 +20,18 @@ use Rattle.market_model.specs.declared.limits.Row.{Row}
 use Rattle.market_model.specs.declared.participants.Parts.{Parts}
 use Rattle.market_model.specs.Dispatch.{places, zero, balance, empty, quantity, reserve_quantity, unit_at}
 use Rattle.market_model.specs.Infeasibility.{block_most, block_weight, energy_left_terms, farkas_bound, farkas_terms, limit_terms, need_terms, nothing_terms, offer_most, offer_weight, reserve_left_terms}
-use Rattle.market_model.specs.LimitRows.{factor_terms, flow, loses_unit, most_flow, row_id, row_pickup, rows}
+use Rattle.market_model.specs.LimitRows.{flow, most_flow, row_id, rows}
 use Rattle.market_model.specs.Market.{IsMarket}
 use Rattle.market_model.specs.NamedSums.{IsRefusal, IsRefusedIn, IsShareRefusal}
-use Rattle.market_model.specs.Optimality.{bus_price, down_of, named_rows, names_row, net_shadow_price, own_price, own_terms, reserve_worth_terms, room_price, room_price_in, unit_price, up_of, worth_terms, ArePricesOf}
+use Rattle.market_model.specs.Optimality.{down_of, named_rows, names_row, own_price, reserve_worth_terms, room_price, room_price_in, unit_price, up_of, worth_terms, ArePricesOf}
 use Rattle.market_model.specs.Reserves.{offer_places, offers_reserve, reserve_need, reserve_units, room}
-use Rattle.market_model.specs.SumTables.{IsPickupRefusal, IsRefusedAmong, IsRefusedInBusPrices, IsRefusedInPrices, OwnPriceSum, energy_of_unit, factor_at_bus, factor_of_pickup, farkas_bound_of_all, flow_in_limits, limited_row, own_price_of_unit, price_of_bus, price_of_unit, reserve_of_unit}
+use Rattle.market_model.specs.SumTables.{IsPickupRefusal, IsRefusedAmong, IsRefusedInBusPrices, IsRefusedInPrices, OwnPriceSum, energy_of_unit, factor_of_pickup, farkas_bound_of_all, flow_in_limits, limited_row, own_price_of_unit, price_of_bus, price_of_unit, reserve_of_unit, factor_of_bus}
 use Rattle.market_model.proofs.FarkasLaw.{total-flat_map}
 use Rattle.market_model.proofs.FarkasParts.{farkas_terms-parts, need_refused as need_refused_in_terms}
 use Rattle.market_model.proofs.MorePlaces.{sum_by_more, total-filter_more, total-places_more}
 use Rattle.market_model.proofs.RoomLemmas.{offers-listed}
 use Rattle.market_model.proofs.SumSteps.{minus_at, product_at, share_at, terms_at, tested_at, behind, in_front}
+use Rattle.market_model.proofs.UnitPrices.{at_unit, own_at}
 use Rattle.limit_rows.proofs.DualLemmas.{IsRowOfDual, sum_named}
 use Rattle.limit_rows.proofs.NamedLimits.{energy_left-by_named, limit_unnamed}
 use Rattle.clear_loop.specs.Bounding.{IsBoundRefusal, IsRowStepRefusal, IsSideRefusal, in_bound, in_factor, in_flow, in_lower, in_most, in_price, in_row_flow, in_row_most, in_upper, in_worth, of_lower, of_most, of_upper}
@@ -83,21 +84,16 @@ no_room m u x more none_ = sym (+ℚ_nil x) ∙ ap (λ (b : Bool). x +ℚ (if b 
 -- what is refused in the prices at buses is refused in prices
 pub bus_prices_refused : (m : Parts) (d : Duals Fraction) (bound : ℕ) (p : Passed Fraction) → IsRefusedInBusPrices m d bound p → IsRefusedInPrices m d bound p
 bus_prices_refused m d bound p (inl (i, lt, (terms, sum, why))) = inl (terms, price_of_bus i terms lt sum, why)
-bus_prices_refused m d bound p (inr (r, named, (i, lt, why))) = inr (r, named, (factor_terms m r i, factor_at_bus i lt, why))
+bus_prices_refused m d bound p (inr (r, named, (terms, sum, why))) = inr (r, named, (terms, factor_of_bus terms sum, why))
 
 -- own prices at the bus prices of duals
 module _ (m : Parts) (d : Duals Fraction) (price : ℕ → Fraction) (are : ArePricesOf m d price) (market : IsMarket m) where
-  terms_same : (u : ℕ) → u < length m.units → own_terms m d price u ≡ own_terms m d (bus_price m d) u
-  terms_same u lt =
-      ap (λ x. Plain x ∷ map (λ r. Product (neg_ℚ (net_shadow_price m d r)) (row_pickup m r.line r.cause)) (filter (λ r. loses_unit m u r.cause) (rows m)))
-      (are (unit_at m u).bus (market.units u (record { row = 0; bus = 0; fixed = pos 0; up = pos 0; down = pos 0 }) lt).bus)
-
   pub own_same : (u : ℕ) → u < length m.units → own_price m d price u ≡ unit_price m d u
   unfolding unit_price
-  own_same u lt = ap total (terms_same u lt)
+  own_same u lt = at_unit m d price market are u lt
 
   pub own_refused : (bound : ℕ) (p : Passed Fraction) → IsRefusedAmong (OwnPriceSum m d price) bound p ⊎ IsPickupRefusal m (named_rows m d) bound p → IsRefusedInPrices m d bound p
-  own_refused bound p (inl (_, own_price_of_unit u lt, why)) = inl (_, price_of_unit _ (own_price_of_unit u lt), subst (λ (ts : List Term). IsRefusedIn ts bound p) (terms_same u lt) why)
+  own_refused bound p (inl (_, own_price_of_unit u lt, why)) = inl (_, price_of_unit _ (own_price_of_unit u lt), subst (λ (ts : List Term). IsRefusedIn ts bound p) (own_at m d price market are u lt) why)
   own_refused bound p (inr (r, named, (terms, sum, why))) = inr (r, named, (terms, factor_of_pickup terms sum, why))
 
 module _ (m : Parts) (d : Duals Fraction) where

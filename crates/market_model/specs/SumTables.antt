@@ -71,9 +71,13 @@ pub data PickupSum (m : Parts) (r : Row) : List Term → Type 0 where
 abbrev pub IsFlowRefusal : Parts → Carried → Row → ℕ → Passed Fraction → Type 0
 IsFlowRefusal m c r bound p = IsRefusedAmong (RowFlowSum m c r) bound p ⊎ IsRefusedAmong (PickupSum m r) bound p
 
--- its factor at a bus, and its pickup factor
+-- its factor at a bus
+pub data BusFactorSum (m : Parts) (r : Row) : List Term → Type 0 where
+  factor_at_bus : (i : ℕ) → i < length m.buses → BusFactorSum m r (factor_terms m r i)
+
+-- that, and its pickup factor
 pub data FactorSum (m : Parts) (r : Row) : List Term → Type 0 where
-  factor_at_bus : (i : ℕ) → i < length m.buses → FactorSum m r (factor_terms m r i)
+  factor_of_bus : (terms : List Term) → BusFactorSum m r terms → FactorSum m r terms
   factor_of_pickup : (terms : List Term) → PickupSum m r terms → FactorSum m r terms
 
 -- an operation refused in the factor of one of these rows
@@ -82,7 +86,7 @@ IsFactorRefusal m g bound p = (r : Row) × Contains g r × IsRefusedAmong (Facto
 
 -- the same of factors at buses alone
 abbrev pub IsBusFactorRefusal : Parts → List Row → ℕ → Passed Fraction → Type 0
-IsBusFactorRefusal m g bound p = (r : Row) × Contains g r × ((i : ℕ) × (i < length m.buses) × IsRefusedIn (factor_terms m r i) bound p)
+IsBusFactorRefusal m g bound p = (r : Row) × Contains g r × IsRefusedAmong (BusFactorSum m r) bound p
 
 -- and of pickup factors alone
 abbrev pub IsPickupRefusal : Parts → List Row → ℕ → Passed Fraction → Type 0

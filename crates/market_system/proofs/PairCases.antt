@@ -8,7 +8,7 @@ use Rattle.fraction_theory.specs.Fraction.{Fraction, whole, neg_ℚ, ◌+ℚ◌,
 use Rattle.fraction_theory.specs.Sums.{Term, Plain, Product, term_value, prefix, total}
 use Rattle.fraction_theory.proofs.Ring.{by_ring, by_ring1, at, pnil, pone, pneg, ◌⊕◌, ◌⊗◌}
 use Rattle.fraction_theory.proofs.FieldLaws.{ring_ℚ}
-use Rattle.fraction_theory.specs.Signs.{sign_of, where_above, part_above}
+use Rattle.fraction_theory.specs.Signs.{sign_of, where_above}
 use Rattle.fraction_theory.specs.declared.Sign.{Sign}
 use Rattle.fraction_theory.specs.declared.Sign.TheVariants.{Below, Zero, Above}
 use Rattle.fraction_theory.proofs.SumLaws.{prefix-more, prefix-all}
@@ -40,7 +40,7 @@ use Rattle.market_model.specs.NamedSums.{SameSize, term_at, IsNextTerm, IsSumSte
 use Rattle.market_model.specs.Optimality.{Taken, net_shadow_price, up_of, down_of, bus_price, own_terms, unit_price, room_price, room_price_in, worth_terms, energy_worth, reserve_worth_terms, reserve_worth, welfare_terms}
 use Rattle.market_model.specs.Reserves.{offers_among, offers_reserve, offer_places, offers_of, reserve_need, reserve_units, reserved_term, room}
 use Rattle.market_model.specs.Infeasibility.{block_most, block_weight, offer_most, offer_weight, limit_terms, reserve_left_terms, nothing_terms, farkas_terms}
-use Rattle.market_model.specs.SumTables.{injection_at, balance_from_bus, balance_of_all, flow_of_line, flow_of_row, output_of_lost, limited_line, limited_unit, limited_row, FlowSum, flow_in_balance, flow_in_limits, offset_of_row, pickup_of_row, factor_at_bus, factor_of_pickup, output_of_unit, BusPriceSum, own_price_of_unit, PickupSum, PriceSum, price_of_bus, price_of_unit, congestion_at, price_at, ReserveSum, reserve_of_all, reserve_in_room, used_of_room, WorthSum, energy_of_unit, reserve_of_unit, farkas_bound_of_all}
+use Rattle.market_model.specs.SumTables.{injection_at, balance_from_bus, balance_of_all, flow_of_line, flow_of_row, output_of_lost, limited_line, limited_unit, limited_row, FlowSum, flow_in_balance, flow_in_limits, offset_of_row, pickup_of_row, factor_at_bus, factor_of_pickup, output_of_unit, BusPriceSum, own_price_of_unit, PickupSum, PriceSum, price_of_bus, price_of_unit, congestion_at, price_at, ReserveSum, reserve_of_all, reserve_in_room, used_of_room, WorthSum, energy_of_unit, reserve_of_unit, farkas_bound_of_all, factor_of_bus}
 use Rattle.market_model.proofs.MarketSums.{block_unit-in, unit_bus-in}
 use Rattle.market_model.proofs.ReserveSums.{offer_unit-in}
 use Rattle.market_model.proofs.RoomLemmas.{listed-inside, offers-listed}
@@ -418,7 +418,7 @@ module _ (m : Parts) (taken : List Row) (g : Taken) (reached : Growth m taken g.
     bus_prices_scaled : (i : ℕ) → i < length m.buses → (terms : List Term) → BusPriceSum m d i terms → AreScaled kind terms
     unfolding row_factor
     bus_prices_scaled i lt terms congestion_at = scaled_map kind (λ r. Product (neg_ℚ (net_shadow_price m d r)) (row_factor m r i)) (rows m)
-        (λ r c. inr (opposite_net r c, whole_sum Factor (factor_terms m r i) (factor_of r _ c (factor_at_bus i lt))))
+        (λ r c. inr (opposite_net r c, whole_sum Factor (factor_terms m r i) (factor_of r _ c (factor_of_bus _ (factor_at_bus i lt)))))
     bus_prices_scaled i lt terms price_at = (tt, (tt, tt))
 
     prices_scaled : (terms : List Term) → PriceSum m d terms → AreScaled kind terms
@@ -520,7 +520,7 @@ module _ (m : Parts) (taken : List Row) (g : Taken) (reached : Growth m taken g.
   -- ---- every named sum
   by_sum : IsMarket m → (kind : Option Kind) (terms : List Term) → NamedSum m g h kind terms → IsRefusedIn terms bound p → IsRangeOf m taken bound p
   by_sum market _ terms (offset_of r same c offset_of_row) = let s = at_places m market r c in by_steps Quantity terms (offset_of r terms c offset_of_row) (under_scaled Quantity (line_offset m) (λ l inside. is_line_offset l inside) r.line r.cause s.0 s.1)
-  by_sum market _ terms (factor_of r same c (factor_at_bus i lt)) = let s = at_places m market r c in by_steps Factor terms (factor_of r terms c (factor_at_bus i lt)) (under_scaled Factor (λ k. shift_factor m k i) (λ k inside. is_shift k i inside lt) r.line r.cause s.0 s.1)
+  by_sum market _ terms (factor_of r same c (factor_of_bus also (factor_at_bus i lt))) = let s = at_places m market r c in by_steps Factor terms (factor_of r terms c (factor_of_bus terms (factor_at_bus i lt))) (under_scaled Factor (λ k. shift_factor m k i) (λ k inside. is_shift k i inside lt) r.line r.cause s.0 s.1)
   by_sum market _ terms (factor_of r same c (factor_of_pickup also part)) = by_steps Factor terms (factor_of r terms c (factor_of_pickup terms part)) (pickup_scaled market r c terms part)
   by_sum market _ terms (of_flow x same injecting flow) = by_steps Quantity terms (of_flow x terms injecting flow) (flows_scaled market x injecting terms flow)
   by_sum market _ terms (of_reserve x same injecting part) = by_steps Quantity terms (of_reserve x terms injecting part) (reserves_scaled x terms part)
