@@ -25,7 +25,7 @@ use Rattle.market_model.specs.NamedSums.{IsRefusedIn}
 use Rattle.market_model.specs.Optimality.{bus_price}
 use Rattle.market_model.specs.Overrun.{Within}
 use Rattle.market_model.specs.PutIn.{carried_in, put_in}
-use Rattle.market_model.specs.Rights.{IsTransmissionRight, paid_to_rights, right_terms, rights_injection}
+use Rattle.market_model.specs.Rights.{IsTransmissionRight, paid_to_rights, right_terms, rights_injection, carried_for}
 use Rattle.market_model.specs.Settlement.{surplus}
 use Rattle.market_model.specs.SumTables.{IsFlowRefusal, IsRefusedAmong, LineFlowSum, flow_of_line, flow_of_row}
 use Rattle.market_model.proofs.ChangeLemmas.{same_default}
@@ -35,7 +35,7 @@ use Rattle.market_model.proofs.RowMembers.{at_places}
 use Rattle.limit_rows.proofs.FlowSteps.{flow_terms-same, line_flow-same, line_terms-same}
 use Rattle.rights_test.specs.declared.right_parts.Fit.{Fit}
 use Rattle.rights_test.specs.declared.right_parts.Fit.TheVariants.{Fits, Breaks}
-use Rattle.rights_test.specs.Fits.{carried_for, carried_list, IsFirstBroken, IsFitBy}
+use Rattle.rights_test.specs.Fits.{carried_list, IsFirstBroken, IsFitBy}
 use Rattle.rights_test.specs.RightsLaws.{LawOfTheFit, LawOfOneFit, LawOfCoveredPayments}
 
 -- ---- within a limit on both sides

@@ -5,11 +5,11 @@ ghost use Rattle.fraction_theory.specs.Fraction.{whole, ◌+ℚ◌, ◌-ℚ◌};
 ghost use Rattle.exact_fraction.specs.declared.Op.TheVariants as Op;
 ghost use Rattle.market_model.specs.Dispatch.{places, zero};
 ghost use Rattle.market_model.specs.NamedSums.{IsRefusal, IsRefusedIn};
-ghost use Rattle.market_model.specs.Rights.{IsTransmissionRight, rights_injection, rights_injection_terms};
+ghost use Rattle.market_model.specs.Rights.{IsTransmissionRight, rights_injection, rights_injection_terms, begin_terms};
 ghost use Rattle.market_model.specs.SumTables.{IsRefusedAmong};
 ghost use Rattle.market_model.specs.Valued.{passed_at};
 ghost use Rattle.fraction_theory.specs.Sums.{total};
-ghost use Rattle.rights_test.specs.Fits.{begin_terms, RightsInjectionSum};
+ghost use Rattle.rights_test.specs.Fits.{RightsInjectionSum};
 
 use exact_fraction::{Exact, Passed, exact_difference, exact_sum};
 use market_model::{TransmissionRight, datum};
