@@ -33,10 +33,9 @@ use Rattle.market_model.proofs.EnergyAlone.{no_offers}
 use Rattle.market_model.proofs.ListSteps.{map-map}
 use Rattle.market_system.specs.declared.variables.Variable.{Variable}
 use Rattle.market_system.specs.declared.variables.Variable.TheVariants.{Block, Need, Offer, Over, Under}
-use Rattle.market_system.specs.MarketSystem.{block_columns, columns, excess_columns, name, need_name, offer_columns, offer_name, system_over}
+use Rattle.market_system.specs.MarketSystem.{block_columns, columns, excess_columns, name, need_name, offer_columns, offer_name, system_over, offered_terms}
 use Rattle.market_system.proofs.RowOrder.{AreInOrder, increasing-from_pairs}
 use Rattle.market_system.proofs.VariableLaws as law
-use Rattle.market_dict.specs.Refusals.{offered_terms}
 use Rattle.market_dict.proofs.NameLists.{ascending_same}
 
 -- ---- first terms

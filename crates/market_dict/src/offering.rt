@@ -7,9 +7,8 @@ ghost use Rattle.market_model.specs.Reserves.{reserve_units};
 ghost use Rattle.market_model.specs.Valued.{passed_at};
 ghost use Rattle.market_system.specs.declared.variables.Variable.TheVariants as variable;
 ghost use Rattle.market_model.specs.Dispatch.{unit_at};
-ghost use Rattle.market_system.specs.MarketSystem.{reserve_offered, objective_price, offer_columns, low, high};
+ghost use Rattle.market_system.specs.MarketSystem.{reserve_offered, objective_price, offer_columns, low, high, offered_terms};
 ghost use Rattle.market_dict.specs.PricesAndBounds.{AreBounds};
-ghost use Rattle.market_dict.specs.Refusals.{offered_terms};
 
 use exact_fraction::{Exact, Passed, exact_sum};
 use market_model::{Market, datum, need_quantity, offer_price, offer_quantity, room_quantity};

@@ -34,13 +34,14 @@ use Rattle.market_model.proofs.MarketSums.{block_bus-in, fixed_part, injection-b
 use Rattle.market_model.proofs.PlaceSums.{gather_times, places_all}
 use Rattle.market_model.proofs.RoomLemmas.{listed-inside}
 use Rattle.market_model.proofs.RowLaws.{along, law_of_the_flows, unit_factor-parts}
+use Rattle.market_model.proofs.ReserveSums.{reserve-by_offers}
 use Rattle.market_system.specs.declared.variables.Variable.{Variable}
 use Rattle.market_system.specs.declared.variables.Variable.TheVariants.{Block, Balance, Limit, Over, Under, Offer, Need, Room}
 use Rattle.market_system.specs.MarketSystem.{balance_name, row_name, over_name, under_name, offer_name, need_name, room_name, taken_in_order, at_unit, block_sign, residual_demand, block_coefficient, least_added, most_added, most_reserve, name, variable_of, system_of, point_dispatch, IsVariableOf}
 use Rattle.market_system.specs.SolvedLaws.{AreRows, AreTaken, PointsAreDispatches}
 use Rattle.market_system.proofs.RowSums.{sum_by-in_order}
 use Rattle.market_system.proofs.SoftRows.{excess-parts, kept_between, kept_where, kept_within, most_excess_least, part_most, spread_over, spread_under, spread_within}
-use Rattle.market_system.proofs.RoomBounds.{reserve-by_offers, reserve-at_most_kept, room_used-by_columns, room_used-at_least}
+use Rattle.market_system.proofs.RoomBounds.{reserve-at_most_kept, room_used-by_columns, room_used-at_least}
 use Rattle.market_system.proofs.RowOrder.{RowsApart, AreInOrder, in_order-in, in_order-from, rooms_in_order-in, rooms_in_order-from}
 use Rattle.market_system.proofs.SystemLaws.{signed-times}
 use Rattle.market_system.proofs.VariableLaws.{row_listed, column_listed, excess_listed, balance_in as balance_among, limit_in, need_in as need_among, room_in as room_among, from_places, by_variable, variable_in, variable_at, soft, over_in, under_in, column_in, offer_in as offer_column, sum-variables, taken-in_order, is_system_over, coefficient-at, price-at, low-at, high-at, activity-balance, activity-limit, activity-need, activity-room, objective-at}

@@ -35,7 +35,7 @@ use Rattle.market_model.proofs.RoomLemmas.{listed-inside}
 use Rattle.market_model.proofs.RowLaws.{unit_price-by_factors}
 use Rattle.market_system.specs.declared.variables.Variable.TheVariants.{Block, Balance, Limit, Over, Under, Offer, Need, Room}
 use Rattle.market_system.specs.Growth.{BestFor}
-use Rattle.market_system.specs.MarketSystem.{low, balance_name, row_name, over_name, under_name, offer_name, need_name, room_name, at_row, at_unit, is_in, in_order, is_among, rooms_in_order, taken_in_order, block_sign, block_coefficient, most_reserve, reserve_offered, system_of, choice_dispatch, duals_by_cost, choice_duals}
+use Rattle.market_system.specs.MarketSystem.{low, balance_name, row_name, over_name, under_name, offer_name, need_name, room_name, at_row, at_unit, is_in, in_order, is_among, rooms_in_order, taken_in_order, block_sign, block_coefficient, system_of, choice_dispatch, duals_by_cost, choice_duals}
 use Rattle.market_system.specs.SolvedLaws.{AreTaken, SupportsFor, state_at}
 use Rattle.market_system.proofs.Clamps.{all_reach, room_low-blocks, room_low-offers, where_low, raised-low, raised-least, block_clamped-full, block_clamped-empty, offer_clamped-full, offer_clamped-empty, buys_fit}
 use Rattle.market_system.proofs.RowOrder.{RowsApart, AreInOrder, same_row-itself, same_row-not, is_in-in, is_in-from, is_among-from, in_order-in, in_order-filter, ordered-distinct}
@@ -44,6 +44,7 @@ use Rattle.market_system.proofs.MarketPoints.{point_of, point_meets, point_withi
 use Rattle.market_system.proofs.RowSums.{sum_by-alone}
 use Rattle.market_system.proofs.SoftRows.{kept_most, kept_nil, side_stands, side_unpriced}
 use Rattle.market_system.proofs.VariableLaws.{in_places, from_places, taken-in_order, is_system_over, column_in, offer_in, column_listed, excess_listed, variable_in, over_in, under_in, sum-rows, sum-variables, coefficient-at, price-at, low-at, high-at}
+use Rattle.market_system.proofs.RoomBounds.{offered-by_offers, offered_most}
 use Rattle.market_model.specs.Overrun.{Within}
 
 -- ---- differences by their sign
@@ -65,11 +66,6 @@ part_positive x l = elim (≤ℚ-or-<ℚ x nil) [
   | inl low ↦ absurd (<ℚ_irrefl nil (subst (λ y. nil <ℚ y) (part_at_most x low) l))
   | inr above ↦ above
 ]
-
--- the need's row may keep all that is offered
-pub offered_most : (m : Parts) → reserve_offered m ≤ℚ most_reserve m
-offered_most m = by_le1 (reserve_need m ∷ reserve_offered m ∷ part_above (reserve_offered m -ℚ reserve_need m) ∷ []) (at 1) (at 0 ⊕ at 2) pone (at 1 ⊕ pneg (at 0)) (at 2) NonNeg-one
-    (part_least (reserve_offered m -ℚ reserve_need m)).1 refl
 
 -- where other rows' limits are kept, duals that support a dispatch so far support it over all rows
 pub supports_by : (m : Parts) (g : List Row) (x : Dispatch) (d : Duals Fraction) → SupportsFor m g x d → ((r : Row) → Contains (rows m) r → ¬ (Contains g r) → Within (limit m r) (flow m x r)) → Supports m x d
@@ -440,7 +436,7 @@ module _ (m : Parts) (names : NamesApart m) (market : IsMarket m) (t : Taken) wh
       all_reserved : m.reserve.listed ≡ true → need_price <ℚ nil → (n : ℕ) → n < length m.reserve.offers → reserved dispatch n ≡ reserve_quantity m n
       all_reserved e l n lt =
           all_reach (reserved dispatch) (reserve_quantity m) (offer_places m) (λ i c. offer_most i (from_places (length m.reserve.offers) i c))
-          (subst (λ y. reserve_offered m ≤ℚ y)
+          (subst₂ ◌≤ℚ◌ (offered-by_offers m)
           (sym (stands_high (need_name m) (variable_in m over_all Need e) (opposite_below (reduced s h (need_name m)) l) ∙ high-at m over_all ordered Need e) ∙ sym (need_value e) ∙ reserve-by_offers m dispatch)
           (offered_most m)) n (in_places (length m.reserve.offers) n lt)
 
