@@ -19,7 +19,7 @@ use Rattle.market_model.specs.Infeasibility.{farkas_bound}
 use Rattle.market_model.specs.declared.limits.Row.{Row}
 use Rattle.market_model.specs.LimitRows.{rows, row_id, limit, flow, most_flow, penalty}
 use Rattle.market_model.specs.Optimality.{BlockSupported, Feasible, Gains, Loses, OfferSupported, RowSupported, SideSupported, Supports, same_id, names_row, up_in, down_in, up_of, down_of, price, energy_worth, reserve_worth}
-use Rattle.market_model.specs.Reserves.{offer_places, offer_price, reserve, reserve_need, reserve_units, room, room_used}
+use Rattle.market_model.specs.Reserves.{offer_places, offer_price, reserve, reserve_need, reserve_units, room, room_used, KeepRooms}
 use Rattle.limit_rows.proofs.DualLemmas.{up_unnamed, down_unnamed}
 use Rattle.limit_rows.proofs.PlaceLemmas.{same_name}
 use Rattle.cert_verify.specs.declared.verdicts.Reason.TheVariants as reason
@@ -288,10 +288,10 @@ module _ (m : Parts) (x : Dispatch) where
       of_none (λ (n : ℕ). reason.Reserve (n + 1)) (is_offer_beyond m x) (offer_places m)
       (λ n c. let w = h n (from_places (length m.reserve.offers) n c) in neither (is_below (reserved x n) zero) (is_below (reserve_quantity m n) (reserved x n)) (below_not (reserved x n) zero w.0) (below_not (reserve_quantity m n) (reserved x n) w.1))
 
-  filled_to : room_reason m x ≡ None → (u : ℕ) → Contains (reserve_units m) u → room_used m x u ≤ℚ room m u
+  filled_to : room_reason m x ≡ None → KeepRooms m (reserve_units m) x
   filled_to h u c = not_below (room m u) (room_used m x u) (none_of (λ (u : ℕ). reason.Room (unit_at m u).row) (is_overfull m x) (reserve_units m) h u c)
 
-  filled_from : ((u : ℕ) → Contains (reserve_units m) u → room_used m x u ≤ℚ room m u) → room_reason m x ≡ None
+  filled_from : KeepRooms m (reserve_units m) x → room_reason m x ≡ None
   filled_from h = of_none (λ (u : ℕ). reason.Room (unit_at m u).row) (is_overfull m x) (reserve_units m) (λ u c. below_not (room m u) (room_used m x u) (h u c))
 
   met_to : need_reason m x ≡ None → reserve_need m ≤ℚ reserve m x

@@ -5,7 +5,7 @@ use Rattle.fraction_theory.specs.Fraction.{Fraction, ◌-ℚ◌}
 use Rattle.fraction_theory.specs.Order.{◌<ℚ◌, ◌≤ℚ◌}
 use Rattle.market_model.specs.declared.participants.Parts.{Parts}
 use Rattle.market_model.specs.Dispatch.{Dispatch, unit_at}
-use Rattle.market_model.specs.Reserves.{reserve_units, room, room_used}
+use Rattle.market_model.specs.Reserves.{reserve_units, room, room_used, KeepRooms}
 use Rattle.limit_screen.specs.declared.sharing.RoomOverrun.{RoomOverrun}
 
 -- by how much a unit uses more than its room; at most 0 where it keeps that
@@ -14,7 +14,7 @@ room_overrun m x u = room_used m x u -ℚ room m u
 
 -- all units that offer reserve keep their rooms
 abbrev pub AllKeepRooms : Parts → Dispatch → Type 0
-AllKeepRooms m x = (u : ℕ) → Contains (reserve_units m) u → room_used m x u ≤ℚ room m u
+AllKeepRooms m x = KeepRooms m (reserve_units m) x
 
 -- of the units before a place that offer reserve, one passes its room, none passes its own by more, and none before it by as much
 pub record IsWorstRoomBefore (m : Parts) (x : Dispatch) (place u : ℕ) : Type 0 where

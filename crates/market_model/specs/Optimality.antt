@@ -18,7 +18,7 @@ use Rattle.market_model.specs.Dispatch.{Dispatch, IsDispatch, zero, places, bloc
 use Rattle.market_model.specs.declared.limits.Row.{Row}
 use Rattle.market_model.specs.LimitRows.{rows, row_id, limit, loses_unit, most_flow, penalty, is_soft, row_factor, row_pickup, flow}
 use Rattle.market_model.specs.Overrun.{excess, Within}
-use Rattle.market_model.specs.Reserves.{offers_reserve, reserve, reserve_cost_terms, reserve_need, offer_price, reserve_units, room, room_used}
+use Rattle.market_model.specs.Reserves.{offers_reserve, reserve, reserve_cost_terms, reserve_need, offer_price, reserve_units, room, room_used, KeepRooms}
 
 -- the flow f of each of these rows is at most so much on either side
 abbrev pub AreWithin : List Row → (Row → Fraction) → (Row → Fraction) → Type 0
@@ -43,7 +43,7 @@ pub record FeasibleFor (m : Parts) (t : Taken) (x : Dispatch) : Type 0 where
   pub balanced : balance m x ≡ zero
   pub limits : AreWithin t.limits (most_flow m) (flow m x)
   pub need : reserve_need m ≤ℚ reserve m x
-  pub rooms : (u : ℕ) → Contains t.rooms u → room_used m x u ≤ℚ room m u
+  pub rooms : KeepRooms m t.rooms x
 
 -- within all limits and rooms
 abbrev pub Feasible : Parts → Dispatch → Type 0
