@@ -15,7 +15,7 @@ use Rattle.market_model.proofs.ChangeLemmas.{kept_price, kept_quantity, kept_dem
 use Rattle.offer_book.specs.declared.edit_parts.Edit.{Edit}
 use Rattle.offer_book.specs.declared.edit_parts.Edit.TheVariants as edit
 use Rattle.offer_book.specs.declared.edit_parts.EditFault.TheVariants as fault
-use Rattle.market_model.specs.LimitRows.{limit_of}
+use Rattle.market_model.specs.LimitRows.{has_limit}
 use Rattle.offer_book.specs.Edits.{number_of, is_block_of, place_of_block, place_of_bus, place_of_limit, rival_of, over_capacity, judge_quantity, step_of}
 use Rattle.offer_book.specs.EditLaws.{LawOfEditedMarkets}
 use Rattle.offer_book.proofs.CapacityLemmas.{within_room}
@@ -77,7 +77,7 @@ bus_inside m number i e = (position-Some (λ bus. int_eq (pos bus.number) number
 
 limit_inside : (m : Parts) (row : ℤ) (post : Bool) (l : ℕ) → place_of_limit m row post ≡ Some l → l < length m.lines
 unfolding place_of_limit
-limit_inside m row post l e = (position-Some (λ line. int_eq (pos line.row) row && is_some (limit_of post line)) m.lines l (hard_line 0 None None (pos 0)) e).0
+limit_inside m row post l e = (position-Some (λ line. int_eq (pos line.row) row && has_limit post line) m.lines l (hard_line 0 None None (pos 0)) e).0
 
 -- ---- an edit
 not_below : (a b : ℤ) → lt_z a b ≡ false → b ≤ℤ a

@@ -7,7 +7,7 @@ use Rattle.std.specs.Ordering.{int_eq}
 use Rattle.market_model.specs.declared.participants.Parts.{Parts}
 use Rattle.market_model.specs.declared.participants.Side.{Side}
 use Rattle.market_model.specs.Changes.{with_price, with_quantity, with_demand, with_limit, with_need}
-use Rattle.market_model.specs.LimitRows.{limit_of}
+use Rattle.market_model.specs.LimitRows.{has_limit}
 use Rattle.market_model.specs.Dispatch.{places, unit_at, block_at}
 use Rattle.market_model.specs.Stairs.{same_side, stair_in, offered, room_of}
 use Rattle.offer_book.specs.declared.edit_parts.Edit.{Edit}
@@ -45,7 +45,7 @@ place_of_bus m number = position (λ bus. int_eq (pos bus.number) number) m.buse
 
 -- a branch row's line, where it has a limit after an outage, or in the base
 unfoldable pub place_of_limit : Parts → ℤ → Bool → Option ℕ
-place_of_limit m row post = position (λ line. int_eq (pos line.row) row && is_some (limit_of post line)) m.lines
+place_of_limit m row post = position (λ line. int_eq (pos line.row) row && has_limit post line) m.lines
 
 -- ---- why an edit is refused
 -- the price of the block before or after that another price between them breaks the stair against
