@@ -1,8 +1,9 @@
 -- What blocks, units and buses do at a dispatch.
 -- Wood and Wollenberg, Power Generation, Operation and Control: economic dispatch over a network whose demands are fixed.
 -- GS, a demand at a voltage of 1 per unit: MATPOWER User's Manual.
-use Rattle.std.specs.Prelude.{◌≡◌, ℕ, ◌==◌, ◌<◌, pos, List, [], ◌∷◌, ◌++◌, length, map, filter, slice_index_or, replicate, None}
-use Rattle.std.specs.List.{range_with_len}
+use Rattle.std.specs.Prelude.{◌≡◌, ℕ, ◌==◌, ◌<◌, pos, List, [], ◌∷◌, ◌++◌, length, map, filter, slice_index_or, replicate, None, ℤ, Option}
+use Rattle.std.specs.List.{position, range_with_len}
+use Rattle.std.specs.Ordering.{int_eq}
 use Rattle.fraction_theory.specs.Fraction.{Fraction, whole, neg_ℚ}
 use Rattle.fraction_theory.specs.Order.{◌≤ℚ◌}
 use Rattle.fraction_theory.specs.Sums.{Term, Plain, total}
@@ -26,6 +27,10 @@ places n = range_with_len 0 n
 -- parts by place; a place past the end stands for a part of zeros
 abbrev pub bus_at : Parts → ℕ → Bus
 bus_at m i = slice_index_or m.buses i (record { number = 0; pd = pos 0; gs = pos 0 })
+
+-- the place of the bus of a number, where there is one
+unfoldable pub place_of_bus : List Bus → ℤ → Option ℕ
+place_of_bus buses number = position (λ bus. int_eq (pos bus.number) number) buses
 
 abbrev pub unit_at : Parts → ℕ → unit.Unit
 unit_at m u = slice_index_or m.units u (record { row = 0; bus = 0; fixed = pos 0; up = pos 0; down = pos 0 })

@@ -17,7 +17,7 @@ use Rattle.market_model.specs.declared.participants.Parts.{Parts}
 use Rattle.market_model.specs.declared.participants.Side.{Side}
 use Rattle.market_model.specs.declared.participants.Side.TheVariants.{Sell, Buy}
 use Rattle.market_model.specs.Changes.{with_price, with_quantity, with_demand, with_limit, with_need}
-use Rattle.market_model.specs.Dispatch.{places, unit_at, block_at}
+use Rattle.market_model.specs.Dispatch.{places, unit_at, block_at, place_of_bus}
 use Rattle.market_model.specs.Market.{IsMarket}
 use Rattle.market_model.specs.Stairs.{same_side, is_on_stair, stair_in}
 use Rattle.market_model.proofs.ChangeLemmas.{offered-set, on_stair}
@@ -25,7 +25,7 @@ use Rattle.offer_book.specs.declared.edit_parts.Edit.{Edit}
 use Rattle.offer_book.specs.declared.edit_parts.Edit.TheVariants as edit
 use Rattle.offer_book.specs.declared.edit_parts.EditFault.TheVariants as fault
 use Rattle.offer_book.specs.OfferTable.{follows}
-use Rattle.offer_book.specs.Edits.{is_block_of, blocks_of_side, place_of_block, price_of_block, place_of_bus, place_of_limit, rival, rival_of, judge_quantity, step_of}
+use Rattle.offer_book.specs.Edits.{is_block_of, blocks_of_side, place_of_block, price_of_block, place_of_limit, rival, rival_of, judge_quantity, step_of}
 use Rattle.offer_book.specs.EditLaws.{InOrder, prices, HasOfferCurves, LawOfOfferCurves, LawOfEditedCurves}
 use Rattle.offer_book.proofs.CurveLemmas.{follows_order, order-set, filter-set_off, filter-set_on, map-filter-set, filter-places}
 use Rattle.offer_book.proofs.EditedMarkets.{IsNamed, named, block_inside, quantity_kept, stepped}
@@ -271,7 +271,7 @@ module _ (m : Parts) (market : IsMarket m) where
           → HasOfferCurves (if is_some (option_map_or (judge_quantity m mw) o (Some fault.NoBlock)) then m else option_map_or (λ j. with_quantity m j mw) o m)
       by None e = curves
       by (Some j) e = judged j (quantity_kept m market j mw (block_inside m row side number j e))
-  edit_curves curves (edit.Demand number mw) = by (place_of_bus m number)
+  edit_curves curves (edit.Demand number mw) = by (place_of_bus m.buses number)
     where
       by : (o : Option ℕ) → HasOfferCurves (if is_some (if is_some o then None else Some fault.NoBus) then m else option_map_or (λ i. with_demand m i mw) o m)
       by None = curves

@@ -9,13 +9,13 @@ use Rattle.market_model.specs.declared.participants.Block.{Block}
 use Rattle.market_model.specs.declared.participants.Line.{Line}
 use Rattle.market_model.specs.declared.participants.Parts.{Parts}
 use Rattle.market_model.specs.Changes.{with_price, with_quantity, with_demand, with_limit, line_with}
-use Rattle.market_model.specs.Dispatch.{bus_at, block_at, line_at}
+use Rattle.market_model.specs.Dispatch.{bus_at, block_at, line_at, place_of_bus}
 use Rattle.market_model.specs.Frame.{bus_frame, block_frame, line_frame, frame, SameFrame}
 use Rattle.market_model.proofs.ChangeLemmas.{map-set_same}
 use Rattle.offer_book.specs.declared.edit_parts.Edit.{Edit}
 use Rattle.offer_book.specs.declared.edit_parts.Edit.TheVariants as edit
 use Rattle.market_model.specs.LimitRows.{has_limit}
-use Rattle.offer_book.specs.Edits.{judge, changed, step_of, place_of_block, place_of_bus, place_of_limit}
+use Rattle.offer_book.specs.Edits.{judge, changed, step_of, place_of_block, place_of_limit}
 use Rattle.offer_book.specs.EditLaws.{LawOfTheEditedFrame, LawOfEditedFrames}
 use Rattle.market_model.specs.Lines.{hard_line}
 
@@ -69,7 +69,7 @@ changed_frame m (edit.Quantity row side number mw) = by (place_of_block m row si
     by : (o : Option ℕ) → SameFrame m (option_map_or (λ j. with_quantity m j mw) o m)
     by None = refl
     by (Some j) = quantity_frame m j mw
-changed_frame m (edit.Demand number mw) = by (place_of_bus m number)
+changed_frame m (edit.Demand number mw) = by (place_of_bus m.buses number)
   where
     by : (o : Option ℕ) → SameFrame m (option_map_or (λ i. with_demand m i mw) o m)
     by None = refl
