@@ -11,9 +11,8 @@ use Rattle.market_model.specs.declared.stops.Stop.{Stop}
 use Rattle.market_model.specs.declared.stops.Stop.TheVariants as stop
 use Rattle.market_model.specs.Dispatch.{Dispatch}
 use Rattle.market_model.specs.LimitRows.{rows, limit, most_excess}
-use Rattle.market_model.specs.NamedSums.{IsRefusal, IsRefusedIn}
-use Rattle.market_model.specs.Reserves.{reserve_terms}
-use Rattle.market_model.specs.SumTables.{IsRefusedAmong, BalanceSum, LimitFlowSum, PickupSum, RoomSum}
+use Rattle.market_model.specs.NamedSums.{IsRefusal}
+use Rattle.market_model.specs.SumTables.{IsRefusedAmong, BalanceSum, LimitFlowSum, PickupSum, RoomSum, AcceptedSum}
 use Rattle.market_model.specs.Valued.{passed_at}
 use Rattle.cert_format.specs.declared.certificate.Cert.{Cert}
 use Rattle.cert_format.specs.declared.certificate.Cert.TheVariants.{Optimal, Farkas}
@@ -37,7 +36,7 @@ pub data IsLimitPair (m : Parts) (x : Dispatch) (bound : ℕ) (p : Passed Fracti
 -- either, and what a MW is worth where nothing is wrong with all of these.
 pub data IsOptimalStop (m : Parts) (x : Dispatch) (d : Duals Fraction) (bound : ℕ) (p : Passed Fraction) : Type 0 where
   at_balance : IsRefusedAmong (BalanceSum m x) bound p → NoneOf (part_reasons m x d) → IsOptimalStop m x d bound p
-  at_need : IsRefusedIn (reserve_terms m x) bound p → NoneOf (part_reasons m x d ++ balance_reason m x ∷ []) → IsOptimalStop m x d bound p
+  at_need : IsRefusedAmong (AcceptedSum m x) bound p → NoneOf (part_reasons m x d ++ balance_reason m x ∷ []) → IsOptimalStop m x d bound p
   at_limits : IsLimitPair m x bound p → NoneOf (part_reasons m x d ++ sum_reasons m x) → IsOptimalStop m x d bound p
   at_rooms : IsRefusedAmong (RoomSum m x) bound p → NoneOf (part_reasons m x d ++ sum_reasons m x ++ limit_reason m x ∷ []) → IsOptimalStop m x d bound p
   at_support : IsWorthRefusal m d bound p → NoneOf (part_reasons m x d ++ flow_reasons m x d) → IsOptimalStop m x d bound p

@@ -37,7 +37,7 @@ use Rattle.market_model.specs.LimitRows.{rows, row_id, loses_unit, lost_unit, ro
 use Rattle.market_model.specs.Optimality.{Taken, bus_price, block_value, energy_worth, congestion_terms, names_row, named_rows, own_price, own_terms, price_terms, net_shadow_price, penalty_terms, unit_price, value_terms as block_terms, welfare_terms}
 use Rattle.market_model.specs.Reserves.{no_reserve, reserved_term}
 use Rattle.market_model.specs.Settlement.{surplus_terms}
-use Rattle.market_model.specs.SumTables.{injection_at, balance_from_bus, balance_of_all, flow_of_line, limited_line, limited_row, output_of_lost, limited_unit, FlowSum, flow_in_balance, flow_in_limits, output_of_unit, BusPriceSum, own_price_of_unit, PriceSum, price_of_bus, price_of_unit, congestion_at, price_at, ReserveSum, reserve_of_all, reserve_in_room, used_of_room, WorthSum, energy_of_unit, reserve_of_unit, farkas_bound_of_all, left_of_all, paid_by_load, paid_to_unit, rent_of_row, paid_for_reserve, SettledSum, paid_output, paid_price, demand_of_bus, payment, paid_row}
+use Rattle.market_model.specs.SumTables.{injection_at, balance_from_bus, balance_of_all, flow_of_line, limited_line, limited_row, output_of_lost, limited_unit, FlowSum, flow_in_balance, flow_in_limits, output_of_unit, BusPriceSum, own_price_of_unit, PriceSum, price_of_bus, price_of_unit, congestion_at, price_at, ReserveSum, reserve_of_all, reserve_in_room, used_of_room, WorthSum, energy_of_unit, reserve_of_unit, farkas_bound_of_all, left_of_all, paid_by_load, paid_to_unit, rent_of_row, paid_for_reserve, SettledSum, paid_output, paid_price, demand_of_bus, payment, paid_row, reserve_accepted, welfare_of_all}
 use Rattle.market_model.proofs.EnergyAlone.{no_offers, no_places, not_listed, no_units, no_unit, no_need, worth_is_price, welfare_alone}
 use Rattle.market_model.proofs.FarkasLaw.{farkas_terms-bare}
 use Rattle.market_model.proofs.RowLaws.{no_rows, no_row, bus_price-bare, congestion-bare, unit_price-bare}
@@ -200,7 +200,7 @@ module _ (m : Parts) (market : IsMarket m) (lines : m.lines ≡ []) (energy : m.
 
     -- nothing of reserve counts
     reserve_sum_within : (x : Dispatch) (k : ℕ) (terms : List Term) → ReserveSum m x terms → IsWholeWithin most_value (prefix k terms)
-    reserve_sum_within x k terms reserve_of_all = subst (λ (ns : List ℕ). IsWholeWithin most_value (prefix k (map (reserved_term x) ns))) (sym (no_places m energy))
+    reserve_sum_within x k terms (reserve_accepted same reserve_of_all) = subst (λ (ns : List ℕ). IsWholeWithin most_value (prefix k (map (reserved_term x) ns))) (sym (no_places m energy))
         (wider (0 * 1) most_value (prefix k []) (Prim.omega arith) (prefix_within 0 1 k [] (Prim.omega arith) tt))
     reserve_sum_within x k terms (reserve_in_room same (used_of_room u c)) = absurd (no_unit m energy u c)
 
@@ -219,7 +219,7 @@ module _ (m : Parts) (market : IsMarket m) (lines : m.lines ≡ []) (energy : m.
     sum_within _ terms k (output_of same best (output_of_unit u lt)) = wider most_output most_value (prefix k terms) (Prim.omega arith) (output_terms_within m market modest (choice_dispatch m g h) (best_small best) u k lt)
     sum_within _ terms k (of_price same best price) = price_sum_within modest_price (4000 * modest_price) k (choice_duals m g h) terms price (Prim.omega arith) price_is_modest
     sum_within _ terms k (of_worth same best worth) = absurd (no_worth (choice_duals m g h) terms worth)
-    sum_within _ _ k (of_welfare best) = tt
+    sum_within _ terms k (of_welfare same best part) = tt
     sum_within _ terms k (of_settlement same best part) = tt
     sum_within _ terms k (of_farkas_price d same f price) = price_sum_within 1 4000 k d terms price (Prim.omega arith) (farkas_energy_within d f)
     sum_within _ terms k (of_farkas_worth d same f worth) = absurd (no_worth d terms worth)
@@ -363,7 +363,7 @@ module _ (m : Parts) (market : IsMarket m) (lines : m.lines ≡ []) (energy : m.
     named_fits _ terms (output_of same best part) = tt
     named_fits _ terms (of_price same best price) = tt
     named_fits _ terms (of_worth same best worth) = tt
-    named_fits _ _ (of_welfare best) = welfare_fits best
+    named_fits _ terms (of_welfare same best welfare_of_all) = welfare_fits best
     named_fits _ terms (of_settlement same best part) = settled_fits best terms part
     named_fits _ terms (of_farkas_price d same f price) = tt
     named_fits _ terms (of_farkas_worth d same f worth) = tt

@@ -37,10 +37,10 @@ use Rattle.market_model.specs.declared.limits.Cause.TheVariants.{Base, Branch, U
 use Rattle.market_model.specs.LimitRows.{IsCauseOf, carried, rows, loses_unit, lost_output, lost_unit, most_flow, picked_up_terms, pickup_factor, pickup_terms, pickups_of, row_pickup, shift_factor, share_value, taker_terms, line_offset, line_terms, line_flow, flow_terms, terms_under, row_factor, factor_terms, flow}
 use Rattle.market_model.specs.Market.{IsMarket, IsPickup}
 use Rattle.market_model.specs.NamedSums.{SameSize, term_at, IsNextTerm, IsSumStep, IsRefusedIn, IsRefusal}
-use Rattle.market_model.specs.Optimality.{Taken, net_shadow_price, up_of, down_of, bus_price, own_terms, unit_price, room_price, room_price_in, worth_terms, energy_worth, reserve_worth_terms, reserve_worth, welfare_terms}
+use Rattle.market_model.specs.Optimality.{Taken, net_shadow_price, up_of, down_of, bus_price, own_terms, unit_price, room_price, room_price_in, worth_terms, energy_worth, reserve_worth_terms, reserve_worth}
 use Rattle.market_model.specs.Reserves.{offers_among, offers_reserve, offer_places, offers_of, reserve_need, reserve_units, reserved_term, room}
 use Rattle.market_model.specs.Infeasibility.{block_most, block_weight, offer_most, offer_weight, limit_terms, reserve_left_terms, nothing_terms, farkas_terms}
-use Rattle.market_model.specs.SumTables.{injection_at, balance_from_bus, balance_of_all, flow_of_line, flow_of_row, output_of_lost, limited_line, limited_unit, limited_row, FlowSum, flow_in_balance, flow_in_limits, offset_of_row, pickup_of_row, factor_at_bus, factor_of_pickup, output_of_unit, BusPriceSum, own_price_of_unit, PickupSum, PriceSum, price_of_bus, price_of_unit, congestion_at, price_at, ReserveSum, reserve_of_all, reserve_in_room, used_of_room, WorthSum, energy_of_unit, reserve_of_unit, farkas_bound_of_all, factor_of_bus}
+use Rattle.market_model.specs.SumTables.{injection_at, balance_from_bus, balance_of_all, flow_of_line, flow_of_row, output_of_lost, limited_line, limited_unit, limited_row, FlowSum, flow_in_balance, flow_in_limits, offset_of_row, pickup_of_row, factor_at_bus, factor_of_pickup, output_of_unit, BusPriceSum, own_price_of_unit, PickupSum, PriceSum, price_of_bus, price_of_unit, congestion_at, price_at, ReserveSum, reserve_of_all, reserve_in_room, used_of_room, WorthSum, energy_of_unit, reserve_of_unit, farkas_bound_of_all, factor_of_bus, reserve_accepted}
 use Rattle.market_model.proofs.MarketSums.{block_unit-in, unit_bus-in}
 use Rattle.market_model.proofs.ReserveSums.{offer_unit-in}
 use Rattle.market_model.proofs.RoomLemmas.{listed-inside, offers-listed}
@@ -400,7 +400,7 @@ module _ (m : Parts) (taken : List Row) (g : Taken) (reached : Growth m taken g.
 
   -- ---- reserve
   reserves_scaled : (x : Dispatch) (terms : List Term) → ReserveSum m x terms → AreScaled Quantity terms
-  reserves_scaled x terms reserve_of_all = scaled_map Quantity (reserved_term x) (offer_places m) (λ n c. tt)
+  reserves_scaled x terms (reserve_accepted same reserve_of_all) = scaled_map Quantity (reserved_term x) (offer_places m) (λ n c. tt)
   reserves_scaled x terms (reserve_in_room same (used_of_room u k)) =
       scaled_append Quantity (map (block_term m x) (blocks_of m u)) (map (reserved_term x) (offers_of m u))
       (scaled_map Quantity (block_term m x) (blocks_of m u) (λ j c. tt))
@@ -528,7 +528,7 @@ module _ (m : Parts) (taken : List Row) (g : Taken) (reached : Growth m taken g.
       by_steps Quantity terms (output_of terms best (output_of_unit u lt)) (tt, scaled_map Quantity (block_term m (choice_dispatch m g h)) (blocks_of m u) (λ j c. tt))
   by_sum market _ terms (of_price same best price) = by_steps Price terms (of_price terms best price) (prices_scaled Price (choice_duals m g h) is_up_dual is_down_dual terms price)
   by_sum market _ terms (of_worth same best worth) = by_steps Price terms (of_worth terms best worth) (worths_scaled Price (choice_duals m g h) terms worth)
-  by_sum market _ _ (of_welfare best) = by_settled (welfare_terms m (choice_dispatch m g h)) (of_welfare best)
+  by_sum market _ terms (of_welfare same best part) = by_settled terms (of_welfare terms best part)
   by_sum market _ terms (of_settlement same best part) = by_settled terms (of_settlement terms best part)
   by_sum market _ terms (of_farkas_price d same f price) =
       by_steps Factor terms (of_farkas_price d terms f price) (prices_scaled Factor d (λ r c. is_farkas_up d r f c) (λ r c. is_farkas_down d r f c) terms price)

@@ -7,11 +7,11 @@ ghost use Rattle.market_data.specs.Participants.{IsDatum};
 ghost use Rattle.fraction_theory.specs.Sums.{total};
 ghost use Rattle.market_model.specs.Dispatch.{Dispatch, dispatch_with};
 ghost use Rattle.market_model.specs.LimitRows.{IsCauseOf, flow_by, penalty, rows as rows_of};
-ghost use Rattle.market_model.specs.NamedSums.{IsRefusedIn, IsShareRefusal};
-ghost use Rattle.market_model.specs.Optimality.{penalty_terms, value_terms, welfare as welfare_of, welfare_terms};
+ghost use Rattle.market_model.specs.NamedSums.{IsShareRefusal};
+ghost use Rattle.market_model.specs.Optimality.{penalty_terms, value_terms, welfare as welfare_of};
 ghost use Rattle.market_model.specs.Overrun.{excess_by};
 ghost use Rattle.market_model.specs.PutIn.{dispatch_of};
-ghost use Rattle.market_model.specs.SumTables.{IsFlowRefusal};
+ghost use Rattle.market_model.specs.SumTables.{IsFlowRefusal, IsRefusedAmong, WelfareSum};
 ghost use Rattle.market_model.specs.Valued.{passed_at};
 ghost use Rattle.limit_screen.specs.Flows.{carried_at, flows_at};
 ghost use Rattle.settlement.specs.GivingWay.{gives_way};
@@ -27,7 +27,7 @@ use market_model::{Line, Market, ReserveOffer, Row, block_value, datum};
 fn values<N: Exact>(market: &Market, dispatch: &[N]) -> Result<N, Passed<N>>
     requires { length dispatch.now ≡ length market.now.blocks }
     ensures values { IfOk result (λ values. N.value values ≡ total (value_terms market.now (dispatch_of N.value dispatch.now))) }
-    ensures cause { (reserve : List Fraction) → IfErr result (λ passed. IsRefusedIn (welfare_terms market.now (dispatch_with (map N.value dispatch.now) reserve)) N.bound (passed_at N.value passed)) }
+    ensures cause { (reserve : List Fraction) → IfErr result (λ passed. IsRefusedAmong (WelfareSum market.now (dispatch_with (map N.value dispatch.now) reserve)) N.bound (passed_at N.value passed)) }
 {
     let mut sum: N = datum(0);
     for (place, block) in market.blocks().slice().iter().enumerate() {
@@ -108,7 +108,7 @@ fn less_reserve_costs<N: Exact>(
     ensures worth { (blocks : List Fraction) → let x = dispatch_with blocks (map N.value reserve.now) in N.value of_energy ≡ total (value_terms market.now x ++ penalty_terms market.now (rows_of market.now) x)
         → IfOk result (λ worth. N.value worth ≡ welfare_of market.now x) }
     ensures cause { (blocks : List Fraction) → let x = dispatch_with blocks (map N.value reserve.now) in N.value of_energy ≡ total (value_terms market.now x ++ penalty_terms market.now (rows_of market.now) x)
-        → IfErr result (λ passed. IsRefusedIn (welfare_terms market.now x) N.bound (passed_at N.value passed)) }
+        → IfErr result (λ passed. IsRefusedAmong (WelfareSum market.now x) N.bound (passed_at N.value passed)) }
 {
     let mut sum = of_energy;
     for (place, offer) in market.reserve().offers.slice().iter().enumerate() {
