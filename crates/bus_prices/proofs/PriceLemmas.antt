@@ -3,8 +3,8 @@ use Rattle.std.specs.Prelude.{◌≡◌, ◌⊎◌, ℕ, ◌+◌, ◌<◌, ◌�
 use Rattle.std.proofs.Common.{arith, ap, ap₂, inl, inr, sym, subst, ◌∙◌, get_or, set}
 use Rattle.std.proofs.lemmas.List.{take_all, get_or-set_other}
 use Rattle.fraction_theory.specs.Fraction.{Fraction, whole, neg_ℚ, ◌+ℚ◌, ◌-ℚ◌, ◌*ℚ◌}
-use Rattle.fraction_theory.specs.Sums.{sum_by, Term, Plain, Product, term_value}
-use Rattle.fraction_theory.proofs.FieldLaws.{ring_ℚ, +ℚ_nil}
+use Rattle.fraction_theory.specs.Sums.{sum_by, Term, Product, term_value}
+use Rattle.fraction_theory.proofs.FieldLaws.{ring_ℚ}
 use Rattle.fraction_theory.proofs.Ring.{by_ring, at, padd, pmul, pneg, pnil}
 use Rattle.fraction_theory.proofs.SumLaws.{total-map}
 use Rattle.exact_fraction.specs.declared.Op.TheVariants.{Plus}
@@ -22,7 +22,7 @@ use Rattle.market_model.specs.RightAnswers.{price_made, price_of_parts}
 use Rattle.market_model.specs.SumTables.{IsRefusedInBusPrices, congestion_at, BusFactorSum, IsRefusedAmong}
 use Rattle.market_model.proofs.MorePlaces.{sum_by_more}
 use Rattle.market_model.proofs.PlaceLists.{put_more, map_same}
-use Rattle.market_model.proofs.SumSteps.{plus_at, share_at}
+use Rattle.market_model.proofs.SumSteps.{share_at, two_refused}
 use Rattle.limit_rows.proofs.DualLemmas.{IsRowOfDual, up_unnamed, down_unnamed, sum_named, terms_named}
 use Rattle.bus_prices.specs.PriceParts.{HaveParts}
 
@@ -114,8 +114,7 @@ module _ (m : Parts) (d : Duals Fraction) where
       map_same (λ i. price_of_parts d.energy (congestion' i)) (price_made m d) n (λ i lt. ap (price_of_parts d.energy) (e i))
 
   pub total_refused : (i : ℕ) (sum : Fraction) (bound : ℕ) (p : Passed Fraction) → sum ≡ congestion m d i → IsRefusal Plus d.energy sum bound p → IsRefusedIn (price_terms m d i) bound p
-  total_refused i sum bound p is h =
-      plus_at (price_terms m d i) (Plain d.energy ∷ []) [] (Plain (congestion m d i)) refl bound p d.energy sum (sym (+ℚ_nil d.energy)) is h
+  total_refused i sum bound p is h = two_refused d.energy (congestion m d i) d.energy sum bound p refl is h
 
   -- what a row adds to prices is refused at a bus, or in its factor there
   pub added_refused : (k : ℕ) (e : Dual Fraction) (r s : Row) (price : Fraction) (bound : ℕ) (p : Passed Fraction) → IsRowOfDual m d k e r → price ≡ neg_ℚ (e.up -ℚ e.down) → s ≡ r

@@ -3,7 +3,7 @@ use Rattle.std.specs.Prelude.{◌≡◌, ◌⊎◌, ℕ, ◌+◌, ◌<◌, ◌�
 use Rattle.std.proofs.Common.{zero, suc, inl, inr, arith, ap, ap₂, sym, ◌∙◌, get_or}
 use Rattle.std.proofs.lemmas.List.{get_or-map, length-map, take_all}
 use Rattle.fraction_theory.specs.Fraction.{Fraction, whole, neg_ℚ, ◌+ℚ◌, ◌-ℚ◌, ◌*ℚ◌}
-use Rattle.fraction_theory.specs.Sums.{sum_by, Term, Plain, Product, term_value, total}
+use Rattle.fraction_theory.specs.Sums.{sum_by, Term, Product, term_value, total}
 use Rattle.fraction_theory.proofs.FieldLaws.{ring_ℚ, +ℚ_nil}
 use Rattle.fraction_theory.proofs.ListSums.{Contains-from_filter}
 use Rattle.fraction_theory.proofs.Ring.{by_ring, at, padd, pmul, pneg, pnil, times_nil}
@@ -18,7 +18,7 @@ use Rattle.market_model.specs.NamedSums.{IsRefusal, IsRefusedIn, IsShareRefusal}
 use Rattle.market_model.specs.Optimality.{bus_price, up_of, down_of, net_shadow_price, names_row, named_rows, congestion, congestion_terms, congestion_by, price_terms}
 use Rattle.market_model.specs.SumTables.{BusPriceSum, congestion_at, factor_at_bus, IsFactorRefusal, OwnPriceSum, price_of_bus, price_of_unit, factor_of_bus}
 use Rattle.market_model.proofs.MorePlaces.{sum_by_more}
-use Rattle.market_model.proofs.SumSteps.{plus_at, refusal_same, share_at}
+use Rattle.market_model.proofs.SumSteps.{refusal_same, share_at, two_refused}
 use Rattle.limit_rows.proofs.DualLemmas.{up_unnamed, down_unnamed, sum_named, terms_named}
 use Rattle.cert_sums.specs.declared.pricing.NamedRow.{NamedRow}
 use Rattle.cert_sums.specs.Named.{PricedRow, priced_at, priced_by, AreNamed}
@@ -139,8 +139,7 @@ in_congestion m d i bound p (inr h) = inr h
 
 -- the price of energy and the congestion are added
 pub price_refused : (m : Parts) (d : Duals Fraction) (i : ℕ) (bound : ℕ) (p : Passed Fraction) → IsRefusal Plus d.energy (congestion m d i) bound p → IsRefusedIn (price_terms m d i) bound p
-price_refused m d i bound p h =
-    (plus_at (price_terms m d i) (Plain d.energy ∷ []) [] (Plain (congestion m d i)) refl bound p d.energy (congestion m d i) (sym (+ℚ_nil d.energy)) refl h)
+price_refused m d i bound p h = two_refused d.energy (congestion m d i) d.energy (congestion m d i) bound p refl refl h
 
 -- ---- what is refused in the price at a bus, or in what a unit's loss takes from that, is in the price of a unit
 pub bus_in_unit : (m : Parts) (d : Duals Fraction) (i : ℕ) (bound : ℕ) (p : Passed Fraction) → i < length m.buses → IsPriceRefusal m d (BusPriceSum m d i) bound p → IsUnitPriceRefusal m d bound p

@@ -8,9 +8,9 @@ use Rattle.fraction_theory.specs.Fraction.{Fraction, whole, neg_ℚ, ◌+ℚ◌,
 use Rattle.fraction_theory.specs.Signs.{sign_of, where_above, part_above}
 use Rattle.fraction_theory.specs.declared.Sign.{Sign}
 use Rattle.fraction_theory.specs.declared.Sign.TheVariants.{Below, Zero}
-use Rattle.fraction_theory.specs.Sums.{sum_by, Term, Plain, Product, total}
+use Rattle.fraction_theory.specs.Sums.{sum_by, Term, Product, total}
 use Rattle.fraction_theory.proofs.FieldLaws.{ring_ℚ, +ℚ_nil, +ℚ_assoc}
-use Rattle.fraction_theory.proofs.Ring.{by_ring, at, pneg, pnil, neg_neg, ◌⊕◌, ◌⊗◌}
+use Rattle.fraction_theory.proofs.Ring.{by_ring, at, pneg, pnil, ◌⊕◌, ◌⊗◌}
 use Rattle.fraction_theory.proofs.SumLaws.{total-append}
 use Rattle.exact_fraction.specs.declared.Op.TheVariants.{Minus, Times}
 use Rattle.exact_fraction.specs.declared.Passed.{Passed}
@@ -30,7 +30,7 @@ use Rattle.market_model.proofs.FarkasLaw.{total-flat_map}
 use Rattle.market_model.proofs.FarkasParts.{farkas_terms-parts, need_refused as need_refused_in_terms}
 use Rattle.market_model.proofs.MorePlaces.{sum_by_more, total-filter_more, total-places_more}
 use Rattle.market_model.proofs.RoomLemmas.{offers-listed}
-use Rattle.market_model.proofs.SumSteps.{minus_at, product_at, share_at, terms_at, tested_at, behind, in_front}
+use Rattle.market_model.proofs.SumSteps.{product_at, share_at, terms_at, tested_at, behind, in_front, difference_refused}
 use Rattle.market_model.proofs.UnitPrices.{at_unit, own_at}
 use Rattle.limit_rows.proofs.DualLemmas.{IsRowOfDual, sum_named}
 use Rattle.limit_rows.proofs.NamedLimits.{energy_left-by_named, limit_unnamed}
@@ -274,16 +274,14 @@ module _ (m : Parts) (d : Duals Fraction) where
     energy_refused_there price is h = in_worth (
       worth_terms m d u,
       energy_of_unit u (offers-listed m u lt offers),
-      minus_at (worth_terms m d u) (Plain (unit_price m d u) ∷ []) [] (Plain (neg_ℚ (room_price m d u))) refl bound p price (room_price m d u) (is ∙ sym (+ℚ_nil (unit_price m d u)))
-          (sym (neg_neg ring_ℚ (room_price m d u))) h,
+      difference_refused (unit_price m d u) (room_price m d u) price (room_price m d u) bound p is refl h,
     )
 
     pub reserve_refused_there : IsRefusal Minus d.reserve (room_price m d u) bound p → IsBoundRefusal m d bound p
     reserve_refused_there h = in_worth (
       reserve_worth_terms m d u,
       reserve_of_unit u (offers-listed m u lt offers),
-      minus_at (reserve_worth_terms m d u) (Plain d.reserve ∷ []) [] (Plain (neg_ℚ (room_price m d u))) refl bound p d.reserve (room_price m d u) (sym (+ℚ_nil d.reserve))
-          (sym (neg_neg ring_ℚ (room_price m d u))) h,
+      difference_refused d.reserve (room_price m d u) d.reserve (room_price m d u) bound p refl refl h,
     )
 
   -- ---- the blocks

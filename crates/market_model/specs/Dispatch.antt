@@ -16,6 +16,7 @@ use Rattle.market_model.specs.Lines.{hard_line}
 use Rattle.market_model.specs.declared.participants.Side.{Side}
 use Rattle.market_model.specs.declared.participants.Side.TheVariants.{Sell, Buy}
 use Rattle.market_model.specs.declared.participants.Parts.{Parts}
+use Rattle.market_model.specs.NamedSums.{two_terms}
 
 abbrev pub zero : Fraction
 zero = whole (pos 0)
@@ -139,7 +140,7 @@ output m x u = total (output_terms m x u)
 
 -- a bus's demand
 abbrev pub demand_terms : Parts → ℕ → List Term
-demand_terms m i = Plain (whole (bus_at m i).pd) ∷ Plain (whole (bus_at m i).gs) ∷ []
+demand_terms m i = two_terms (whole (bus_at m i).pd) (whole (bus_at m i).gs)
 
 unfoldable pub demand : Parts → ℕ → Fraction
 demand m i = total (demand_terms m i)

@@ -19,6 +19,7 @@ use Rattle.market_model.specs.declared.limits.Row.{Row}
 use Rattle.market_model.specs.LimitRows.{rows, row_id, limit, loses_unit, most_flow, penalty, is_soft, row_factor, row_pickup, flow}
 use Rattle.market_model.specs.Overrun.{excess, Within}
 use Rattle.market_model.specs.Reserves.{offers_reserve, reserve, reserve_cost_terms, reserve_need, offer_price, reserve_units, room, room_used, KeepRooms}
+use Rattle.market_model.specs.NamedSums.{two_terms}
 
 -- the flow f of each of these rows is at most so much on either side
 abbrev pub AreWithin : List Row → (Row → Fraction) → (Row → Fraction) → Type 0
@@ -168,7 +169,7 @@ ArePricesOf m d price = (i : ℕ) → i < length m.buses → price i ≡ bus_pri
 
 -- its two parts
 abbrev pub price_terms : Parts → Duals Fraction → ℕ → List Term
-price_terms m d i = Plain d.energy ∷ Plain (congestion m d i) ∷ []
+price_terms m d i = two_terms d.energy (congestion m d i)
 
 -- the own price of a unit, where buses have prices: that of its bus, less what the rows after its loss take, each by its pickup factor
 abbrev pub own_terms : Parts → Duals Fraction → (ℕ → Fraction) → ℕ → List Term
@@ -186,14 +187,14 @@ unit_price m d u = own_price m d (bus_price m d) u
 -- ---- what a MW of a unit is worth
 -- of its energy: its own price, less what that takes of its room
 abbrev pub worth_terms : Parts → Duals Fraction → ℕ → List Term
-worth_terms m d u = Plain (unit_price m d u) ∷ Plain (neg_ℚ (room_price m d u)) ∷ []
+worth_terms m d u = two_terms (unit_price m d u) (neg_ℚ (room_price m d u))
 
 abbrev pub energy_worth : Parts → Duals Fraction → ℕ → Fraction
 energy_worth m d u = unit_price m d u -ℚ room_price m d u
 
 -- of its reserve: the price of reserve, less the same
 abbrev pub reserve_worth_terms : Parts → Duals Fraction → ℕ → List Term
-reserve_worth_terms m d u = Plain d.reserve ∷ Plain (neg_ℚ (room_price m d u)) ∷ []
+reserve_worth_terms m d u = two_terms d.reserve (neg_ℚ (room_price m d u))
 
 abbrev pub reserve_worth : Parts → Duals Fraction → ℕ → Fraction
 reserve_worth m d u = d.reserve -ℚ room_price m d u

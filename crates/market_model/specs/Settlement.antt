@@ -2,7 +2,7 @@
 -- Schweppe and others, Spot Pricing of Electricity: the merchandising surplus. The offsets in rents are own.
 use Rattle.std.specs.Prelude.{ℕ, List, [], ◌∷◌, length, map, ◌++◌}
 use Rattle.fraction_theory.specs.Fraction.{Fraction, neg_ℚ, ◌+ℚ◌, ◌-ℚ◌}
-use Rattle.fraction_theory.specs.Sums.{Term, Plain, Product, term_value, total}
+use Rattle.fraction_theory.specs.Sums.{Term, Product, term_value, total}
 use Rattle.market_model.specs.declared.answered.Load.{Load}
 use Rattle.market_model.specs.declared.answered.ReservePay.{ReservePay}
 use Rattle.market_model.specs.declared.answered.UnitPay.{UnitPay}
@@ -13,6 +13,7 @@ use Rattle.market_model.specs.Optimality.{bus_price, own_price, up_of, down_of}
 use Rattle.market_model.specs.declared.limits.Row.{Row}
 use Rattle.market_model.specs.LimitRows.{Carried, carried, flow_by, limit, row_offset}
 use Rattle.market_model.specs.Overrun.{excess_by}
+use Rattle.market_model.specs.NamedSums.{two_terms}
 
 -- ---- at prices by bus, and the prices of rows
 -- what a unit is paid for energy: its own price for its output
@@ -72,11 +73,11 @@ priced_flow m r f = limit m r +ℚ excess_by m r f
 
 -- what the upper price of a limit is paid for, where flows are paid for at this size and the flow has a fixed offset: the size less the offset
 abbrev pub upper_terms : Fraction → Fraction → List Term
-upper_terms size offset = Plain size ∷ Plain (neg_ℚ offset) ∷ []
+upper_terms size offset = two_terms size (neg_ℚ offset)
 
 -- what its lower price is paid for: the two together
 abbrev pub lower_terms : Fraction → Fraction → List Term
-lower_terms size offset = Plain size ∷ Plain offset ∷ []
+lower_terms size offset = two_terms size offset
 
 -- what a limit earns at its upper and its lower price, each for what it is paid for
 abbrev pub earned_terms : Fraction → Fraction → Fraction → Fraction → List Term
