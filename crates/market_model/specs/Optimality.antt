@@ -242,10 +242,15 @@ pub record RowSupported (m : Parts) (x : Dispatch) (d : Duals Fraction) (r : Row
   pub up : SideSupported m r (up_of m d r) (flow m x r)
   pub down : SideSupported m r (down_of m d r) (neg_ℚ (flow m x r))
 
--- duals for which a dispatch is best, seen block by block and row by row, and with reserve offer by offer and room by room
-pub record Supports (m : Parts) (x : Dispatch) (d : Duals Fraction) : Type 0 where
+-- Duals for which a dispatch is best, seen block by block and row by row, and with reserve offer by offer and room by room. Of rows those
+-- that count are seen.
+pub record SupportsOver (m : Parts) (Counts : Row → Type 0) (x : Dispatch) (d : Duals Fraction) : Type 0 where
   pub blocks : (j : ℕ) → j < length m.blocks → BlockSupported m x d j
-  pub rows : (r : Row) → Contains (rows m) r → RowSupported m x d r
+  pub rows : (r : Row) → Counts r → RowSupported m x d r
   pub offers : (n : ℕ) → n < length m.reserve.offers → OfferSupported m x d n
   pub need : NeedSupported m x d
   pub rooms : (u : ℕ) → Contains (reserve_units m) u → RoomSupported m x d u
+
+-- all rows of the market
+abbrev pub Supports : Parts → Dispatch → Duals Fraction → Type 0
+Supports m x d = SupportsOver m (λ r. Contains (rows m) r) x d

@@ -72,8 +72,8 @@ pub supports_by : (m : Parts) (g : List Row) (x : Dispatch) (d : Duals Fraction)
 supports_by m g x d s kept = record { blocks = s.blocks; rows = λ r c. by r c (is_in g r) refl; offers = s.offers; need = s.need; rooms = s.rooms }
   where
     by : (r : Row) → Contains (rows m) r → (b : Bool) → is_in g r ≡ b → RowSupported m x d r
-    by r c true e = s.rows r c (inl (is_in-from g r e))
-    by r c false e = s.rows r c (inr (kept r c (λ k. let wrong : false ≡ true = sym e ∙ is_in-in g r k in absurd cc)))
+    by r c true e = s.rows r (c, inl (is_in-from g r e))
+    by r c false e = s.rows r (c, inr (kept r c (λ k. let wrong : false ≡ true = sym e ∙ is_in-in g r k in absurd cc)))
 
 -- ---- prices of duals that are made of costs by name
 module _ (m : Parts) (names : NamesApart m) (cost_of : ℕ → Fraction) (t : Taken) where
@@ -589,7 +589,7 @@ module _ (m : Parts) (names : NamesApart m) (market : IsMarket m) (t : Taken) wh
 
       -- the duals support it where other rows' limits are kept, and are proper
       pub solved_supports : SupportsFor m t.limits dispatch duals
-      solved_supports = record { blocks = block_supported; rows = row_supported; offers = offer_supported; need = need_supported; rooms = room_supported }
+      solved_supports = record { blocks = block_supported; rows = λ r c. row_supported r c.0 c.1; offers = offer_supported; need = need_supported; rooms = room_supported }
 
       pub solved_proper : ProperDuals m duals
       solved_proper = proper-made m names (reduced s h) t market
