@@ -2,7 +2,7 @@
 -- Schweppe and others, Spot Pricing of Electricity: the merchandising surplus. The offsets in rents are own.
 use Rattle.std.specs.Prelude.{ℕ, List, [], ◌∷◌, length, map, ◌++◌}
 use Rattle.fraction_theory.specs.Fraction.{Fraction, neg_ℚ, ◌+ℚ◌, ◌-ℚ◌}
-use Rattle.fraction_theory.specs.Sums.{Term, Product, term_value, total}
+use Rattle.fraction_theory.specs.Sums.{Term, Product, term_value, total, Plain}
 use Rattle.market_model.specs.declared.answered.Load.{Load}
 use Rattle.market_model.specs.declared.answered.ReservePay.{ReservePay}
 use Rattle.market_model.specs.declared.answered.UnitPay.{UnitPay}
@@ -38,11 +38,13 @@ load_terms m price i = load_term m price i ∷ []
 abbrev pub unit_terms : Parts → Dispatch → (ℕ → Fraction) → Duals Fraction → ℕ → List Term
 unit_terms m x price d u = unit_term m x price d u ∷ []
 
--- what loads pay by bus, and the opposite of what units are paid by unit
+-- what loads pay, and the opposite of what units are paid, one by one
+abbrev pub paid_terms : List (Load Fraction) → List (UnitPay Fraction) → List Term
+paid_terms loads units = map (λ load. Plain load.pays) loads ++ map (λ unit. Plain (neg_ℚ unit.paid)) units
+
+-- by bus and by unit
 abbrev pub surplus_terms_by : Parts → Dispatch → (ℕ → Fraction) → Duals Fraction → List Term
-surplus_terms_by m x price d =
-    map (load_term m price) (places (length m.buses))
-    ++ map (λ u. Product (neg_ℚ (own_price m d price u)) (output m x u)) (places (length m.units))
+surplus_terms_by m x price d = paid_terms (map (pay_of_load m price) (places (length m.buses))) (map (pay_of_unit m x price d) (places (length m.units)))
 
 -- what an offer of reserve is paid: the price of reserve for what is accepted of it
 abbrev pub reserve_term : Dispatch → Duals Fraction → ℕ → Term

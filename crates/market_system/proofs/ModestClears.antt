@@ -42,6 +42,7 @@ use Rattle.market_model.proofs.EnergyAlone.{no_offers, no_places, not_listed, no
 use Rattle.market_model.proofs.FarkasLaw.{farkas_terms-bare}
 use Rattle.market_model.proofs.RowLaws.{no_rows, no_row, bus_price-bare, congestion-bare, unit_price-bare}
 use Rattle.market_model.proofs.RowMembers.{lost_unit-in}
+use Rattle.market_model.proofs.UnitPrices.{surplus_terms-made}
 use Rattle.market_system.specs.MarketSystem.{balance_name, need_name, in_order, is_among, rooms_in_order, taken_in_order, system_over, system_of, point_dispatch, choice_dispatch, choice_duals}
 use Rattle.market_system.specs.MarketNumbers.{ClearingNumber, of_kind, of_solving, of_money, is_turned, MarketNumber, IsRightChoice, IsInjecting, IsFarkasOf}
 use Rattle.market_system.specs.MarketNumbers.{NamedSum, offset_of, factor_of, of_flow, of_reserve, output_of, of_price, of_worth, of_welfare, of_settlement, of_farkas_price, of_farkas_worth, farkas_bound_of}
@@ -281,25 +282,25 @@ module _ (m : Parts) (market : IsMarket m) (lines : m.lines ≡ []) (energy : m.
         times_within modest_price most_output (block_value m j) (accepted (choice_dispatch m g h) j) (block_value_within m market modest j lt)
         (wider modest_mw most_output (accepted (choice_dispatch m g h) j) (Prim.omega arith) (best_small best j lt)))
 
-    surplus_each : IsRightChoice m g h → TermsWithin (modest_price * most_output) (surplus_terms m (choice_dispatch m g h) (choice_duals m g h))
+    abbrev paying : ℕ → Term
+    paying i = Plain (bus_price m (choice_duals m g h) i *ℚ demand m i)
+
+    abbrev paid : ℕ → Term
+    paid u = Plain (neg_ℚ (own_price m (choice_duals m g h) (bus_price m (choice_duals m g h)) u *ℚ output m (choice_dispatch m g h) u))
+
+    surplus_each : IsRightChoice m g h → TermsWithin (modest_price * most_output) (map paying (places (length m.buses)) ++ map paid (places (length m.units)))
     surplus_each best = append_within (modest_price * most_output) (map paying (places (length m.buses))) (map paid (places (length m.units)))
         (map_within (modest_price * most_output) paying (places (length m.buses)) (λ i c.
         times_within modest_price most_output (bus_price m d i) (demand m i) (bus_price_within modest_price d i price_is_modest) (demand_within m market modest i (from_places (length m.buses) i c))))
         (map_within (modest_price * most_output) paid (places (length m.units)) (λ u c.
-        times_within modest_price most_output (neg_ℚ (own_price m d (bus_price m d) u)) (output m x u) (neg_within modest_price (own_price m d (bus_price m d) u) (own_price_within modest_price d u price_is_modest))
-        (output_within m market modest x (best_small best) u (from_places (length m.units) u c))))
+        neg_within (modest_price * most_output) (own_price m d (bus_price m d) u *ℚ output m x u) (times_within modest_price most_output (own_price m d (bus_price m d) u) (output m x u) (own_price_within modest_price d u price_is_modest)
+        (output_within m market modest x (best_small best) u (from_places (length m.units) u c)))))
       where
         x : Dispatch
         x = choice_dispatch m g h
 
         d : Duals Fraction
         d = choice_duals m g h
-
-        paying : ℕ → Term
-        paying i = Product (bus_price m d i) (demand m i)
-
-        paid : ℕ → Term
-        paid u = Product (neg_ℚ (own_price m d (bus_price m d) u)) (output m x u)
 
     abbrev Fits : List Term → Type 0
     Fits terms = (k : ℕ) → IsWholeWithin most (prefix k terms)
@@ -315,19 +316,19 @@ module _ (m : Parts) (market : IsMarket m) (lines : m.lines ≡ []) (energy : m.
         (welfare_each best) (Prim.omega arith))
 
     surplus_fits : IsRightChoice m g h → Fits (surplus_terms m (choice_dispatch m g h) (choice_duals m g h))
-    surplus_fits best =
-        sums_within (surplus_terms m (choice_dispatch m g h) (choice_duals m g h)) (modest_price * most_output)
+    surplus_fits best = subst Fits (sym (surplus_terms-made m (choice_dispatch m g h) (bus_price m (choice_duals m g h)) (choice_duals m g h)))
+        (sums_within (map paying (places (length m.buses)) ++ map paid (places (length m.units))) (modest_price * most_output)
         (Prim.omega (
           arith,
           market.bus_count,
           market.unit_count,
-          length-append (map (λ i. Product (bus_price m (choice_duals m g h) i) (demand m i)) (places (length m.buses))) (map (λ u. Product (neg_ℚ (own_price m (choice_duals m g h) (bus_price m (choice_duals m g h)) u)) (output m (choice_dispatch m g h) u)) (places (length m.units))),
-          length-map (places (length m.buses)) (λ i. Product (bus_price m (choice_duals m g h) i) (demand m i)),
-          length-map (places (length m.units)) (λ u. Product (neg_ℚ (own_price m (choice_duals m g h) (bus_price m (choice_duals m g h)) u)) (output m (choice_dispatch m g h) u)),
+          length-append (map paying (places (length m.buses))) (map paid (places (length m.units))),
+          length-map (places (length m.buses)) paying,
+          length-map (places (length m.units)) paid,
           length-range_with_len 0 (length m.buses),
           length-range_with_len 0 (length m.units),
         ))
-        (surplus_each best) (Prim.omega arith)
+        (surplus_each best) (Prim.omega arith))
 
     no_named : (d : Duals Fraction) (r : Row) → Contains (named_rows m d) r → ⊥
     no_named d r c = no_row m r bare (Contains-from_filter (λ (s : Row). names_row d.limits (row_id m s)) (rows m) r c).0

@@ -8,11 +8,12 @@ ghost use Rattle.market_model.specs.Fitting.{FitsMoney};
 ghost use Rattle.market_model.specs.Laws.{HasOffsetsWithin};
 ghost use Rattle.market_model.specs.NamedSums.{IsRefusedIn};
 ghost use Rattle.market_model.specs.Optimality.{ProperDuals};
-ghost use Rattle.market_model.specs.Valued.{duals_at, money_at, passed_at, total_at};
+ghost use Rattle.market_model.specs.Valued.{duals_at, money_at, passed_at, total_at, load_at, unit_pay_at};
 ghost use Rattle.market_model.specs.PutIn.{dispatch_of};
 ghost use Rattle.market_model.specs.RightAnswers.{settlement_at};
+ghost use Rattle.market_model.specs.Settlement.{paid_terms};
 ghost use Rattle.limit_screen.specs.Flows.{flows_at};
-ghost use Rattle.settlement.specs.Paying.{paid_terms, IsSupportedAt};
+ghost use Rattle.settlement.specs.Paying.{IsSupportedAt};
 ghost use Rattle.settlement.specs.Refusals.{IsMoneyStop, IsSettlementStop};
 
 use crate::loads::loads;
@@ -26,8 +27,8 @@ use std::alloc::Global;
 
 /// What loads pay, in bus order, less what units are paid, in unit order.
 fn surplus<N: Exact>(loads: &[Load<N>], units: &[UnitPay<N>]) -> Result<N, Passed<N>>
-    ensures left { IfOk result (λ left. N.value left ≡ total (paid_terms N.value loads.now units.now)) }
-    ensures cause { IfErr result (λ passed. IsRefusedIn (paid_terms N.value loads.now units.now) N.bound (passed_at N.value passed)) }
+    ensures left { IfOk result (λ left. N.value left ≡ total (paid_terms (map (load_at N.value) loads.now) (map (unit_pay_at N.value) units.now))) }
+    ensures cause { IfErr result (λ passed. IsRefusedIn (paid_terms (map (load_at N.value) loads.now) (map (unit_pay_at N.value) units.now)) N.bound (passed_at N.value passed)) }
 {
     let mut surplus: N = datum(0);
     for load in loads {

@@ -14,9 +14,8 @@ use Rattle.market_model.specs.Dispatch.{dispatch_with, places}
 use Rattle.market_model.specs.PutIn.{dispatch_of}
 use Rattle.limit_screen.proofs.ScreenLemmas.{flow_count}
 use Rattle.market_model.specs.declared.stops.Stop.TheVariants as why
-use Rattle.market_model.specs.Settlement.{surplus_terms_by, pay_of_load, pay_of_reserve, pay_of_unit}
+use Rattle.market_model.specs.Settlement.{surplus_terms_by, pay_of_load, pay_of_reserve, pay_of_unit, paid_terms}
 use Rattle.market_model.specs.SumTables.{left_of_all, payment}
-use Rattle.settlement.specs.Paying.{paid_terms}
 use Rattle.settlement.proofs.BlockFlows.{flows_of_blocks}
 use Rattle.settlement.proofs.ListLemmas.{sum_by-map}
 use Rattle.settlement.proofs.MoneyLemmas.{surplus_is, surplus_refused, rents_are_left, left_not_negative, count_fits, rows_fit}
@@ -71,7 +70,7 @@ returns-in_err-surplus-clause-cause g c =
       surplus_terms_by m x price d,
       payment _ left_of_all,
       surplus_refused value m x price d c.in_ok-loads.loads c.in_ok-units.units c.in_ok-loads.ensures.loads pays g.N.Exact.bound p
-          (subst₂ (λ (ls : List (Load g.row.N.Denot)) (us : List (UnitPay g.row.N.Denot)). IsRefusedIn (paid_terms value ls us) g.N.Exact.bound p) c.slice.ensures c.slice-2.ensures c.in_err-surplus.ensures.cause),
+          (subst₂ (λ (ls : List (Load g.row.N.Denot)) (us : List (UnitPay g.row.N.Denot)). IsRefusedIn (paid_terms (map (load_at value) ls) (map (unit_pay_at value) us)) g.N.Exact.bound p) c.slice.ensures c.slice-2.ensures c.in_err-surplus.ensures.cause),
     ))
 
 pub returns-clause-money : goal.returns-clause-money
@@ -91,7 +90,7 @@ returns-clause-money g c =
       rents = c.in_ok-rents.ensures.rents x (c.requires.flows ∙ flows_of_blocks m (map value c.args.dispatch.now) (map value c.args.reserve.now)) i;
       surplus = surplus_is value m x price d c.in_ok-loads.loads c.in_ok-units.units c.in_ok-loads.ensures.loads pays
           (value c.in_ok-surplus.surplus)
-          (subst₂ (λ (ls : List (Load g.row.N.Denot)) (us : List (UnitPay g.row.N.Denot)). value c.in_ok-surplus.surplus ≡ total (paid_terms value ls us)) c.slice.ensures c.slice-2.ensures c.in_ok-surplus.ensures.left) i;
+          (subst₂ (λ (ls : List (Load g.row.N.Denot)) (us : List (UnitPay g.row.N.Denot)). value c.in_ok-surplus.surplus ≡ total (paid_terms (map (load_at value) ls) (map (unit_pay_at value) us))) c.slice.ensures c.slice-2.ensures c.in_ok-surplus.ensures.left) i;
       reserve = reserved i;
     }
 
