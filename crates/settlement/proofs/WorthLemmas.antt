@@ -60,11 +60,14 @@ module _ {N : Type 0} (value : N → Fraction) (m : Parts) (ds : List N) where
   value_refused reserve k block d worth sum bound p below lt at same is w h =
       let x = dispatch_with (map value ds) reserve in
       let f : ℕ → Term = λ j. Product (block_value m j) (accepted x j) in
-      let r = terms_at f (length m.blocks) k below in
-      (welfare_terms m x, welfare_of_all, share_at (welfare_terms m x) (map f (places k)) ((r.0 ++ penalty_terms m (rows m) x) ++ reserve_cost_terms m x) (f k)
-      (in_front (value_terms m x ++ penalty_terms m (rows m) x) (map f (places k)) (r.0 ++ penalty_terms m (rows m) x) (reserve_cost_terms m x) (f k)
-      (in_front (value_terms m x) (map f (places k)) r.0 (penalty_terms m (rows m) x) (f k) r.1))
-      bound p sum worth (value d) (ap₂ Product (sym (value_is k block worth same w)) (accepted_is value ds k d lt at)) is h)
+      let r = terms_at f (length m.blocks) k below in (
+        welfare_terms m x,
+        welfare_of_all,
+        share_at (welfare_terms m x) (map f (places k)) ((r.0 ++ penalty_terms m (rows m) x) ++ reserve_cost_terms m x) (f k)
+            (in_front (value_terms m x ++ penalty_terms m (rows m) x) (map f (places k)) (r.0 ++ penalty_terms m (rows m) x) (reserve_cost_terms m x) (f k)
+            (in_front (value_terms m x) (map f (places k)) r.0 (penalty_terms m (rows m) x) (f k) r.1))
+            bound p sum worth (value d) (ap₂ Product (sym (value_is k block worth same w)) (accepted_is value ds k d lt at)) is h,
+      )
 
 -- ---- limits that give way
 module _ (m : Parts) (x : Dispatch) where
@@ -107,8 +110,12 @@ module _ (m : Parts) (x : Dispatch) where
       cost_refused left sum bound p all is (inl a) =
           inr (r, c, soft, flow_refusal_same m (carried_at m fs) (carried m x) r bound p (row_terms m x fs are r market c) a)
       cost_refused left sum bound p all is (inr a) =
-          inl (welfare_terms m x, welfare_of_all, share_at (welfare_terms m x) (energy_terms g) (penalty_terms m left x ++ reserve_cost_terms m x) (cost_term r) split bound p sum (neg_ℚ (penalty m r)) (excess_by m r (flow_by m (carried_at m fs) r))
-          (ap (Product (neg_ℚ (penalty m r))) (sym excess_is)) is a)
+          inl (
+            welfare_terms m x,
+            welfare_of_all,
+            share_at (welfare_terms m x) (energy_terms g) (penalty_terms m left x ++ reserve_cost_terms m x) (cost_term r) split bound p sum (neg_ℚ (penalty m r)) (excess_by m r (flow_by m (carried_at m fs) r))
+                (ap (Product (neg_ℚ (penalty m r))) (sym excess_is)) is a,
+          )
         where
           kept : filter (is_soft m) (rows m) ≡ filter (is_soft m) g ++ r ∷ filter (is_soft m) left
           kept =
@@ -187,8 +194,11 @@ module _ {N : Type 0} (value : N → Fraction) (m : Parts) (rs : List N) where
         → IsShareRefusal sum worth (value r) bound p → IsRefusedAmong (WelfareSum m whole_dispatch) bound p
     offer_refused front k offer r worth sum bound p of_energy below h is at w before why =
         let f : ℕ → Term = λ n. Product (neg_ℚ (offer_price m n)) (reserved whole_dispatch n) in
-        let t = terms_at f (length m.reserve.offers) k below in
-        (welfare_terms m whole_dispatch, welfare_of_all, share_at (welfare_terms m whole_dispatch) (energy_terms m whole_dispatch (rows m) ++ costs_to k) t.0 (f k)
-        (behind (energy_terms m whole_dispatch (rows m)) (reserve_cost_terms m whole_dispatch) (costs_to k) t.0 (f k) t.1)
-        bound p sum worth (value r) (offer_term_is k offer r worth h is at w)
-        (before ∙ ap (λ s. s +ℚ total (costs_to k)) of_energy ∙ sym (total-append (energy_terms m whole_dispatch (rows m)) (costs_to k))) why)
+        let t = terms_at f (length m.reserve.offers) k below in (
+          welfare_terms m whole_dispatch,
+          welfare_of_all,
+          share_at (welfare_terms m whole_dispatch) (energy_terms m whole_dispatch (rows m) ++ costs_to k) t.0 (f k)
+              (behind (energy_terms m whole_dispatch (rows m)) (reserve_cost_terms m whole_dispatch) (costs_to k) t.0 (f k) t.1)
+              bound p sum worth (value r) (offer_term_is k offer r worth h is at w)
+              (before ∙ ap (λ s. s +ℚ total (costs_to k)) of_energy ∙ sym (total-append (energy_terms m whole_dispatch (rows m)) (costs_to k))) why,
+        )
