@@ -1,5 +1,5 @@
 -- The limits and rooms that a dispatch doesn't keep where some are taken, and what follows where all are kept.
-use Rattle.std.specs.Prelude.{◌≡◌, ◌⊎◌, ℕ, Bool, true, false, List, [], ◌∷◌, Contains, refl}
+use Rattle.std.specs.Prelude.{◌≡◌, ◌⊎◌, Bool, true, false, List, [], ◌∷◌, Contains, refl}
 use Rattle.std.proofs.Common.{inl, inr, ap, sym, subst, subst₂, ◌∙◌, get_or}
 use Rattle.fraction_theory.specs.Fraction.{Fraction, neg_ℚ}
 use Rattle.fraction_theory.specs.Order.{◌<ℚ◌, ◌≤ℚ◌}
@@ -10,9 +10,9 @@ use Rattle.fraction_theory.proofs.OrderLaws.{NonNeg-one, by_le1, ≤ℚ_trans, �
 use Rattle.fraction_theory.proofs.Ring.{at, pneg, pone}
 use Rattle.market_model.specs.declared.participants.Parts.{Parts}
 use Rattle.market_model.specs.Dispatch.{Dispatch}
-use Rattle.market_model.specs.Overrun.{overrun, IsBeyond, IsWorst, Keeps, Within}
+use Rattle.market_model.specs.Overrun.{overrun, IsBeyond, Keeps, Within}
 use Rattle.market_model.specs.declared.limits.Row.{Row}
-use Rattle.market_model.specs.LimitRows.{rows, limit, flow, flow_by, most_flow}
+use Rattle.market_model.specs.LimitRows.{carried, rows, limit, flow, flow_by, most_flow}
 use Rattle.market_model.specs.Market.{IsMarket}
 use Rattle.market_model.specs.Optimality.{Feasible, FeasibleFor}
 use Rattle.market_model.specs.Reserves.{room, room_used}
@@ -21,13 +21,13 @@ use Rattle.market_system.specs.Growth.{BestFor, Broken}
 use Rattle.market_system.specs.MarketSystem.{is_in}
 use Rattle.market_system.proofs.RowOrder.{is_in-from, is_in-in}
 use Rattle.limit_screen.specs.Flows.{carried_at, flows_at}
-use Rattle.limit_screen.specs.Screening.{AllKeep}
+use Rattle.limit_screen.specs.Screening.{AllKeep, IsWorstBy}
 use Rattle.limit_screen.proofs.ScreenLemmas.{law_of_row_flows, limit_most, listed_row, not_passed}
 use Rattle.market_dict.specs.Takings.{IsTaking, limits_of, taken_of}
 use Rattle.market_dict.specs.declared.taking.Taking.{Taking}
 use Rattle.market_dict.specs.declared.taking.Taking.TheVariants.{Limit, Room}
-use Rattle.clear_loop.specs.Growing.{IsNew, IsPassed}
-use Rattle.clear_loop.specs.Rounds.{AllKept, IsScreened, KeepsAll}
+use Rattle.clear_loop.specs.Growing.{IsNew, IsPassedTaking}
+use Rattle.clear_loop.specs.Rounds.{IsScreened, KeepsAll}
 use Rattle.clear_loop.specs.declared.screen.Screened.TheVariants as screened
 
 -- ---- a limit that is passed
@@ -93,7 +93,7 @@ module _ (m : Parts) (market : IsMarket m) (ts : List Taking) (x : Dispatch) whe
     worst_new (Limit r) (place, worst) = beyond_new best.feasible r worst.counts
     worst_new (Room u) (kept, worst) = λ c. <ℚ-not-≤ℚ (room m u) (room_used m x u) worst.passed (best.feasible.rooms u c)
 
-    pub worst_passed : (t : Taking) → IsScreened value m (limits_of ts) x (screened.Broken t) → IsPassed m x t
+    pub worst_passed : (t : Taking) → IsScreened value m (limits_of ts) x (screened.Broken t) → IsPassedTaking m x t
     worst_passed (Limit r) (place, worst) = beyond_broken r worst.counts
     worst_passed (Room u) (kept, worst) = worst.passed
 
@@ -106,22 +106,24 @@ module _ (m : Parts) (market : IsMarket m) (g : List Row) (x : Dispatch) (fs : L
   row_is r c = law_of_row_flows m x fs r market puts c
 
   -- where all limits are kept, and where one is the worst
-  pub all_kept : AllKeep m g (carried_at m fs) → AllKept m g x
+  pub all_kept : AllKeep m g (carried_at m fs) → AllKeep m g (carried m x)
   all_kept keep r c = subst (Keeps m g r) (row_is r c) (keep r c)
 
   -- the worst row of the flows is that of the dispatch
-  pub worst_at : (place : ℕ) (r : Row) → IsWorst m g flow_at place r → IsWorst m g (flow m x) place r
-  worst_at place r worst =
-      let c : Contains (rows m) r = listed_row (rows m) place r worst.stands in
-      record {
-        stands = worst.stands;
-        counts = subst (IsBeyond m g r) (row_is r c) worst.counts;
-        most = λ k d lt beyond.
-            let s : Row = get_or (rows m) k d in
-            let cs : Contains (rows m) s = (k, lt, same_default (rows m) k s d lt) in
-            subst₂ (λ e f. e ≤ℚ f) (same s cs) (same r c) (worst.most k d lt (back s cs beyond));
-        first = λ i s lt stands beyond. let cs : Contains (rows m) s = listed_row (rows m) i s stands in subst₂ (λ e f. e <ℚ f) (same s cs) (same r c) (worst.first i s lt stands (back s cs beyond));
-      }
+  pub worst_at : (r : Row) → IsWorstBy m g (carried_at m fs) r → IsWorstBy m g (carried m x) r
+  worst_at r (place, worst) =
+      let c : Contains (rows m) r = listed_row (rows m) place r worst.stands in (
+        place,
+        record {
+          stands = worst.stands;
+          counts = subst (IsBeyond m g r) (row_is r c) worst.counts;
+          most = λ k d lt beyond.
+              let s : Row = get_or (rows m) k d in
+              let cs : Contains (rows m) s = (k, lt, same_default (rows m) k s d lt) in
+              subst₂ (λ e f. e ≤ℚ f) (same s cs) (same r c) (worst.most k d lt (back s cs beyond));
+          first = λ i s lt stands beyond. let cs : Contains (rows m) s = listed_row (rows m) i s stands in subst₂ (λ e f. e <ℚ f) (same s cs) (same r c) (worst.first i s lt stands (back s cs beyond));
+        },
+      )
     where
       same : (s : Row) → Contains (rows m) s → overrun m s (flow_at s) ≡ overrun m s (flow m x s)
       same s c = ap (overrun m s) (row_is s c)

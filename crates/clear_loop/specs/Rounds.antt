@@ -1,5 +1,5 @@
 -- What is in hand between two rounds of a clear, and what a round comes to.
-use Rattle.std.specs.Prelude.{◌≡◌, ◌⊎◌, ℕ, Option, Some, List, Result, Ok, Err, map, Contains}
+use Rattle.std.specs.Prelude.{◌≡◌, ◌⊎◌, ℕ, Option, Some, List, Result, Ok, Err, map}
 use Rattle.fraction_theory.specs.Fraction.{Fraction}
 use Rattle.exact_fraction.specs.declared.Passed.{Passed}
 use Rattle.linear_dict.specs.Dictionaries.{Dictionary}
@@ -11,8 +11,7 @@ use Rattle.market_model.specs.Dispatch.{Dispatch}
 use Rattle.market_model.specs.Fitting.{FitsMarket}
 use Rattle.market_model.specs.Infeasibility.{IsFarkas}
 use Rattle.market_model.specs.declared.limits.Row.{Row}
-use Rattle.market_model.specs.LimitRows.{flow, rows}
-use Rattle.market_model.specs.Overrun.{IsWorst, Keeps}
+use Rattle.market_model.specs.LimitRows.{carried}
 use Rattle.market_model.specs.RightAnswers.{IsRight}
 use Rattle.market_model.specs.SumTables.{IsRefusedAmong, RoomSum}
 use Rattle.market_model.specs.Valued.{answer_at, duals_at, farkas_at}
@@ -20,7 +19,7 @@ use Rattle.market_system.specs.Growth.{PricesOnly}
 use Rattle.market_system.specs.WorkingPairs.{IsRangeOf}
 use Rattle.limit_screen.specs.Flows.{carried_at, flows_at, IsFlowsRefusal}
 use Rattle.limit_screen.specs.Rooms.{AllKeepRooms, IsWorstRoom}
-use Rattle.limit_screen.specs.Screening.{IsScreenRefusal}
+use Rattle.limit_screen.specs.Screening.{AllKeep, IsScreenRefusal, IsWorstBy}
 use Rattle.market_model.specs.Stops.{StopsBy}
 use Rattle.market_dict.specs.Findings.{IsSolvedBy}
 use Rattle.market_dict.specs.Holding.{HoldsMarket}
@@ -48,13 +47,9 @@ pub record IsInHand {N : Type 0} (value : N → Fraction) (m : Parts) (h : Hand 
   pub posing : ArePricesAndBounds value m h.taken.takings h.posing
   pub listed : AreListed m h.taken
 
--- where some rows are taken, all rows of the market keep at a dispatch what they may be
-abbrev pub AllKept : Parts → List Row → Dispatch → Type 0
-AllKept m taken x = (r : Row) → Contains (rows m) r → Keeps m taken r (flow m x r)
-
--- and all units that offer reserve their rooms
+-- where some rows are taken, all rows of the market keep at a dispatch what they may be, and all units that offer reserve their rooms
 pub record KeepsAll (m : Parts) (taken : List Row) (x : Dispatch) : Type 0 where
-  pub limits : AllKept m taken x
+  pub limits : AllKeep m taken (carried m x)
   pub rooms : AllKeepRooms m x
 
 -- a dispatch and duals solve the market over some limits and rooms, and where these are taken all are kept
@@ -65,8 +60,8 @@ pub record IsSolution (m : Parts) (ts : List Taking) (x : Dispatch) (d : Duals F
 -- what a look at all limits and rooms comes to at a dispatch, where some rows are taken: the worst of the limits that are broken, or where
 -- all are kept the worst room that is passed, or the flows
 abbrev pub IsScreened : {N : Type 0} → (N → Fraction) → Parts → List Row → Dispatch → Screened N → Type 0
-IsScreened value m taken x (screened.Broken (taking.Limit row)) = (place : ℕ) × IsWorst m taken (flow m x) place row
-IsScreened value m taken x (screened.Broken (taking.Room unit)) = AllKept m taken x × IsWorstRoom m x unit
+IsScreened value m taken x (screened.Broken (taking.Limit row)) = IsWorstBy m taken (carried m x) row
+IsScreened value m taken x (screened.Broken (taking.Room unit)) = AllKeep m taken (carried m x) × IsWorstRoom m x unit
 IsScreened value m taken x (screened.Within flows) = KeepsAll m taken x × (map value flows.items ≡ flows_at m x)
 
 -- an operation refused where all limits and rooms are looked at: in the flows of the dispatch, in that of a row, or in what is used of a room

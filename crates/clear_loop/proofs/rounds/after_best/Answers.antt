@@ -6,7 +6,7 @@ use Rattle.market_model.specs.Stops.{StopsBy}
 use Rattle.market_system.specs.Growth.{BestFor}
 use Rattle.market_system.specs.MarketSystem.{choice_duals}
 use Rattle.market_dict.specs.Takings.{IsTaking, limits_of, taken_of}
-use Rattle.clear_loop.specs.Growing.{IsNew, IsPassed}
+use Rattle.clear_loop.specs.Growing.{IsNew, IsPassedTaking}
 use Rattle.clear_loop.specs.Rounds.{IsLookRefusal, IsScreened}
 use Rattle.clear_loop.specs.declared.screen.Screened.TheVariants as screened
 use Rattle.clear_loop.proofs.BrokenLemmas.{worst_new, worst_passed, worst_taking}
@@ -31,7 +31,7 @@ returns-in_err-taking-clause-cause g c =
 
 -- what is passed by the most, of those in hand
 passed_most : (g : Over) (c : In-Broken g) → let m = c.args.market.now in let ts = c.args.taken.takings in
-    IsTaking m c.in-Broken.taking × IsNew ts c.in-Broken.taking × ((x : Dispatch) × BestFor m (taken_of ts) x × IsPassed m x c.in-Broken.taking)
+    IsTaking m c.in-Broken.taking × IsNew ts c.in-Broken.taking × ((x : Dispatch) × BestFor m (taken_of ts) x × IsPassedTaking m x c.in-Broken.taking)
 passed_most g c =
     let value = g.N.Exact.value in
     let m = c.args.market.now in
