@@ -45,12 +45,12 @@ abbrev pub is_uneven : List UnitPickup → ℕ → Bool
 is_uneven unit_pickups u = not (int_eq (share_sum unit_pickups u) (pos share_one))
 
 -- the place of a unit among those that are lost
-abbrev pub outage_of : List ℕ → ℕ → ℕ
-outage_of lost u = unwrap_or (position (λ v. v == u) lost) 0
+abbrev pub lost_place : List ℕ → ℕ → ℕ
+lost_place lost u = unwrap_or (position (λ v. v == u) lost) 0
 
 -- a record by the place of its outage
 abbrev pub pickup_of : List ℕ → UnitPickup → Pickup
-pickup_of lost t = record { outage = outage_of lost t.lost; taker = t.taker; share = t.share }
+pickup_of lost t = record { outage = lost_place lost t.lost; taker = t.taker; share = t.share }
 
 -- ---- the outages
 -- at each outage shares that sum to 1 are picked up
