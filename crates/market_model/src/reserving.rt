@@ -54,7 +54,7 @@ pub fn room_quantity<N: Exact>(market: &Market, unit: usize) -> N
 }
 
 /// Whether one of these offers is of a unit.
-fn is_offered(offers: &[ReserveOffer], unit: usize) -> bool
+pub fn is_offered(offers: &[ReserveOffer], unit: usize) -> bool
     ensures { result ≡ offers_among offers.now unit }
 {
     for offer in offers {

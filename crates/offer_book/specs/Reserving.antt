@@ -1,15 +1,15 @@
 -- What a table of reserves stands for: the offers and the need of its records, or the first fault.
 use Rattle.std.specs.Prelude.{⊤, ℕ, ◌+◌, ◌≡◌, ◌≢◌, ◌==◌, ◌||◌, ◌&&◌, ℤ, pos, ◌≤ℤ◌, Bool, false, List, [], ◌∷◌, ◌++◌, length, map, codes, All, AllPairs, IfSome, Option, Some, None, is_some, Result, Ok, Err, unsigned_abs, nat_lt, if◌then◌else◌}
 use Rattle.std.specs.Int.Signed.{lt_z}
-use Rattle.std.specs.List.{list_any, position}
+use Rattle.std.specs.List.{position}
 use Rattle.std.specs.Option.{unwrap_or}
 use Rattle.std.specs.Str.{bytes_eq}
 use Rattle.market_data.specs.Participants.{IsDatum}
 use Rattle.market_data.specs.Scales.{mw_places, price_places}
 use Rattle.market_data.specs.declared.participants.UnitList.{UnitList}
 use Rattle.market_model.specs.declared.participants.Reserve.{Reserve}
-use Rattle.market_model.specs.declared.participants.ReserveOffer.{ReserveOffer}
 use Rattle.market_model.specs.Market.{IsReserveOffer}
+use Rattle.market_model.specs.Reserves.{offers_among}
 use Rattle.record_reading.specs.Records.{Record, cell_of}
 use Rattle.record_reading.specs.Steps.{and_then, checked, or_as}
 use Rattle.csv_table.specs.Table.{framed, number_in}
@@ -75,16 +75,12 @@ place_in list line number =
     else Ok (position (λ u. u.row == unsigned_abs number) list.units)
 
 -- ---- what a record adds to those before it
--- whether a unit is among those of some offers
-abbrev pub offers_before : ℕ → List ReserveOffer → Bool
-offers_before unit offers = list_any (λ offer. offer.unit == unit) offers
-
 -- an offer of the live unit of this place: its quantity is at least 0, and the unit has none yet
 unfoldable pub live_entry : Found → ℕ → ℕ → WrittenOffer → Result Entry ReserveFault
 live_entry found line unit offer =
     checked
     ((lt_z offer.quantity (pos 0), fault.Negative line)
-    ∷ (offers_before unit found.offers, fault.Twice line)
+    ∷ (offers_among found.offers unit, fault.Twice line)
     ∷ [])
     (Ok (entry.Offer (record { unit = unit; quantity = offer.quantity; price = offer.price })))
 
@@ -151,7 +147,7 @@ pub record OfferIsWritten (offer : WrittenOffer) : Type 0 where
 -- what may be added: an offer of one of so many units that has none yet, or a need of at least 0
 abbrev pub IsEntry : ℕ → Found → Entry → Type 0
 IsEntry units found entry.Dropped = ⊤
-IsEntry units found (entry.Offer offer) = IsReserveOffer units offer × (offers_before offer.unit found.offers ≡ false)
+IsEntry units found (entry.Offer offer) = IsReserveOffer units offer × (offers_among found.offers offer.unit ≡ false)
 IsEntry units found (entry.Need mw) = pos 0 ≤ℤ mw
 
 -- offers of some of so many units, no unit twice, and a need of at least 0 where there is one
