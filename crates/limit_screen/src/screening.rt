@@ -35,7 +35,7 @@ struct RowOverrun<N> {
 }
 
 /// By how much a flow passes a limit; nothing where it doesn't. That is never too large: its parts are no greater than those of the flow.
-fn beyond<N: Exact>(flow: N, limit: N) -> Result<Option<N>, Passed<N>>
+pub fn beyond<N: Exact>(flow: N, limit: N) -> Result<Option<N>, Passed<N>>
     requires { (mw : ℤ) × (pos 0 ≤ℤ mw) × (N.value limit ≡ whole mw) }
     ensures overrun { IfOk result (λ past. MatchOption past ((abs_ℚ (N.value flow) -ℚ N.value limit) ≤ℚ zero) (λ e. (zero <ℚ N.value e) × (N.value e ≡ abs_ℚ (N.value flow) -ℚ N.value limit))) }
     ensures fits { IfErr result (λ passed. ⊥) }

@@ -18,7 +18,8 @@ ghost use Rattle.settlement.specs.Refusals.{IsMoneyStop, IsSettlementStop};
 use crate::loads::loads;
 use crate::offers::reserve_pays;
 use crate::rents::rents;
-use crate::units::{lost_prices, own_prices, unit_pays};
+use crate::units::{lost_prices, unit_pays};
+use bus_prices::own_prices;
 use exact_fraction::{Exact, Passed, exact_sum};
 use limit_screen::flows_made;
 use market_model::{Duals, Load, Market, Money, Price, Stop, UnitPay, datum};
@@ -62,7 +63,7 @@ pub fn settle_flows<N: Exact>(
     ensures cause { IfErr result (IsMoneyStop N.value N.bound market.now (dispatch_with (map N.value dispatch.now) (map N.value reserve.now)) (total_at N.value prices.now) (duals_at N.value duals.now)) }
 {
     let _lines = market.lines();
-    let by_unit = own_prices(alloc, market, prices, duals)?;
+    let by_unit = own_prices(alloc, market, duals, prices)?;
     let units = unit_pays(alloc, market, dispatch, &by_unit)?;
     let own = lost_prices(alloc, market, &by_unit)?;
     let loads = loads(alloc, market, prices)?;
