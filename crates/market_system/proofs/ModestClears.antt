@@ -41,7 +41,7 @@ use Rattle.market_model.specs.SumTables.{injection_at, balance_from_bus, balance
 use Rattle.market_model.proofs.EnergyAlone.{no_offers, no_places, not_listed, no_units, no_unit, no_need, worth_is_price, welfare_alone}
 use Rattle.market_model.proofs.FarkasLaw.{farkas_terms-bare}
 use Rattle.market_model.proofs.RowLaws.{no_rows, no_row, bus_price-bare, congestion-bare, unit_price-bare}
-use Rattle.market_model.proofs.RowMembers.{lost_unit-in}
+use Rattle.market_model.proofs.RowMembers.{lost_unit-in, Contains-from_places}
 use Rattle.market_system.specs.MarketSystem.{balance_name, need_name, in_order, is_among, rooms_in_order, taken_in_order, system_over, system_of, point_dispatch, choice_dispatch, choice_duals}
 use Rattle.market_system.specs.MarketNumbers.{ClearingNumber, of_kind, of_solving, of_money, is_turned, MarketNumber, IsRightChoice, IsInjecting, IsFarkasOf}
 use Rattle.market_system.specs.MarketNumbers.{NamedSum, offset_of, factor_of, of_flow, of_reserve, output_of, of_price, of_worth, of_welfare, of_settlement, of_farkas_price, of_farkas_worth, farkas_bound_of}
@@ -49,7 +49,6 @@ use Rattle.market_system.specs.MarketNumbers.{of_system, of_sum, is_fixed, is_up
 use Rattle.market_system.specs.ModestMarkets.{IsModest, LawOfModestMarkets, modest_mw, modest_price}
 use Rattle.market_system.specs.Growth.{GrowsBy}
 use Rattle.market_system.proofs.SystemLaws.{nothing, variable_in}
-use Rattle.market_system.proofs.VariableLaws.{from_places}
 use Rattle.market_system.proofs.ModestNumbers.{IsWholeWithin, whole_within, nil_within, wider, neg_within, plus_within, times_within, same_within, number_fits, TermsWithin, append_within, map_within, prefix_within}
 use Rattle.market_system.proofs.ModestChoices.{entry_within, energy_within}
 use Rattle.market_system.proofs.ModestMarkets.{most_injection, most_balance, most_value, most_output, most_of, signed_within, load_within, shunt_within, fixed_within, up_within, down_within, quantity_within, price_within, block_value_within, injection_within, balance_within, output_terms_within, output_within, demand_within, empty_small, empty_balance_within, dispatch_small, system_within, output_count, output_each}
@@ -166,7 +165,7 @@ module _ (m : Parts) (market : IsMarket m) (lines : m.lines ≡ []) (energy : m.
         (prefix_within 4001 most_balance k (Product d.energy (balance m (empty m)) ∷ map weighed (places (length m.blocks)))
         (Prim.omega (arith, length-map (places (length m.blocks)) weighed, length-range_with_len 0 (length m.blocks), market.block_count)) (
           times_within 1 most_balance d.energy (balance m (empty m)) (farkas_energy_within d f) (empty_balance_within m market modest),
-          map_within most_balance weighed (places (length m.blocks)) (λ j c. let lt = from_places (length m.blocks) j c in
+          map_within most_balance weighed (places (length m.blocks)) (λ j c. let lt = Contains-from_places (length m.blocks) j c in
               wider modest_mw most_balance (part_above (block_weight m d j) *ℚ quantity m j) (Prim.omega arith)
               (times_within 1 modest_mw (part_above (block_weight m d j)) (quantity m j)
               (part_above_within 1 (block_weight m d j) (signed_within 1 (block_at m j).side (energy_worth m d (block_at m j).unit) (worth_within 1 d (block_at m j).unit (farkas_energy_within d f))))
@@ -277,17 +276,17 @@ module _ (m : Parts) (market : IsMarket m) (lines : m.lines ≡ []) (energy : m.
     -- the first terms of the welfare, and of what is settled
     welfare_each : IsRightChoice m g h → TermsWithin (modest_price * most_output) (block_terms m (choice_dispatch m g h))
     welfare_each best = map_within (modest_price * most_output) (λ j. Product (block_value m j) (accepted (choice_dispatch m g h) j)) (places (length m.blocks))
-        (λ j c. let lt = from_places (length m.blocks) j c in
+        (λ j c. let lt = Contains-from_places (length m.blocks) j c in
         times_within modest_price most_output (block_value m j) (accepted (choice_dispatch m g h) j) (block_value_within m market modest j lt)
         (wider modest_mw most_output (accepted (choice_dispatch m g h) j) (Prim.omega arith) (best_small best j lt)))
 
     surplus_each : IsRightChoice m g h → TermsWithin (modest_price * most_output) (surplus_terms m (choice_dispatch m g h) (choice_duals m g h))
     surplus_each best = append_within (modest_price * most_output) (map paying (places (length m.buses))) (map paid (places (length m.units)))
         (map_within (modest_price * most_output) paying (places (length m.buses)) (λ i c.
-        times_within modest_price most_output (bus_price m d i) (demand m i) (bus_price_within modest_price d i price_is_modest) (demand_within m market modest i (from_places (length m.buses) i c))))
+        times_within modest_price most_output (bus_price m d i) (demand m i) (bus_price_within modest_price d i price_is_modest) (demand_within m market modest i (Contains-from_places (length m.buses) i c))))
         (map_within (modest_price * most_output) paid (places (length m.units)) (λ u c.
         times_within modest_price most_output (neg_ℚ (own_price m d (bus_price m d) u)) (output m x u) (neg_within modest_price (own_price m d (bus_price m d) u) (own_price_within modest_price d u price_is_modest))
-        (output_within m market modest x (best_small best) u (from_places (length m.units) u c))))
+        (output_within m market modest x (best_small best) u (Contains-from_places (length m.units) u c))))
       where
         x : Dispatch
         x = choice_dispatch m g h

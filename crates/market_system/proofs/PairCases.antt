@@ -44,7 +44,7 @@ use Rattle.market_model.specs.SumTables.{injection_at, balance_from_bus, balance
 use Rattle.market_model.proofs.MarketSums.{block_unit-in, unit_bus-in}
 use Rattle.market_model.proofs.ReserveSums.{offer_unit-in}
 use Rattle.market_model.proofs.RoomLemmas.{listed-inside, offers-listed}
-use Rattle.market_model.proofs.RowMembers.{at_places}
+use Rattle.market_model.proofs.RowMembers.{at_places, Contains-from_places}
 use Rattle.market_system.specs.Growth.{Growth}
 use Rattle.market_system.specs.MarketNumbers.{ClearingNumber, of_kind, of_money, of_solving, is_turned, IsInjecting, IsFarkasOf, NamedSum, offset_of, factor_of, of_flow, of_reserve, output_of, of_price, of_worth, of_welfare, of_settlement, of_farkas_price, of_farkas_worth, farkas_bound_of, MarketNumber, of_system, of_sum, is_most_flow, is_line_offset, is_shift, is_loss, is_share, is_up, is_need, is_up_dual, is_down_dual, is_farkas_energy, is_farkas_up, is_farkas_down, is_farkas_reserve, is_farkas_room, of_opposite}
 use Rattle.market_system.specs.MarketSystem.{IsVariableOf, high, name, system_of, taken_in_order, choice_dispatch, choice_duals}
@@ -53,7 +53,7 @@ use Rattle.market_system.specs.declared.variables.Variable.TheVariants.{Block, O
 use Rattle.market_system.specs.PairLaw.{LawOfThePairs}
 use Rattle.market_system.proofs.DualLists.{rows_apart}
 use Rattle.market_system.proofs.RowOrder.{AreInOrder}
-use Rattle.market_system.proofs.VariableLaws.{from_places, high-at, taken-in_order, variable_in}
+use Rattle.market_system.proofs.VariableLaws.{high-at, taken-in_order, variable_in}
 use Rattle.market_system.specs.WorkingPairs.{IsRangeOf}
 
 -- ---- numbers of any sort that count with either sign
@@ -514,8 +514,8 @@ module _ (m : Parts) (taken : List Row) (g : Taken) (reached : Growth m taken g.
     bound_scaled =
         scaled_append Quantity (nothing_terms m d ++ map (block_most m d) (places (length m.blocks))) (map (offer_most m d) (offer_places m))
         (scaled_append Quantity (nothing_terms m d) (map (block_most m d) (places (length m.blocks))) nothing_scaled
-        (scaled_map Quantity (block_most m d) (places (length m.blocks)) (λ j c. block_scaled j (from_places (length m.blocks) j c))))
-        (scaled_map Quantity (offer_most m d) (offer_places m) (λ n c. offer_scaled n (from_places (length m.reserve.offers) n c)))
+        (scaled_map Quantity (block_most m d) (places (length m.blocks)) (λ j c. block_scaled j (Contains-from_places (length m.blocks) j c))))
+        (scaled_map Quantity (offer_most m d) (offer_places m) (λ n c. offer_scaled n (Contains-from_places (length m.reserve.offers) n c)))
 
   -- ---- every named sum
   by_sum : IsMarket m → (kind : Option Kind) (terms : List Term) → NamedSum m g h kind terms → IsRefusedIn terms bound p → IsRangeOf m taken bound p

@@ -43,8 +43,9 @@ use Rattle.market_system.proofs.DualLists.{NamesApart, rows_apart, takes_room, r
 use Rattle.market_system.proofs.MarketPoints.{point_of, point_meets, point_within, point_welfare, dispatch_at-accepted, dispatch_at-reserved, dispatch_reserve, dispatch_room, dispatch_welfare, dispatch_flow, dispatch_feasible, added_within, over_between, under_between}
 use Rattle.market_system.proofs.RowSums.{sum_by-alone}
 use Rattle.market_system.proofs.SoftRows.{kept_most, kept_nil, side_stands, side_unpriced}
-use Rattle.market_system.proofs.VariableLaws.{in_places, from_places, taken-in_order, is_system_over, column_in, offer_in, column_listed, excess_listed, variable_in, over_in, under_in, sum-rows, sum-variables, coefficient-at, price-at, low-at, high-at}
+use Rattle.market_system.proofs.VariableLaws.{taken-in_order, is_system_over, column_in, offer_in, column_listed, excess_listed, variable_in, over_in, under_in, sum-rows, sum-variables, coefficient-at, price-at, low-at, high-at}
 use Rattle.market_model.specs.Overrun.{Within}
+use Rattle.market_model.proofs.RowMembers.{Contains-places, Contains-from_places}
 
 -- ---- differences by their sign
 less_below : (x y : Fraction) → x <ℚ y → (x -ℚ y) <ℚ nil
@@ -361,10 +362,10 @@ module _ (m : Parts) (names : NamesApart m) (market : IsMarket m) (t : Taken) wh
 
       -- ---- rooms and the need
       in_blocks_of : (u j : ℕ) → Contains (blocks_of m u) j → j < length m.blocks
-      in_blocks_of u j c = from_places (length m.blocks) j (Contains-from_filter (λ i. (block_at m i).unit == u) (places (length m.blocks)) j c).0
+      in_blocks_of u j c = Contains-from_places (length m.blocks) j (Contains-from_filter (λ i. (block_at m i).unit == u) (places (length m.blocks)) j c).0
 
       in_offers_of : (u n : ℕ) → Contains (offers_of m u) n → n < length m.reserve.offers
-      in_offers_of u n c = from_places (length m.reserve.offers) n (Contains-from_filter (λ i. (offer_at m i).unit == u) (offer_places m) n c).0
+      in_offers_of u n c = Contains-from_places (length m.reserve.offers) n (Contains-from_filter (λ i. (offer_at m i).unit == u) (offer_places m) n c).0
 
       room_value : (u : ℕ) → Contains (rooms_in_order m t.rooms) u → room_used m dispatch u ≡ value s h (room_name m u)
       room_value u c = dispatch_room m apart t market (value s h) solved.best.meets u c
@@ -379,7 +380,7 @@ module _ (m : Parts) (names : NamesApart m) (market : IsMarket m) (t : Taken) wh
       need_price = neg_ℚ (reduced s h (need_name m))
 
       is_taken : (u : ℕ) → u < length m.units → takes_room m t.rooms u ≡ true → Contains (rooms_in_order m t.rooms) u
-      is_taken u lt e = subst (λ ws. Contains ws u) (sym (rooms_in_order-places m t.rooms)) (Contains-filter (takes_room m t.rooms) (places (length m.units)) u (in_places (length m.units) u lt) e)
+      is_taken u lt e = subst (λ ws. Contains ws u) (sym (rooms_in_order-places m t.rooms)) (Contains-filter (takes_room m t.rooms) (places (length m.units)) u (Contains-places (length m.units) u lt) e)
 
       low_room : (u : ℕ) → u < length m.units → room_cost u <ℚ nil → Contains (rooms_in_order m t.rooms) u × (value s h (room_name m u) ≡ neg_ℚ (whole (unit_at m u).down))
       low_room u lt = by (takes_room m t.rooms u) refl
@@ -434,15 +435,15 @@ module _ (m : Parts) (names : NamesApart m) (market : IsMarket m) (t : Taken) wh
 
           low_by : room_cost (block_at m j).unit <ℚ nil → accepted dispatch j ≡ where_low (block_at m j).side (quantity m j)
           low_by l = low_blocks (block_at m j).unit (block_unit-in m market j lt) l j
-              (Contains-filter (λ i. (block_at m i).unit == (block_at m j).unit) (places (length m.blocks)) j (in_places (length m.blocks) j lt) (same_itself (block_at m j).unit))
+              (Contains-filter (λ i. (block_at m i).unit == (block_at m j).unit) (places (length m.blocks)) j (Contains-places (length m.blocks) j lt) (same_itself (block_at m j).unit))
 
       -- where a MW on the need costs more than 0, all that is offered is accepted
       all_reserved : m.reserve.listed ≡ true → need_price <ℚ nil → (n : ℕ) → n < length m.reserve.offers → reserved dispatch n ≡ reserve_quantity m n
       all_reserved e l n lt =
-          all_reach (reserved dispatch) (reserve_quantity m) (offer_places m) (λ i c. offer_most i (from_places (length m.reserve.offers) i c))
+          all_reach (reserved dispatch) (reserve_quantity m) (offer_places m) (λ i c. offer_most i (Contains-from_places (length m.reserve.offers) i c))
           (subst (λ y. reserve_offered m ≤ℚ y)
           (sym (stands_high (need_name m) (variable_in m over_all Need e) (opposite_below (reduced s h (need_name m)) l) ∙ high-at m over_all ordered Need e) ∙ sym (need_value e) ∙ reserve-by_offers m dispatch)
-          (offered_most m)) n (in_places (length m.reserve.offers) n lt)
+          (offered_most m)) n (Contains-places (length m.reserve.offers) n lt)
 
       offer_supported : (n : ℕ) → n < length m.reserve.offers → OfferSupported m dispatch duals n
       offer_supported n lt = record {
@@ -472,7 +473,7 @@ module _ (m : Parts) (names : NamesApart m) (market : IsMarket m) (t : Taken) wh
 
           low_by : room_cost (offer_at m n).unit <ℚ nil → reserved dispatch n ≡ nil
           low_by l = low_offers (offer_at m n).unit (offer_unit-in m market n lt) l n
-              (Contains-filter (λ i. (offer_at m i).unit == (offer_at m n).unit) (offer_places m) n (in_places (length m.reserve.offers) n lt) (same_itself (offer_at m n).unit))
+              (Contains-filter (λ i. (offer_at m i).unit == (offer_at m n).unit) (offer_places m) n (Contains-places (length m.reserve.offers) n lt) (same_itself (offer_at m n).unit))
 
       -- ---- so are the need and the rooms
       need_supported : NeedSupported m dispatch duals

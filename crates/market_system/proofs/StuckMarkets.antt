@@ -42,13 +42,14 @@ use Rattle.market_model.proofs.RoomLemmas.{listed-inside, listed-offers}
 use Rattle.market_system.specs.MarketSystem.{name, balance_name, row_name, over_name, under_name, offer_name, need_name, room_name, is_in, in_order, is_among, rooms_in_order, taken_in_order, residual_demand, most_reserve, reserve_offered, block_sign, block_coefficient, system_of, duals_by_cost, IsVariableOf}
 use Rattle.market_system.proofs.Clamps.{lack, lack-nil, lack-below, where_low, block_more, offer_more, sum_more, buys_fit}
 use Rattle.market_model.specs.NamedSums.{SameSize}
+use Rattle.market_model.proofs.RowMembers.{Contains-from_places}
 use Rattle.market_system.specs.MarketNumbers.{IsFarkasOf}
 use Rattle.market_system.proofs.RowOrder.{RowsApart, in_order-filter, is_in-in, is_among-in, is_among-from, rooms_in_order-from, rooms_in_order-filter}
 use Rattle.market_system.proofs.DualLists.{NamesApart, rows_apart, takes_room, rooms_in_order-places, room_price-made, one_is_nil, up_by, down_by, up_sign, down_sign, up_is_part, down_is_part, up-made, down-made, net_price-made, prices_only-made, proper-made}
 use Rattle.market_system.proofs.MarketPoints.{is_system_of, both_parts, low-block, high-block, low-balance, high-balance, low-row, high-row, low-over, low-under, high-over, high-under, low-offer, high-offer, low-need, high-need, low-room, high-room, over_column, under_column, over_variable, under_variable, block_in, balance_in, row_in, offer_in, need_in, room_in}
 use Rattle.market_system.proofs.SolvedMarkets.{at_room, offer_listed_by, offered_most, rows-at, rows-offer, rows-over, rows-under, signed_minus, weight-made}
 use Rattle.market_system.proofs.SoftRows.{hard_stands, most_excess_least}
-use Rattle.market_system.proofs.VariableLaws.{by_variable, from_places, column_in, offer_in as offer_column, soft, sum-columns, sum-rows}
+use Rattle.market_system.proofs.VariableLaws.{by_variable, column_in, offer_in as offer_column, soft, sum-columns, sum-rows}
 use Rattle.market_system.specs.declared.variables.Variable.{Variable}
 use Rattle.market_system.specs.declared.variables.Variable.TheVariants.{Block, Balance, Limit, Over, Under, Offer, Need, Room}
 
@@ -263,7 +264,7 @@ module _ (m : Parts) (names : NamesApart m) (market : IsMarket m) (g : Taken) (h
   low_part j = lack (room_cost (block_at m j).unit) *ℚ where_low (block_at m j).side (quantity m j)
 
   blocks_at_most : blocks_most m stuck_duals ≤ℚ (sum_by (λ w. turned w *ℚ at_corner w) (places (length m.blocks)) +ℚ sum_by low_part (places (length m.blocks)))
-  blocks_at_most = sum_more (λ j. part_above (block_weight m stuck_duals j) *ℚ quantity m j) (λ w. turned w *ℚ at_corner w) low_part (places (length m.blocks)) (λ j c. each j (from_places (length m.blocks) j c))
+  blocks_at_most = sum_more (λ j. part_above (block_weight m stuck_duals j) *ℚ quantity m j) (λ w. turned w *ℚ at_corner w) low_part (places (length m.blocks)) (λ j c. each j (Contains-from_places (length m.blocks) j c))
     where
       each : (j : ℕ) → j < length m.blocks → (part_above (block_weight m stuck_duals j) *ℚ quantity m j) ≤ℚ (turned j *ℚ at_corner j +ℚ low_part j)
       each j lt =
@@ -276,7 +277,7 @@ module _ (m : Parts) (names : NamesApart m) (market : IsMarket m) (g : Taken) (h
   offers_at_most =
       subst (λ t. offers_most m stuck_duals ≤ℚ (sum_by (λ n. turned (offer_name m n) *ℚ at_corner (offer_name m n)) (offer_places m) +ℚ t)) (sum_by-times (lack need_price) (reserve_quantity m) (offer_places m))
       (sum_more (λ n. part_above (offer_weight m stuck_duals n) *ℚ reserve_quantity m n) (λ n. turned (offer_name m n) *ℚ at_corner (offer_name m n)) (λ n. lack need_price *ℚ reserve_quantity m n) (offer_places m)
-      (λ n c. each n (from_places (length m.reserve.offers) n c)))
+      (λ n c. each n (Contains-from_places (length m.reserve.offers) n c)))
     where
       each : (n : ℕ) → n < length m.reserve.offers
           → (part_above (offer_weight m stuck_duals n) *ℚ reserve_quantity m n) ≤ℚ (turned (offer_name m n) *ℚ at_corner (offer_name m n) +ℚ lack need_price *ℚ reserve_quantity m n)
@@ -505,7 +506,7 @@ module _ (m : Parts) (names : NamesApart m) (market : IsMarket m) (g : Taken) (h
       same_cost u = room_price_is u ∙ ap part_above (no_cost u) ∙ part_at_most nil (≤ℚ_refl nil) ∙ sym (no_cost u)
 
       blocks_same : blocks_most m stuck_duals ≡ sum_by made (places (length m.blocks))
-      blocks_same = sum_by-members (λ j. part_above (block_weight m stuck_duals j) *ℚ quantity m j) made (places (length m.blocks)) (λ j c. each j (from_places (length m.blocks) j c))
+      blocks_same = sum_by-members (λ j. part_above (block_weight m stuck_duals j) *ℚ quantity m j) made (places (length m.blocks)) (λ j c. each j (Contains-from_places (length m.blocks) j c))
         where
           each : (j : ℕ) → j < length m.blocks → part_above (block_weight m stuck_duals j) *ℚ quantity m j ≡ turned j *ℚ at_corner j
           each j lt =
