@@ -27,7 +27,7 @@ use Rattle.market_model.proofs.RoomLemmas.{listed-inside, offers-listed}
 use Rattle.market_model.proofs.SumSteps.{behind, in_front, minus_at, share_at, terms_at}
 use Rattle.cert_sums.specs.declared.worths.NamedRoom.{NamedRoom}
 use Rattle.cert_sums.specs.Named.{AreNamedRooms, PricedRoom, room_in, room_priced_at, room_priced_by}
-use Rattle.cert_sums.proofs.NamedLemmas.{filter_at}
+use Rattle.limit_rows.proofs.DualLemmas.{filter_at}
 
 -- ---- a room that is not named is free
 room_unnamed : (ds : List (RoomDual Fraction)) (row : ℕ) → names_room ds row ≡ false → room_price_in ds row ≡ zero

@@ -2,7 +2,6 @@
 -- Source: own; reasons are looked at in the order in which they are told.
 use Rattle.std.specs.Prelude.{◌≡◌, ℕ, [], ◌∷◌, ◌++◌, Contains}
 use Rattle.fraction_theory.specs.Fraction.{Fraction}
-use Rattle.exact_fraction.specs.declared.Op.TheVariants.{Plus}
 use Rattle.exact_fraction.specs.declared.Passed.{Passed}
 use Rattle.market_model.specs.declared.answered.Duals.{Duals}
 use Rattle.market_model.specs.declared.limits.Row.{Row}
@@ -10,11 +9,12 @@ use Rattle.market_model.specs.declared.participants.Parts.{Parts}
 use Rattle.market_model.specs.declared.stops.Stop.{Stop}
 use Rattle.market_model.specs.declared.stops.Stop.TheVariants as stop
 use Rattle.market_model.specs.Dispatch.{Dispatch}
-use Rattle.market_model.specs.LimitRows.{rows, limit, most_excess}
-use Rattle.market_model.specs.NamedSums.{IsRefusal, IsRefusedIn}
+use Rattle.market_model.specs.LimitRows.{rows, limit}
+use Rattle.market_model.specs.NamedSums.{IsRefusedIn}
 use Rattle.market_model.specs.Reserves.{reserve_terms}
 use Rattle.market_model.specs.SumTables.{IsRefusedAmong, BalanceSum, LimitFlowSum, PickupSum, RoomSum}
 use Rattle.market_model.specs.Valued.{passed_at}
+use Rattle.limit_rows.specs.Refusals.{IsMostFlowRefusal}
 use Rattle.cert_format.specs.declared.certificate.Cert.{Cert}
 use Rattle.cert_format.specs.declared.certificate.Cert.TheVariants.{Optimal, Farkas}
 use Rattle.cert_format.specs.Certificates.{places_of}
@@ -30,7 +30,7 @@ use Rattle.cert_verify.specs.Reasons.{NoneOf, balance_reason, dual_reasons, flow
 pub data IsLimitPair (m : Parts) (x : Dispatch) (bound : ℕ) (p : Passed Fraction) : Type 0 where
   of_flow : IsRefusedAmong (LimitFlowSum m x) bound p → IsLimitPair m x bound p
   of_pickup : (r : Row) → Contains (rows m) r → IsRefusedAmong (PickupSum m r) bound p → IsLimitPair m x bound p
-  of_most : (r : Row) → Contains (rows m) r → IsRefusal Plus (limit m r) (most_excess m r) bound p → IsLimitPair m x bound p
+  of_most : (r : Row) → Contains (rows m) r → IsMostFlowRefusal m r bound p → IsLimitPair m x bound p
 
 -- An operation is refused that a reason asks for, and none of the reasons before that one holds: the balance is added up where nothing is
 -- wrong with the parts, reserve where the dispatch balances, flows where the need is met too, what is used of rooms where no limit is broken

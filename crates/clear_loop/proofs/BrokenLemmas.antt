@@ -17,12 +17,13 @@ use Rattle.market_model.specs.Market.{IsMarket}
 use Rattle.market_model.specs.Optimality.{Feasible, FeasibleFor}
 use Rattle.market_model.specs.Reserves.{room, room_used}
 use Rattle.market_model.proofs.ChangeLemmas.{same_default}
+use Rattle.limit_rows.proofs.FlowSizes.{not_passed}
 use Rattle.market_system.specs.Growth.{BestFor, Broken}
 use Rattle.market_system.specs.MarketSystem.{is_in}
 use Rattle.market_system.proofs.RowOrder.{is_in-from, is_in-in}
 use Rattle.limit_screen.specs.Flows.{carried_at, flows_at}
 use Rattle.limit_screen.specs.Screening.{AllKeep, IsWorstBy}
-use Rattle.limit_screen.proofs.ScreenLemmas.{law_of_row_flows, limit_most, listed_row, not_passed}
+use Rattle.limit_screen.proofs.ScreenLemmas.{law_of_row_flows, limit_most, listed_row}
 use Rattle.market_dict.specs.Takings.{IsTaking, limits_of, taken_of}
 use Rattle.market_dict.specs.declared.taking.Taking.{Taking}
 use Rattle.market_dict.specs.declared.taking.Taking.TheVariants.{Limit, Room}

@@ -1,13 +1,11 @@
 -- The bound of duals added up: limit by limit, room by room, block by block and offer by offer.
-use Rattle.std.specs.Prelude.{◌≡◌, ◌⊎◌, ℕ, ◌+◌, ◌<◌, ◌≤◌, pos, Bool, true, false, cond, List, [], ◌∷◌, ◌++◌, map, filter, length, take, Contains, if◌then◌else◌, refl}
+use Rattle.std.specs.Prelude.{◌≡◌, ◌⊎◌, ℕ, ◌+◌, ◌<◌, ◌≤◌, pos, Bool, true, false, List, [], ◌∷◌, ◌++◌, map, filter, length, take, Contains, if◌then◌else◌, refl}
 use Rattle.std.specs.List.{flat_map}
-use Rattle.std.proofs.Common.{zero as none, suc, inl, inr, arith, ap, ap₂, sym, subst, subst₂, ◌∙◌, append_assoc, get_or}
+use Rattle.std.proofs.Common.{inl, inr, ap, ap₂, sym, subst, subst₂, ◌∙◌, append_assoc, get_or}
 use Rattle.std.proofs.lemmas.List.{take_all}
 use Rattle.std.proofs.lemmas.Grind.{flat_map-append}
 use Rattle.fraction_theory.specs.Fraction.{Fraction, whole, neg_ℚ, ◌+ℚ◌, ◌-ℚ◌, ◌*ℚ◌}
-use Rattle.fraction_theory.specs.Signs.{sign_of, where_above, part_above}
-use Rattle.fraction_theory.specs.declared.Sign.{Sign}
-use Rattle.fraction_theory.specs.declared.Sign.TheVariants.{Below, Zero}
+use Rattle.fraction_theory.specs.Signs.{part_above}
 use Rattle.fraction_theory.specs.Sums.{sum_by, Term, Plain, Product, total}
 use Rattle.fraction_theory.proofs.FieldLaws.{ring_ℚ, +ℚ_nil, +ℚ_assoc}
 use Rattle.fraction_theory.proofs.Ring.{by_ring, at, pneg, pnil, neg_neg, ◌⊕◌, ◌⊗◌}
@@ -32,46 +30,17 @@ use Rattle.market_model.proofs.FarkasParts.{farkas_terms-parts, need_refused as 
 use Rattle.market_model.proofs.MorePlaces.{sum_by_more, total-filter_more, total-places_more}
 use Rattle.market_model.proofs.RoomLemmas.{offers-listed}
 use Rattle.market_model.proofs.SumSteps.{minus_at, product_at, share_at, terms_at, tested_at, behind, in_front}
-use Rattle.limit_rows.proofs.DualLemmas.{IsRowOfDual, sum_named}
+use Rattle.limit_rows.proofs.DualLemmas.{IsRowOfDual, sum_named, filter_at}
 use Rattle.limit_rows.proofs.NamedLimits.{energy_left-by_named, limit_unnamed}
 use Rattle.clear_loop.specs.Bounding.{IsBoundRefusal, IsRowStepRefusal, IsSideRefusal, in_bound, in_factor, in_flow, in_lower, in_most, in_price, in_row_flow, in_row_most, in_upper, in_worth, of_lower, of_most, of_upper}
 
--- ---- prices of 0 make nothing
-pub nothing_made : (s price room : Fraction) → price ≡ whole (pos 0) → s ≡ s +ℚ price *ℚ room
-nothing_made s price room e = by_ring ring_ℚ (s ∷ room ∷ []) (at 0) (at 0 ⊕ pnil ⊗ at 1) refl ∙ ap (λ t. s +ℚ t *ℚ room) (sym e)
-
--- nor does a number that is not above 0, by its part above 0
-pub none_above : (s w room : Fraction) (t : Sign) → t ≡ sign_of w → (t ≡ Below) ⊎ (t ≡ Zero) → s ≡ s +ℚ part_above w *ℚ room
-none_above s w room t is some = nothing_made s (part_above w) room (sym (ap (λ (u : Sign). where_above u w) is) ∙ by some)
-  where
-    by : (t ≡ Below) ⊎ (t ≡ Zero) → where_above t w ≡ whole (pos 0)
-    by (inl e) = ap (λ (u : Sign). where_above u w) e
-    by (inr e) = ap (λ (u : Sign). where_above u w) e
-
+-- ---- limit by limit
 -- the lower side, by the flow turned round
 pub lower_side : (m : Parts) (r : Row) (up down sum above l f g : Fraction) (bound : ℕ) (p : Passed Fraction) → above ≡ sum +ℚ up *ℚ (l -ℚ f) → l ≡ most_flow m r → f ≡ flow m (empty m) r → g ≡ neg_ℚ f
     → IsSideRefusal above down l g bound p → IsRowStepRefusal m r up down sum bound p
 lower_side m r up down sum above l f g bound p first is flows turned h =
     in_lower
     (subst₂ (λ a b. IsSideRefusal (sum +ℚ up *ℚ (a -ℚ b)) down a (neg_ℚ b) bound p) is flows (subst₂ (λ a b. IsSideRefusal a down l b bound p) first turned h))
-
--- ---- a list round one of those that pass a test
-filter_at : {X : Type 0} (p : X → Bool) (xs : List X) (k : ℕ) (e : X) → k < length (filter p xs)
-    → (front : List X) × (rest : List X) × (xs ≡ front ++ get_or (filter p xs) k e ∷ rest) × (filter p front ≡ take k (filter p xs))
-filter_at p [] k e h = absurd (Prim.omega (arith, h))
-filter_at {X} p (x ∷ xs) k e h = by (p x) refl k (λ j lt. filter_at p xs j e lt) h
-  where
-    by : (b : Bool) → p x ≡ b → (j : ℕ)
-        → ((i : ℕ) → i < length (filter p xs) → (front : List X) × (rest : List X) × (xs ≡ front ++ get_or (filter p xs) i e ∷ rest) × (filter p front ≡ take i (filter p xs)))
-        → j < length (cond b (x ∷ filter p xs) (filter p xs))
-        → (front : List X) × (rest : List X) × (x ∷ xs ≡ front ++ get_or (cond b (x ∷ filter p xs) (filter p xs)) j e ∷ rest) × (filter p front ≡ take j (cond b (x ∷ filter p xs) (filter p xs)))
-    by true t none more lt = ([], xs, refl, refl)
-    by true t (suc j) more lt =
-        let r = more j (Prim.omega (arith, lt)) in
-        (x ∷ r.0, r.1, ap (λ ys. x ∷ ys) r.2, ap (λ (b : Bool). cond b (x ∷ filter p r.0) (filter p r.0)) t ∙ ap (λ ys. x ∷ ys) r.3)
-    by false t j more lt =
-        let r = more j lt in
-        (x ∷ r.0, r.1, ap (λ ys. x ∷ ys) r.2, ap (λ (b : Bool). cond b (x ∷ filter p r.0) (filter p r.0)) t ∙ r.3)
 
 -- the room of a unit that offers no reserve takes nothing
 pub no_room_price : (m : Parts) (d : Duals Fraction) (u : ℕ) (x : Fraction) → offers_reserve m u ≡ false → x ≡ x -ℚ room_price m d u

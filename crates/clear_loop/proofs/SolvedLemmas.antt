@@ -31,8 +31,8 @@ use Rattle.market_system.proofs.SolvedMarkets.{supports_by}
 use Rattle.limit_rows.proofs.ApartLemmas.{names_apart}
 use Rattle.limit_screen.proofs.ScreenLemmas.{flow_refusal_same, row_terms}
 use Rattle.limit_screen.specs.Flows.{carried_at, flows_at, IsFlowsRefusal}
-use Rattle.limit_screen.specs.Screening.{IsScreenRefusal}
 use Rattle.market_model.proofs.UnitPrices.{at_unit, left_at, own_at}
+use Rattle.limit_rows.specs.Refusals.{IsAnyFlowRefusal}
 use Rattle.settlement.specs.Paying.{ArePricesOf}
 use Rattle.settlement.specs.Refusals.{IsMoneyRefusal, IsWelfareRefusal}
 use Rattle.market_dict.specs.Findings.{IsSolvedBy}
@@ -83,7 +83,7 @@ module _ (m : Parts) (ts : List Taking) (x : Dispatch) (d : Duals Fraction) (mar
     flows_range : IsFlowsRefusal m x bound p → IsRangeOf m (limits_of ts) bound p
     flows_range (terms, sum, a) = flow_sum terms (flow_carried m x terms sum) a
 
-    screen_range : IsScreenRefusal m (carried_at m (flows_at m x)) bound p → IsRangeOf m (limits_of ts) bound p
+    screen_range : IsAnyFlowRefusal m (carried_at m (flows_at m x)) bound p → IsRangeOf m (limits_of ts) bound p
     screen_range (r, c, why) = row_sum r c (flow_refusal_same m (carried_at m (flows_at m x)) (carried m x) r bound p (row_terms m x (flows_at m x) refl r market c) why)
 
     rooms_range : IsRefusedAmong (RoomSum m x) bound p → IsRangeOf m (limits_of ts) bound p

@@ -19,7 +19,7 @@ use Rattle.market_system.specs.Growth.{PricesOnly}
 use Rattle.market_system.specs.WorkingPairs.{IsRangeOf}
 use Rattle.limit_screen.specs.Flows.{carried_at, flows_at, IsFlowsRefusal}
 use Rattle.limit_screen.specs.Rooms.{AllKeepRooms, IsWorstRoom}
-use Rattle.limit_screen.specs.Screening.{AllKeep, IsScreenRefusal, IsWorstBy}
+use Rattle.limit_screen.specs.Screening.{AllKeep, IsWorstBy}
 use Rattle.market_model.specs.Stops.{StopsBy}
 use Rattle.market_dict.specs.Findings.{IsSolvedBy}
 use Rattle.market_dict.specs.Holding.{HoldsMarket}
@@ -28,6 +28,7 @@ use Rattle.market_dict.specs.Takings.{limits_of}
 use Rattle.market_dict.specs.declared.taking.Taking.{Taking}
 use Rattle.market_dict.specs.declared.taking.Taking.TheVariants as taking
 use Rattle.market_model.specs.declared.stops.Stop.{Stop}
+use Rattle.limit_rows.specs.Refusals.{IsAnyFlowRefusal}
 use Rattle.clear_loop.specs.Growing.{GrowsByOne}
 use Rattle.clear_loop.specs.Keeping.{AreListed}
 use Rattle.clear_loop.specs.declared.hand.Hand.{Hand}
@@ -66,7 +67,7 @@ IsScreened value m taken x (screened.Within flows) = KeepsAll m taken x × (map 
 
 -- an operation refused where all limits and rooms are looked at: in the flows of the dispatch, in that of a row, or in what is used of a room
 abbrev pub IsLookRefusal : Parts → Dispatch → ℕ → Passed Fraction → Type 0
-IsLookRefusal m x bound p = IsFlowsRefusal m x bound p ⊎ IsScreenRefusal m (carried_at m (flows_at m x)) bound p ⊎ IsRefusedAmong (RoomSum m x) bound p
+IsLookRefusal m x bound p = IsFlowsRefusal m x bound p ⊎ IsAnyFlowRefusal m (carried_at m (flows_at m x)) bound p ⊎ IsRefusedAmong (RoomSum m x) bound p
 
 -- a right answer, or duals that show that nothing is feasible, with prices of no other rows
 abbrev pub IsEnd : {N : Type 0} → (N → Fraction) → Parts → List Row → Result (Answer N) (Farkas N) → Type 0

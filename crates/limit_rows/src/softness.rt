@@ -2,11 +2,10 @@
 
 ghost use Rattle.std.specs.Prelude.{◌≡◌, ◌<◌, ◌≤ℤ◌, pos, length, IfOk, IfErr};
 ghost use Rattle.fraction_theory.specs.Fraction.{whole};
-ghost use Rattle.exact_fraction.specs.declared.Op.TheVariants.{Plus};
 ghost use Rattle.market_data.specs.Participants.{IsDatum};
 ghost use Rattle.market_model.specs.LimitRows.{is_outage, is_soft, limit, most_excess, most_flow, penalty};
-ghost use Rattle.market_model.specs.NamedSums.{IsRefusal};
 ghost use Rattle.market_model.specs.Valued.{passed_at};
+ghost use Rattle.limit_rows.specs.Refusals.{IsMostFlowRefusal};
 
 use crate::places::limit_at;
 use exact_fraction::{Exact, Passed, exact_sum};
@@ -69,7 +68,7 @@ pub fn excess_at(market: &Market, row: Row) -> i64
 pub fn most_flow<N: Exact>(market: &Market, row: Row) -> Result<N, Passed<N>>
     requires { row.line < length market.now.lines }
     ensures most { IfOk result (λ most. N.value most ≡ most_flow market.now row) }
-    ensures cause { IfErr result (λ passed. IsRefusal Plus (limit market.now row) (most_excess market.now row) N.bound (passed_at N.value passed)) }
+    ensures cause { IfErr result (λ passed. IsMostFlowRefusal market.now row N.bound (passed_at N.value passed)) }
 {
     exact_sum(datum(limit_at(market, row)), datum(excess_at(market, row)))
 }

@@ -1,8 +1,7 @@
 -- The worst of some rows, with one row more.
-use Rattle.std.specs.Prelude.{◌≡◌, ◌⊎◌, ℕ, ℤ, ◌+◌, ◌-◌, ◌<◌, ◌≤◌, pos, List, [], ◌∷◌, ◌++◌, map, length, All, Option, Some, None, Contains, refl}
+use Rattle.std.specs.Prelude.{◌≡◌, ℕ, ℤ, ◌+◌, ◌-◌, ◌<◌, ◌≤◌, pos, List, [], ◌∷◌, ◌++◌, map, length, All, Option, Some, None, Contains, refl}
 use Rattle.std.specs.List.{slice_get}
-use Rattle.std.specs.Ordering.{MatchOrdering}
-use Rattle.std.proofs.Common.{zero, suc, arith, inl, inr, ap, sym, subst, ◌∙◌, get_or, drop, take, Ordering, Less, Equal, Greater}
+use Rattle.std.proofs.Common.{zero, suc, arith, inl, inr, ap, sym, subst, ◌∙◌, get_or, drop, take}
 use Rattle.std.proofs.lemmas.List.{length-append, get_or_append_left, get_or-append_right, get_or-drop, drop-map, take-map, take_rest}
 use Rattle.std.proofs.Math.Seq.{take-append_seam}
 use Rattle.std.proofs.lemmas.List.FromFn.{length-map-range_with_len, get_or-map-range_with_len}
@@ -10,18 +9,15 @@ use Rattle.std.proofs.lemmas.List.Elements.{All-append, All-cons, All-nil}
 use Rattle.std.proofs.lemmas.Option.{slice_get_within, get_or_from_slice_get}
 use Rattle.fraction_theory.specs.Fraction.{Fraction, whole, neg_ℚ, ◌+ℚ◌, ◌-ℚ◌}
 use Rattle.fraction_theory.specs.Order.{◌<ℚ◌, ◌≤ℚ◌}
-use Rattle.fraction_theory.specs.Signs.{sign_of, abs_ℚ, abs_by}
+use Rattle.fraction_theory.specs.Signs.{abs_ℚ}
 use Rattle.fraction_theory.specs.Sums.{total}
-use Rattle.fraction_theory.specs.declared.Sign.{Sign}
-use Rattle.fraction_theory.specs.declared.Sign.TheVariants.{Below, Zero, Above}
 use Rattle.fraction_theory.proofs.FieldLaws.{+ℚ_neg}
-use Rattle.fraction_theory.proofs.OrderLaws.{NonNeg-one, by_le1, not-≤ℚ, <ℚ-not-≤ℚ, ≤ℚ_refl, ≤ℚ_trans, <ℚ-≤ℚ, ≤ℚ_of_same, ≤ℚ-<ℚ_trans, +ℚ-≤ℚ, +ℚ-<ℚ, whole-≤ℚ}
+use Rattle.fraction_theory.proofs.OrderLaws.{NonNeg-one, by_le1, not-≤ℚ, <ℚ-not-≤ℚ, ≤ℚ_refl, ≤ℚ_trans, <ℚ-≤ℚ, ≤ℚ-<ℚ_trans, +ℚ-≤ℚ, +ℚ-<ℚ, whole-≤ℚ}
 use Rattle.fraction_theory.proofs.Ring.{at, padd, pneg, pnil, pone}
-use Rattle.fraction_theory.proofs.SignLaws.{IsSign, abs_within, sign_of_is}
 use Rattle.exact_fraction.specs.declared.Passed.{Passed}
 use Rattle.market_model.specs.declared.participants.Parts.{Parts}
 use Rattle.market_model.specs.Dispatch.{Dispatch, places, injection}
-use Rattle.market_model.specs.Overrun.{IsBeyond, IsFirstMost, Keeps, Within, overrun}
+use Rattle.market_model.specs.Overrun.{IsBeyond, IsFirstMost, Keeps, overrun}
 use Rattle.market_model.specs.declared.limits.Row.{Row}
 use Rattle.market_model.specs.LimitRows.{Carried, carried, flow_by, flow_terms, limit, line_flow, line_flows, lost_output, lost_outputs, most_excess, most_flow, rows}
 use Rattle.market_model.specs.NamedSums.{IsRefusedIn}
@@ -29,6 +25,7 @@ use Rattle.market_model.specs.PutIn.{carried_in, put_in}
 use Rattle.market_model.specs.SumTables.{IsFlowRefusal, flow_of_row}
 use Rattle.market_model.proofs.LinePenalties.{penalties}
 use Rattle.limit_rows.proofs.FlowSteps.{flow_terms-same}
+use Rattle.limit_rows.proofs.FlowSizes.{not_passed, size_kept}
 use Rattle.market_model.proofs.RowMembers.{at_places}
 use Rattle.limit_screen.specs.declared.screening.RowOverrun.{RowOverrun}
 use Rattle.market_model.specs.Market.{IsMarket}
@@ -36,13 +33,7 @@ use Rattle.limit_screen.specs.Bounds.{IsLeastOf}
 use Rattle.limit_screen.specs.Flows.{carried_at, flows_at, LawOfRowFlows}
 use Rattle.limit_screen.specs.Screening.{AllKeep, IsWorstOf}
 
--- ---- orders and differences
-pub not_past : (o : Ordering) (x y : Fraction) → MatchOrdering o (x <ℚ y) (x ≡ y) (y <ℚ x) → (o ≡ Less) ⊎ (o ≡ Equal) → x ≤ℚ y
-not_past Less x y h is = <ℚ-≤ℚ x y h
-not_past Equal x y h is = ≤ℚ_of_same x y h
-not_past Greater x y h (inl e) = absurd Prim.cc
-not_past Greater x y h (inr e) = absurd Prim.cc
-
+-- ---- differences
 pub above_nil : (x y : Fraction) → y <ℚ x → whole (pos 0) <ℚ (x -ℚ y)
 above_nil x y h = subst (λ z. z <ℚ (x -ℚ y)) (+ℚ_neg y) (+ℚ-<ℚ y x (neg_ℚ y) (neg_ℚ y) h (≤ℚ_refl (neg_ℚ y)))
 
@@ -89,24 +80,6 @@ module _ (Counts : Row → Type 0) (e : Row → Fraction) (rs : List Row) (r : R
           first = λ i s lt at. h.first i s lt (sym (slice_get-left rs (r ∷ []) i (Prim.omega (arith, lt, inside))) ∙ at);
         }
 
--- ---- a limit that holds
-from_opposite : (f F : Fraction) → neg_ℚ f ≤ℚ F → neg_ℚ F ≤ℚ f
-from_opposite f F h = by_le1 (f ∷ F ∷ []) (pneg (at 1)) (at 0) pone (pneg (at 0)) (at 1) NonNeg-one h refl
-
-below_opposite : (f : Fraction) → f ≤ℚ whole (pos 0) → f ≤ℚ neg_ℚ f
-below_opposite f h = ≤ℚ_trans f (whole (pos 0)) (neg_ℚ f) h (by_le1 (f ∷ []) pnil (pneg (at 0)) pone (at 0) pnil NonNeg-one h refl)
-
-opposite_below : (f : Fraction) → whole (pos 0) ≤ℚ f → neg_ℚ f ≤ℚ f
-opposite_below f h = ≤ℚ_trans (neg_ℚ f) (whole (pos 0)) f (by_le1 (f ∷ []) (pneg (at 0)) pnil pone pnil (at 0) NonNeg-one h refl) h
-
-within_size : (f F : Fraction) (s : Sign) → s ≡ sign_of f → abs_by s f ≤ℚ F → (neg_ℚ F ≤ℚ f) × (f ≤ℚ F)
-within_size f F s e h = by s (sign_of_is f s e) h
-  where
-    by : (t : Sign) → IsSign t f → abs_by t f ≤ℚ F → (neg_ℚ F ≤ℚ f) × (f ≤ℚ F)
-    by Below is h = (from_opposite f F h, ≤ℚ_trans f (neg_ℚ f) F (below_opposite f (<ℚ-≤ℚ f (whole (pos 0)) is)) h)
-    by Zero is h = (from_opposite f F (≤ℚ_trans (neg_ℚ f) f F (opposite_below f (≤ℚ_of_same (whole (pos 0)) f (sym is))) h), h)
-    by Above is h = (from_opposite f F (≤ℚ_trans (neg_ℚ f) f F (opposite_below f (<ℚ-≤ℚ (whole (pos 0)) f is)) h), h)
-
 -- ---- what a flow may be
 pub limit_passed : (s F : Fraction) → whole (pos 0) <ℚ (s -ℚ F) → F <ℚ s
 limit_passed s F h = not-≤ℚ s F (λ n. <ℚ-not-≤ℚ (whole (pos 0)) (s -ℚ F) h (below_nil s F n))
@@ -116,13 +89,6 @@ most_passed s F e h = not-≤ℚ s (F +ℚ e) (λ n. <ℚ-not-≤ℚ e (s -ℚ F
 
 most_kept : (s F e : Fraction) → (s -ℚ F) ≤ℚ e → s ≤ℚ (F +ℚ e)
 most_kept s F e h = by_le1 (s ∷ F ∷ e ∷ []) (at 0) (padd (at 1) (at 2)) pone (padd (at 0) (pneg (at 1))) (at 2) NonNeg-one h refl
-
-size_kept : (most f : Fraction) → abs_ℚ f ≤ℚ most → Within most f
-unfolding sign_of abs_ℚ
-size_kept most f h = let both = within_size f most (sign_of f) refl h in record { above = both.0; below = both.1 }
-
-pub not_passed : (most f : Fraction) → Within most f → ¬ (most <ℚ abs_ℚ f)
-not_passed most f within h = <ℚ-not-≤ℚ most (abs_ℚ f) h (abs_within f most within.above within.below)
 
 -- the excess is at least 0
 more_kept : (F e : Fraction) → whole (pos 0) ≤ℚ e → F ≤ℚ (F +ℚ e)

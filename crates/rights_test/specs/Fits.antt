@@ -1,6 +1,6 @@
 -- Whether limits could carry rights together, and where not, the first that is broken.
 -- Hogan, Contract Networks for Electric Power Transmission (1992): the simultaneous feasibility test.
-use Rattle.std.specs.Prelude.{◌≡◌, ◌⊎◌, ℕ, ◌==◌, ◌<◌, List, ◌∷◌, ◌++◌, length, map, filter, replicate, All, Contains}
+use Rattle.std.specs.Prelude.{◌≡◌, ◌⊎◌, ℕ, ◌==◌, ◌<◌, List, ◌∷◌, ◌++◌, length, map, filter, replicate, All}
 use Rattle.fraction_theory.specs.Fraction.{Fraction, whole}
 use Rattle.fraction_theory.specs.Sums.{Term, Plain}
 use Rattle.exact_fraction.specs.declared.Passed.{Passed}
@@ -12,7 +12,8 @@ use Rattle.market_model.specs.LimitRows.{Carried, carried_by, flow_by, limit, li
 use Rattle.market_model.specs.Optimality.{AreWithin}
 use Rattle.market_model.specs.Overrun.{Within}
 use Rattle.market_model.specs.Rights.{rights_injection, rights_injection_terms}
-use Rattle.market_model.specs.SumTables.{IsFlowRefusal, IsRefusedAmong, LineFlowSum}
+use Rattle.market_model.specs.SumTables.{IsRefusedAmong, LineFlowSum}
+use Rattle.limit_rows.specs.Refusals.{IsAnyFlowRefusal}
 use Rattle.rights_test.specs.declared.right_parts.Fit.{Fit}
 use Rattle.rights_test.specs.declared.right_parts.Fit.TheVariants.{Fits, Breaks}
 
@@ -64,6 +65,4 @@ pub data RightsFlowSum (m : Parts) (rights : List TransmissionRight) : List Term
 
 -- an operation refused where the fit of rights is looked for: in one of these, or for the flow of a row of the market
 abbrev pub IsFitRefusal : Parts → List TransmissionRight → ℕ → Passed Fraction → Type 0
-IsFitRefusal m rights bound p =
-    IsRefusedAmong (RightsFlowSum m rights) bound p
-    ⊎ ((r : Row) × Contains (rows m) r × IsFlowRefusal m (carried_for m rights) r bound p)
+IsFitRefusal m rights bound p = IsRefusedAmong (RightsFlowSum m rights) bound p ⊎ IsAnyFlowRefusal m (carried_for m rights) bound p

@@ -11,8 +11,9 @@ use Rattle.market_model.specs.PutIn.{dispatch_of}
 use Rattle.market_model.proofs.StopLemmas.{on_passed_weaker}
 use Rattle.limit_screen.specs.Flows.{carried_at, flows_at, IsFlowsRefusal}
 use Rattle.limit_screen.specs.Rooms.{AllKeepRooms, IsWorstRoom}
-use Rattle.limit_screen.specs.Screening.{AllKeep, IsScreenRefusal, IsWorstBy}
+use Rattle.limit_screen.specs.Screening.{AllKeep, IsWorstBy}
 use Rattle.market_model.specs.declared.stops.Stop.TheVariants as stop
+use Rattle.limit_rows.specs.Refusals.{IsAnyFlowRefusal}
 use Rattle.limit_screen.proofs.ScreenLemmas.{flow_count}
 use Rattle.settlement.proofs.BlockFlows.{flows_of_blocks, flows_refusal}
 use Rattle.clear_loop.proofs.BrokenLemmas.{all_kept, worst_at}
@@ -54,7 +55,7 @@ returns-in_err-row-clause-cause g c =
     let fs = flows_are g (goal.at.returns-in_err-row-clause-cause g c).After-deref-2 in
     let p = err_from_is_err_and c.from_residual-in_err-row.result c.from_residual-in_err-row.ensures.1 in
     let given : c.from_residual-in_err-row.result ≡ Err (stop.Passed c.in_err-row.field-0.0) = p.1 ∙ ap Err p.2 in
-    rw given (inr (inl (subst (λ (ys : List Fraction). IsScreenRefusal m (carried_at m ys) g.N.Exact.bound (passed_at value c.in_err-row.field-0.0)) fs c.in_err-row.ensures.cause)))
+    rw given (inr (inl (subst (λ (ys : List Fraction). IsAnyFlowRefusal m (carried_at m ys) g.N.Exact.bound (passed_at value c.in_err-row.field-0.0)) fs c.in_err-row.ensures.cause)))
 
 pub returns-in-Some-clause-screened : goal.returns-in-Some-clause-screened
 returns-in-Some-clause-screened g c =

@@ -5,7 +5,8 @@ use Rattle.fraction_theory.specs.Fraction.{whole}
 use Rattle.fraction_theory.specs.Order.{◌<ℚ◌, ◌≤ℚ◌}
 use Rattle.market_model.specs.Dispatch.{zero}
 use Rattle.market_model.proofs.RowMembers.{at_places}
-use Rattle.limit_screen.proofs.ScreenLemmas.{beyond_most, not_past}
+use Rattle.limit_rows.proofs.FlowSizes.{not_past}
+use Rattle.limit_screen.proofs.ScreenLemmas.{beyond_most}
 use Rattle.limit_screen.proofs.TakenLemmas.{keeps_iff}
 use Rattle.limit_screen.proofs.screening.keeps_excess.Goals as goal
 
