@@ -50,7 +50,7 @@ pub fn is_soft(market: &Market, row: Row) -> bool
 }
 
 /// The most by which the flow of a row may exceed its limit, in 10^-9 MW.
-pub fn excess_at(market: &Market, row: Row) -> i64
+pub fn most_excess_at(market: &Market, row: Row) -> i64
     requires { row.line < length market.now.lines }
     ensures datum { IsDatum result }
     ensures sign { pos 0 ≤ℤ result }
@@ -70,5 +70,5 @@ pub fn most_flow<N: Exact>(market: &Market, row: Row) -> Result<N, Passed<N>>
     ensures most { IfOk result (λ most. N.value most ≡ most_flow market.now row) }
     ensures cause { IfErr result (λ passed. IsMostFlowRefusal market.now row N.bound (passed_at N.value passed)) }
 {
-    exact_sum(datum(limit_at(market, row)), datum(excess_at(market, row)))
+    exact_sum(datum(limit_at(market, row)), datum(most_excess_at(market, row)))
 }

@@ -21,7 +21,7 @@ use crate::flowing::carried_flows;
 use crate::parts::WholeParts;
 use crate::taking::{TakenRows, is_taken};
 use exact_fraction::{Exact, Passed, exact_difference, size};
-use limit_rows::{excess_at, limit_at, name_at, row_flow, rows};
+use limit_rows::{limit_at, most_excess_at, name_at, row_flow, rows};
 use market_model::{Market, Row, RowId, datum};
 use std::cmp::Ordering;
 
@@ -56,7 +56,7 @@ fn keeps_excess<N: Exact>(market: &Market, taken: TakenRows<'_>, row: Row, overr
     ensures { (g : List Row) (f : Fraction) → AreTakenRows market.now g taken.entry → N.value overrun ≡ overrun_of market.now row f → MatchBool result (Keeps market.now g row f) (IsBeyond market.now g row f) }
 {
     let _lines = market.lines();
-    match overrun.order(datum(excess_at(market, row))) {
+    match overrun.order(datum(most_excess_at(market, row))) {
         Ordering::Greater => false,
         Ordering::Less | Ordering::Equal => is_taken(market, taken, row),
     }

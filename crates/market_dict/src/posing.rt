@@ -20,7 +20,7 @@ ghost use Rattle.market_dict.specs.declared.taking.Taking.TheVariants as taking;
 use crate::Taking;
 use crate::offering::{need_bounds, push_offer_bounds, push_offer_prices, room_bounds};
 use exact_fraction::{Exact, Passed, exact_difference};
-use limit_rows::{excess_at, is_soft, limit_at, penalty_at, row_flow};
+use limit_rows::{is_soft, limit_at, most_excess_at, penalty_at, row_flow};
 use limit_screen::{bus_injections, carried_flows, flows_made};
 use market_model::{Market, Row, Stop, balance, block_quantity, block_value, datum, zeros};
 use plain_list::{List, Memory};
@@ -204,7 +204,7 @@ fn take_columns<N: Exact>(
     let penalty: N = datum(penalty_at(market, row));
     let bounds = Bounds {
         low: datum(0),
-        high: datum(excess_at(market, row)),
+        high: datum(most_excess_at(market, row)),
     };
     posing.prices.push(penalty.neg())?;
     posing.prices.push(penalty.neg())?;

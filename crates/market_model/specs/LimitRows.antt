@@ -38,8 +38,8 @@ limit_of post line = if post then line.post else line.base
 abbrev pub penalty_of : Bool → Line → ℤ
 penalty_of post line = if post then line.post_price else line.base_price
 
-abbrev pub excess_of : Bool → Line → ℤ
-excess_of post line = if post then line.post_excess else line.base_excess
+abbrev pub most_excess_of : Bool → Line → ℤ
+most_excess_of post line = if post then line.post_excess else line.base_excess
 
 -- whether a cause is an outage; limits, penalties and excesses after an outage are the same after each
 abbrev pub is_outage : Cause → Bool
@@ -114,7 +114,7 @@ penalty m r = whole (penalty_of (is_outage r.cause) (line_at m r.line))
 
 -- the most by which its flow may exceed it
 abbrev pub most_excess : Parts → Row → Fraction
-most_excess m r = whole (excess_of (is_outage r.cause) (line_at m r.line))
+most_excess m r = whole (most_excess_of (is_outage r.cause) (line_at m r.line))
 
 -- the greatest size that its flow may have
 abbrev pub most_flow : Parts → Row → Fraction
