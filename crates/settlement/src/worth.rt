@@ -2,8 +2,7 @@
 
 ghost use Rattle.std.specs.Prelude.{◌≡◌, ◌⊎◌, ◌+◌, ◌<◌, ◌++◌, List, length, map, IfOk, IfErr};
 ghost use Rattle.std.specs.List.{list_any};
-ghost use Rattle.fraction_theory.specs.Fraction.{Fraction, neg_ℚ, ◌+ℚ◌, ◌*ℚ◌, whole};
-ghost use Rattle.market_data.specs.Participants.{IsDatum};
+ghost use Rattle.fraction_theory.specs.Fraction.{Fraction, neg_ℚ, ◌+ℚ◌, ◌*ℚ◌};
 ghost use Rattle.fraction_theory.specs.Sums.{total};
 ghost use Rattle.market_model.specs.Dispatch.{Dispatch, dispatch_with};
 ghost use Rattle.market_model.specs.LimitRows.{IsCauseOf, flow_by, penalty, rows as rows_of};
@@ -21,7 +20,7 @@ use crate::rows::excess;
 use exact_fraction::{Exact, Passed};
 use limit_rows::{is_soft, penalty_at, row_flow, rows};
 use limit_screen::carried_flows;
-use market_model::{Line, Market, ReserveOffer, Row, block_value, datum};
+use market_model::{Line, Market, Row, block_value, datum, offer_value};
 
 /// The value of what is bought less the cost of what is sold, in block order.
 fn values<N: Exact>(market: &Market, dispatch: &[N]) -> Result<N, Passed<N>>
@@ -86,16 +85,6 @@ fn less_penalties<N: Exact>(market: &Market, flows: &[N], values: N) -> Result<N
         }
     }
     Ok(sum)
-}
-
-/// What accepting a MW of an offer of reserve is worth, in 10^-6 per MWh: the opposite of its price.
-#[tactic(auto, using(market_data::proofs::Data::datum_read))]
-fn offer_value<N: Exact>(offer: &ReserveOffer) -> N
-    requires { IsDatum offer.now.price }
-    ensures { N.value result ≡ neg_ℚ (whole offer.now.price) }
-{
-    let price: N = datum(offer.price);
-    price.neg()
 }
 
 /// The worth of blocks and limits less what the accepted reserve costs, in the order of the offers.
