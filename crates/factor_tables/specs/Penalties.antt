@@ -10,6 +10,7 @@ use Rattle.record_reading.specs.Steps.{and_then, checked, fine}
 use Rattle.record_reading.specs.Rows.{read_rows}
 use Rattle.csv_table.specs.Table.{framed}
 use Rattle.market_data.specs.Participants.{IsDatum}
+use Rattle.market_data.specs.Scales.{most_penalties}
 use Rattle.net_case.specs.Networks.{LiveNetwork}
 use Rattle.net_case.specs.declared.live_parts.NetBranch.{NetBranch}
 use Rattle.factor_tables.specs.declared.cells.PenaltyRecord.{PenaltyRecord}
@@ -78,9 +79,6 @@ penalty_entry network done line r =
     if has_penalty done (limit_named numbers) then Err (fault.Twice line) else Ok (limit_named numbers, numbers.penalty)))
 
 -- ---- the table
-abbrev pub most_penalties : ℕ
-most_penalties = 4000
-
 abbrev pub penalty_header : Record
 penalty_header = codes "branch" ∷ codes "limit" ∷ codes "price" ∷ codes "excess" ∷ []
 

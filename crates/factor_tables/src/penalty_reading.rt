@@ -13,14 +13,12 @@ use crate::names::is_row;
 use crate::penalty_list::{Penalties, Penalty};
 use csv_table::{Table, read_table};
 use indexmap::IndexMap;
+use market_data::MOST_PENALTIES;
 use net_case::{NetBranch, Network};
 use std::alloc::Global;
 
 /// The header of the table of penalties.
 pub const PENALTY_HEADER: &[&str] = &["branch", "limit", "price", "excess"];
-
-/// The most records of the table: one for each limit that the most branches can have.
-const MOST_PENALTIES: usize = 4000;
 
 /// Whether a branch has a limit after an outage, or in the base.
 fn is_limited(branch: &NetBranch, post: bool) -> bool

@@ -5,7 +5,7 @@ use Rattle.std.specs.List.{position}
 use Rattle.std.specs.Option.{unwrap_or}
 use Rattle.std.specs.Str.{bytes_eq}
 use Rattle.market_data.specs.Participants.{IsDatum}
-use Rattle.market_data.specs.Scales.{mw_places, price_places}
+use Rattle.market_data.specs.Scales.{mw_places, price_places, most_reserves}
 use Rattle.market_data.specs.declared.participants.UnitList.{UnitList}
 use Rattle.market_model.specs.declared.participants.Reserve.{Reserve}
 use Rattle.market_model.specs.Market.{IsReserveOffer}
@@ -21,10 +21,6 @@ use Rattle.offer_book.specs.declared.reserve_reading.Kind.TheVariants as kind
 use Rattle.offer_book.specs.declared.reserve_reading.WrittenOffer.{WrittenOffer}
 use Rattle.offer_book.specs.declared.reserve_reading.ReserveFault.{ReserveFault}
 use Rattle.offer_book.specs.declared.reserve_reading.ReserveFault.TheVariants as fault
-
--- an offer of each unit, and a need
-abbrev pub most_reserves : ℕ
-most_reserves = 1001
 
 -- ---- the columns
 abbrev pub reserve_header : Record

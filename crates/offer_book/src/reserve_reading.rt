@@ -7,6 +7,7 @@ ghost use Rattle.offer_book.specs.Reserving.{AreFound, IsEntry, OfferIsWritten, 
 
 use crate::offer_table::place_of;
 use csv_table::{Table, read_table};
+use market_data::MOST_RESERVES;
 use market_model::{
     List, MW_PLACES, Memory, PRICE_PLACES, Reserve, ReserveOffer, UnitList, is_offered,
 };
@@ -16,9 +17,6 @@ use thiserror::Error;
 
 /// The header of the table.
 pub const RESERVE_HEADER: &[&str] = &["kind", "unit", "mw", "price"];
-
-/// The most records of the table: an offer of each unit, and a need.
-const MOST_RESERVES: usize = 1001;
 
 /// The column of the word that says what a record is.
 const KIND: usize = 0;

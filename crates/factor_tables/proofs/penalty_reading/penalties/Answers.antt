@@ -1,7 +1,8 @@
 use Rattle.std.proofs.Common.{rules, ◌≡◌, ◌∙◌, sym, ap, Some, Err, [], refl}
 use Rattle.record_reading.specs.Rows.{read_rows}
+use Rattle.market_data.specs.Scales.{most_penalties}
 use Rattle.factor_tables.specs.declared.table_fault.TableFault.TheVariants as fault
-use Rattle.factor_tables.specs.Penalties.{most_penalties, penalties_of, penalty_entry, penalty_header}
+use Rattle.factor_tables.specs.Penalties.{penalties_of, penalty_entry, penalty_header}
 use Rattle.csv_table.proofs.Framed.{framed-fault, framed-fits}
 use Rattle.factor_tables.proofs.penalty_reading.penalties.Goals as goal
 
