@@ -7,7 +7,7 @@ use Rattle.std.specs.Ordering.{int_eq}
 use mathlib.Core.Bool.{beq}
 use Rattle.record_reading.specs.Records.{Record}
 use Rattle.record_reading.specs.Steps.{and_then, checked, fine}
-use Rattle.record_reading.specs.Rows.{read_rows}
+use Rattle.record_reading.specs.Gathering.{read_records}
 use Rattle.csv_table.specs.Table.{framed}
 use Rattle.market_data.specs.Participants.{IsDatum}
 use Rattle.market_data.specs.Scales.{most_penalties}
@@ -83,4 +83,4 @@ abbrev pub penalty_header : Record
 penalty_header = codes "branch" ∷ codes "limit" ∷ codes "price" ∷ codes "excess" ∷ []
 
 unfoldable pub penalties_of : LiveNetwork → List ℕ → Result (List PenaltyEntry) TableFault
-penalties_of network bytes = and_then (framed fault.Frame penalty_header (Some most_penalties) bytes) (read_rows (penalty_entry network) [] 2)
+penalties_of network bytes = and_then (framed fault.Frame penalty_header (Some most_penalties) bytes) (read_records (penalty_entry network) [] 2)

@@ -1,7 +1,7 @@
 //! Reading the table of penalties.
 
 ghost use Rattle.std.specs.Prelude.{◌≡◌, ◌≢◌, ℕ, ◌+◌, ◌<◌, ◌^◌, length, get_or, [], List, Ok, Err, IfOk, IfErr, is_some, false};
-ghost use Rattle.record_reading.specs.Rows.{read_rows};
+ghost use Rattle.record_reading.specs.Gathering.{read_records};
 ghost use Rattle.record_reading.specs.Steps.{checked, fine};
 ghost use Rattle.factor_tables.specs.Penalties.{ArePenalties, GivesWay, has_limit, has_penalty, limit_of, penalties_of, penalty_entry, penalty_faults};
 ghost use Rattle.factor_tables.specs.Records.{PenaltyIsRead};
@@ -95,8 +95,8 @@ fn entries_of(
     table: &Table,
 ) -> Result<IndexMap<(u32, bool), Penalty>, TableFault>
     ensures kept { IfOk result (λ by_limit. ArePenalties by_limit.entries) }
-    ensures ok { IfOk result (λ by_limit. read_rows (penalty_entry network.now) [] 2 table.now ≡ Ok by_limit.entries) }
-    ensures err { IfErr result (λ fault. fault ≢ TableFault.Memory → read_rows (penalty_entry network.now) [] 2 table.now ≡ Err fault) }
+    ensures ok { IfOk result (λ by_limit. read_records (penalty_entry network.now) [] 2 table.now ≡ Ok by_limit.entries) }
+    ensures err { IfErr result (λ fault. fault ≢ TableFault.Memory → read_records (penalty_entry network.now) [] 2 table.now ≡ Err fault) }
 {
     let mut by_limit = IndexMap::new(alloc);
     for place in 0..table.len() {

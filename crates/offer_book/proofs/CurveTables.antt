@@ -8,7 +8,7 @@ use Rattle.std.proofs.lemmas.List.Elements.{filter-append}
 use Rattle.std.proofs.lemmas.List.Quantifiers.{all_pairs_push}
 use Rattle.record_reading.specs.Records.{Record}
 use Rattle.record_reading.specs.Steps.{and_then}
-use Rattle.record_reading.specs.Rows.{listed, gather}
+use Rattle.record_reading.specs.Gathering.{listed, gather}
 use Rattle.record_reading.proofs.StepLemmas.{ok-same, some-ok, then-ok}
 use Rattle.csv_table.specs.Table.{framed}
 use Rattle.market_data.specs.declared.participants.Unit as unit

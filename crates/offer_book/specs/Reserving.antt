@@ -121,14 +121,14 @@ found_with found (entry.Need mw) = record { offers = found.offers; need = Some m
 -- what records give behind those before them, the first of them having the line that is given, or the first fault
 unfoldable pub found_from : UnitList → Found → ℕ → List Record → Result Found ReserveFault
 found_from units found line [] = Ok found
-found_from units found line (r ∷ rows) = and_then (entry_in units found line r) (λ more. found_from units (found_with found more) (line + 1) rows)
+found_from units found line (r ∷ records) = and_then (entry_in units found line r) (λ more. found_from units (found_with found more) (line + 1) records)
 
 -- the reserve of what so many records gave: it is listed where there is a record, and none is needed where no record says how much
 abbrev pub reserve_from : ℕ → Found → Reserve
 reserve_from count found = record { listed = nat_lt 0 count; offers = found.offers; need = unwrap_or found.need (pos 0) }
 
 unfoldable pub reserve_in : UnitList → List Record → Result Reserve ReserveFault
-reserve_in units rows = and_then (found_from units nothing_found 2 rows) (λ found. Ok (reserve_from (length rows) found))
+reserve_in units records = and_then (found_from units nothing_found 2 records) (λ found. Ok (reserve_from (length records) found))
 
 -- the reserve that the bytes stand for
 unfoldable pub reserve_of_table : UnitList → List ℕ → Result Reserve ReserveFault

@@ -4,7 +4,7 @@ use Rattle.std.specs.List.{find, list_any}
 use Rattle.std.specs.Option.{option_map_or}
 use Rattle.std.specs.Ordering.{int_eq}
 use Rattle.record_reading.specs.Records.{Record}
-use Rattle.record_reading.specs.Rows.{read_rows}
+use Rattle.record_reading.specs.Gathering.{read_records}
 use Rattle.record_reading.specs.Steps.{and_then}
 use Rattle.csv_table.specs.Table.{framed}
 use Rattle.market_data.specs.Scales.{share_one, most_pickups}
@@ -72,4 +72,4 @@ abbrev pub unit_outage_header : Record
 unit_outage_header = codes "unit" ∷ codes "taker" ∷ codes "share" ∷ []
 
 unfoldable pub unit_outages_of : LiveNetwork → List ℕ → Result UnitOutages UnitOutageFault
-unit_outages_of network bytes = and_then (and_then (framed fault.Frame unit_outage_header (Some most_pickups) bytes) (read_rows (unit_pickup_in network) [] 2)) (listed_by network)
+unit_outages_of network bytes = and_then (and_then (framed fault.Frame unit_outage_header (Some most_pickups) bytes) (read_records (unit_pickup_in network) [] 2)) (listed_by network)

@@ -4,7 +4,7 @@ use Rattle.std.specs.Int.Signed.{lt_z}
 use Rattle.std.specs.Option.{option_map_or}
 use Rattle.std.specs.Ordering.{int_eq}
 use Rattle.record_reading.specs.Records.{Record}
-use Rattle.record_reading.specs.Rows.{read_rows}
+use Rattle.record_reading.specs.Gathering.{read_records}
 use Rattle.record_reading.specs.Steps.{and_then, or_as}
 use Rattle.csv_table.specs.Table.{framed, number_in}
 use Rattle.market_data.specs.declared.participants.Bus.{Bus}
@@ -52,4 +52,4 @@ right_header = codes "from" ∷ codes "to" ∷ codes "mw" ∷ []
 
 -- the rights that the bytes stand for, in the order of their records
 unfoldable pub rights_of_table : Parts → List ℕ → Result (List TransmissionRight) RightsFault
-rights_of_table m bytes = and_then (framed fault.Frame right_header (Some most_rights) bytes) (read_rows (λ done. right_in m.buses) [] 2)
+rights_of_table m bytes = and_then (framed fault.Frame right_header (Some most_rights) bytes) (read_records (λ done. right_in m.buses) [] 2)

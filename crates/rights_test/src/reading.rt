@@ -3,7 +3,7 @@
 ghost use Rattle.std.specs.Prelude.{◌≡◌, ◌≢◌, ◌+◌, ◌<◌, ◌≤◌, ◌^◌, length, get_or, All, [], Err, IfOk, IfSome};
 ghost use Rattle.market_data.specs.Participants.{IsDatum};
 ghost use Rattle.market_model.specs.Rights.{IsTransmissionRight};
-ghost use Rattle.record_reading.specs.Rows.{read_rows};
+ghost use Rattle.record_reading.specs.Gathering.{read_records};
 ghost use Rattle.rights_test.specs.RightsTable.{bus_place, most_rights, place_in, record_in, right_in, rights_of_table};
 
 use crate::right_parts::{Rights, RightsFault};
@@ -84,7 +84,7 @@ fn right_of(buses: &[Bus], table: &Table, place: usize) -> Result<TransmissionRi
 fn rights_of(alloc: Global, buses: &[Bus], table: &Table) -> Result<Rights, RightsFault>
     ensures count { IfOk result (λ rights. length rights ≤ length table.now) }
     ensures kept { IfOk result (All (IsTransmissionRight (length buses.now))) }
-    ensures is { result ≢ Err RightsFault.Memory → result ≡ read_rows (λ done. right_in buses.now) [] 2 table.now }
+    ensures is { result ≢ Err RightsFault.Memory → result ≡ read_records (λ done. right_in buses.now) [] 2 table.now }
 {
     let mut rights = List::new(alloc);
     for place in 0..table.len() {
