@@ -14,7 +14,7 @@ use Rattle.market_data.specs.Scales.{most_penalties}
 use Rattle.net_case.specs.Networks.{LiveNetwork}
 use Rattle.net_case.specs.declared.live_parts.NetBranch.{NetBranch}
 use Rattle.factor_tables.specs.declared.cells.PenaltyRecord.{PenaltyRecord}
-use Rattle.factor_tables.specs.declared.penalty_list.Penalty.{Penalty}
+use Rattle.factor_tables.specs.declared.penalty_list.Softness.{Softness}
 use Rattle.factor_tables.specs.declared.table_fault.TableFault.{TableFault}
 use Rattle.factor_tables.specs.declared.table_fault.TableFault.TheVariants as fault
 use Rattle.factor_tables.specs.Records.{penalty_in}
@@ -27,28 +27,28 @@ Limit = ℕ × Bool
 
 -- a record: a limit, and its penalty
 abbrev pub PenaltyEntry : Type 0
-PenaltyEntry = Limit × Penalty
+PenaltyEntry = Limit × Softness
 
 abbrev pub same_limit : Limit → Limit → Bool
 same_limit a b = (a.0 == b.0) && beq a.1 b.1
 
 -- the penalty of the record of a limit, where there is one
-abbrev pub penalty_at : List PenaltyEntry → Limit → Option Penalty
-penalty_at entries limit = lookup (same_limit limit) entries
+abbrev pub softness_at : List PenaltyEntry → Limit → Option Softness
+softness_at entries limit = lookup (same_limit limit) entries
 
 abbrev pub has_penalty : List PenaltyEntry → Limit → Bool
-has_penalty entries limit = is_some (penalty_at entries limit)
+has_penalty entries limit = is_some (softness_at entries limit)
 
 -- a price above 0, for an excess that is not below 0
-pub record GivesWay (penalty : Penalty) : Type 0 where
-  pub costs : pos 0 <ℤ penalty.price
-  pub exceeds : pos 0 ≤ℤ penalty.excess
-  pub price : IsDatum penalty.price
-  pub excess : IsDatum penalty.excess
+pub record IsSoftness (softness : Softness) : Type 0 where
+  pub costs : pos 0 <ℤ softness.price
+  pub exceeds : pos 0 ≤ℤ softness.excess
+  pub price : IsDatum softness.price
+  pub excess : IsDatum softness.excess
 
 -- each record has a penalty, and no limit stands twice
 pub record ArePenalties (entries : List PenaltyEntry) : Type 0 where
-  pub kept : All (λ entry. GivesWay entry.1) entries
+  pub kept : All (λ entry. IsSoftness entry.1) entries
   pub once : AllPairs (λ a b. a.0 ≢ b.0) entries
 
 -- ---- the rules of a record
@@ -63,7 +63,7 @@ unfoldable pub penalty_faults : LiveNetwork → ℕ → PenaltyRecord → List (
 penalty_faults network line r =
     (not (is_row network r.branch), fault.NoBranch line)
     ∷ (not (has_limit network r.branch r.post), fault.NoLimit line)
-    ∷ (le_z r.penalty.price (pos 0) || lt_z r.penalty.excess (pos 0), fault.Penalty line)
+    ∷ (le_z r.softness.price (pos 0) || lt_z r.softness.excess (pos 0), fault.Penalty line)
     ∷ []
 
 -- the limit of a record whose number names a row
@@ -76,7 +76,7 @@ unfoldable pub penalty_entry : LiveNetwork → List PenaltyEntry → ℕ → Rec
 penalty_entry network done line r =
     and_then (penalty_in line r) (λ numbers.
     and_then (checked (penalty_faults network line numbers) fine) (λ _.
-    if has_penalty done (limit_named numbers) then Err (fault.Twice line) else Ok (limit_named numbers, numbers.penalty)))
+    if has_penalty done (limit_named numbers) then Err (fault.Twice line) else Ok (limit_named numbers, numbers.softness)))
 
 -- ---- the table
 abbrev pub penalty_header : Record

@@ -33,7 +33,7 @@ use Rattle.market_model.proofs.RowMembers.{row_parts}
 use Rattle.market_model.proofs.SumSteps.{behind, in_front, share_at, terms_at}
 use Rattle.limit_screen.proofs.ScreenLemmas.{flow_refusal_same, law_of_row_flows, row_terms}
 use Rattle.limit_screen.specs.Flows.{carried_at, flows_at}
-use Rattle.settlement.specs.GivingWay.{gives_way}
+use Rattle.settlement.specs.SoftLines.{has_soft_limit}
 use Rattle.settlement.specs.Refusals.{IsWelfareRefusal}
 
 -- ---- blocks
@@ -129,7 +129,7 @@ none_kept p [] h = refl
 none_kept p (x ∷ xs) h = ap (λ (b : Bool). cond b (x ∷ filter p xs) (filter p xs)) (h x (Contains-head x xs)) ∙ none_kept p xs (λ y c. h y (Contains-cons x xs y c))
 
 -- of a line both limits do not
-neither_soft : (line : Line) (post : Bool) → gives_way line ≡ false → is_positive (penalty_of post line) ≡ false
+neither_soft : (line : Line) (post : Bool) → has_soft_limit line ≡ false → is_positive (penalty_of post line) ≡ false
 neither_soft line post h = by (is_positive line.base_price) (is_positive line.post_price) post refl refl h
   where
     by : (x y post : Bool) → is_positive line.base_price ≡ x → is_positive line.post_price ≡ y → (x || y) ≡ false → is_positive (penalty_of post line) ≡ false
@@ -138,14 +138,14 @@ neither_soft line post h = by (is_positive line.base_price) (is_positive line.po
     by false false true e f h = f
     by false false false e f h = e
 
-module _ (m : Parts) (none : list_any gives_way m.lines ≡ false) where
-  line_hard : (l : ℕ) → l < length m.lines → (b : Bool) → gives_way (line_at m l) ≡ b → b ≡ false
-  line_hard l inside true e = sym (list_any_at gives_way m.lines l (hard_line 0 None None (pos 0)) inside e) ∙ none
+module _ (m : Parts) (none : list_any has_soft_limit m.lines ≡ false) where
+  line_hard : (l : ℕ) → l < length m.lines → (b : Bool) → has_soft_limit (line_at m l) ≡ b → b ≡ false
+  line_hard l inside true e = sym (list_any_at has_soft_limit m.lines l (hard_line 0 None None (pos 0)) inside e) ∙ none
   line_hard l inside false e = refl
 
   row_hard : (r : Row) → Contains (rows m) r → is_soft m r ≡ false
   row_hard r c =
-      neither_soft (line_at m r.line) (is_outage r.cause) (line_hard r.line (row_parts m r c).line (gives_way (line_at m r.line)) refl)
+      neither_soft (line_at m r.line) (is_outage r.cause) (line_hard r.line (row_parts m r c).line (has_soft_limit (line_at m r.line)) refl)
 
   -- all that counts is what blocks are worth
   pub worth_of_blocks : (x : Dispatch) (values : Fraction) → values ≡ total (value_terms m x) → values ≡ total (energy_terms m x (rows m))

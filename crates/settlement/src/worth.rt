@@ -13,7 +13,7 @@ ghost use Rattle.market_model.specs.PutIn.{dispatch_of};
 ghost use Rattle.market_model.specs.SumTables.{IsFlowRefusal};
 ghost use Rattle.market_model.specs.Valued.{passed_at};
 ghost use Rattle.limit_screen.specs.Flows.{carried_at, flows_at};
-ghost use Rattle.settlement.specs.GivingWay.{gives_way};
+ghost use Rattle.settlement.specs.SoftLines.{has_soft_limit};
 ghost use Rattle.settlement.specs.Refusals.{IsWelfareRefusal};
 
 use crate::rows::excess;
@@ -51,18 +51,18 @@ fn less_penalty<N: Exact>(market: &Market, row: Row, flows: &[N], sum: N) -> Res
 }
 
 /// Whether a limit of a line gives way, in the base or after outages.
-fn is_giving_way(line: &Line) -> bool
-    ensures { result ≡ gives_way line.now }
+fn has_soft_limit(line: &Line) -> bool
+    ensures { result ≡ has_soft_limit line.now }
 {
     line.base_price > 0 || line.post_price > 0
 }
 
 /// Whether one of some line does.
-fn has_giving_way(market: &Market) -> bool
-    ensures { result ≡ list_any gives_way market.now.lines }
+fn has_soft_limits(market: &Market) -> bool
+    ensures { result ≡ list_any has_soft_limit market.now.lines }
 {
     let lines = market.lines().slice();
-    lines.iter().any(|line| is_giving_way(line))
+    lines.iter().any(|line| has_soft_limit(line))
 }
 
 /// The value of blocks less what limits cost: the penalties of those that give way, in row order. Rows are gone over only where a line has
@@ -75,7 +75,7 @@ fn less_penalties<N: Exact>(market: &Market, flows: &[N], values: N) -> Result<N
         → IfErr result (λ passed. IsWelfareRefusal market.now x N.bound (passed_at N.value passed)) }
 {
     let _buses = market.buses();
-    if !has_giving_way(market) {
+    if !has_soft_limits(market) {
         return Ok(values);
     }
     let mut sum = values;
