@@ -86,15 +86,15 @@ module _ (m : Parts) (market : IsMarket m) (ts : List Taking) (x : Dispatch) whe
 
   -- what is passed by the most is of the market, and is new
   module _ {N : Type 0} (value : N → Fraction) (best : BestFor m (taken_of ts) x) where
-    pub worst_taking : (t : Taking) → IsScreened value m (limits_of ts) x (screened.Broken t) → IsTaking m t
+    pub worst_taking : (t : Taking) → IsScreened value m (limits_of ts) x (screened.Worst t) → IsTaking m t
     worst_taking (Limit r) (place, worst) = listed_row (rows m) place r worst.stands
     worst_taking (Room u) (kept, worst) = worst.offers
 
-    pub worst_new : (t : Taking) → IsScreened value m (limits_of ts) x (screened.Broken t) → IsNew ts t
+    pub worst_new : (t : Taking) → IsScreened value m (limits_of ts) x (screened.Worst t) → IsNew ts t
     worst_new (Limit r) (place, worst) = beyond_new best.feasible r worst.counts
     worst_new (Room u) (kept, worst) = λ c. <ℚ-not-≤ℚ (room m u) (room_used m x u) worst.passed (best.feasible.rooms u c)
 
-    pub worst_passed : (t : Taking) → IsScreened value m (limits_of ts) x (screened.Broken t) → IsPassedTaking m x t
+    pub worst_passed : (t : Taking) → IsScreened value m (limits_of ts) x (screened.Worst t) → IsPassedTaking m x t
     worst_passed (Limit r) (place, worst) = beyond_broken r worst.counts
     worst_passed (Room u) (kept, worst) = worst.passed
 

@@ -61,8 +61,8 @@ pub record IsSolution (m : Parts) (ts : List Taking) (x : Dispatch) (d : Duals F
 -- what a look at all limits and rooms comes to at a dispatch, where some rows are taken: the worst of the limits that are broken, or where
 -- all are kept the worst room that is passed, or the flows
 abbrev pub IsScreened : {N : Type 0} → (N → Fraction) → Parts → List Row → Dispatch → Screened N → Type 0
-IsScreened value m taken x (screened.Broken (taking.Limit row)) = IsWorstBy m taken (carried m x) row
-IsScreened value m taken x (screened.Broken (taking.Room unit)) = AllKeep m taken (carried m x) × IsWorstRoom m x unit
+IsScreened value m taken x (screened.Worst (taking.Limit row)) = IsWorstBy m taken (carried m x) row
+IsScreened value m taken x (screened.Worst (taking.Room unit)) = AllKeep m taken (carried m x) × IsWorstRoom m x unit
 IsScreened value m taken x (screened.Within flows) = KeepsAll m taken x × (map value flows.items ≡ flows_at m x)
 
 -- an operation refused where all limits and rooms are looked at: in the flows of the dispatch, in that of a row, or in what is used of a room
@@ -82,7 +82,7 @@ pub record IsEnded {N : Type 0} (value : N → Fraction) (m : Parts) (e : Ended 
 
 -- what a round over this comes to: one limit or room more, or the end
 abbrev pub IsRound : {N : Type 0} → (N → Fraction) → Parts → List Taking → Round N → Type 0
-IsRound value m ts (round.Broken hand) = IsInHand value m hand × GrowsByOne m ts hand.taken.takings
+IsRound value m ts (round.Grown hand) = IsInHand value m hand × GrowsByOne m ts hand.taken.takings
 IsRound value m ts (round.Done ended) = IsEnded value m ended × (ended.taken.takings ≡ ts)
 
 -- where numbers became too large, the two are a working pair of the market over rows reached from those taken
