@@ -52,17 +52,17 @@ pub record ArePenalties (entries : List PenaltyEntry) : Type 0 where
   pub once : AllPairs (λ a b. a.0 ≢ b.0) entries
 
 -- ---- the rules of a record
-abbrev pub limit_of : Bool → NetBranch → Option ℤ
-limit_of post branch = if post then branch.post else branch.base
+abbrev pub branch_limit : Bool → NetBranch → Option ℤ
+branch_limit post branch = if post then branch.post else branch.base
 
 -- whether a live branch of this row has such a limit
-abbrev pub has_limit : LiveNetwork → ℤ → Bool → Bool
-has_limit network row post = list_any (λ branch. int_eq (pos branch.row) row && is_some (limit_of post branch)) network.branches
+abbrev pub has_branch_limit : LiveNetwork → ℤ → Bool → Bool
+has_branch_limit network row post = list_any (λ branch. int_eq (pos branch.row) row && is_some (branch_limit post branch)) network.branches
 
 unfoldable pub penalty_faults : LiveNetwork → ℕ → PenaltyRecord → List (Bool × TableFault)
 penalty_faults network line r =
     (not (is_row network r.branch), fault.NoBranch line)
-    ∷ (not (has_limit network r.branch r.post), fault.NoLimit line)
+    ∷ (not (has_branch_limit network r.branch r.post), fault.NoLimit line)
     ∷ (le_z r.softness.price (pos 0) || lt_z r.softness.excess (pos 0), fault.Penalty line)
     ∷ []
 

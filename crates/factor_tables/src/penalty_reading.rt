@@ -3,7 +3,7 @@
 ghost use Rattle.std.specs.Prelude.{◌≡◌, ◌≢◌, ℕ, ◌+◌, ◌<◌, ◌^◌, length, get_or, [], List, Ok, Err, IfOk, IfErr, is_some, false};
 ghost use Rattle.record_reading.specs.Gathering.{read_records};
 ghost use Rattle.record_reading.specs.Steps.{checked, fine};
-ghost use Rattle.factor_tables.specs.Penalties.{ArePenalties, IsSoftness, has_limit, has_penalty, limit_of, penalties_of, penalty_entry, penalty_faults};
+ghost use Rattle.factor_tables.specs.Penalties.{ArePenalties, IsSoftness, has_branch_limit, has_penalty, branch_limit, penalties_of, penalty_entry, penalty_faults};
 ghost use Rattle.factor_tables.specs.Records.{PenaltyIsRead};
 ghost use Rattle.factor_tables.specs.Rules.{IsRowOf};
 
@@ -22,7 +22,7 @@ pub const PENALTY_HEADER: &[&str] = &["branch", "limit", "price", "excess"];
 
 /// Whether a branch has a limit after an outage, or in the base.
 fn is_limited(branch: &NetBranch, post: bool) -> bool
-    ensures { result ≡ is_some (limit_of post branch.now) }
+    ensures { result ≡ is_some (branch_limit post branch.now) }
 {
     if post {
         branch.post.is_some()
@@ -32,8 +32,8 @@ fn is_limited(branch: &NetBranch, post: bool) -> bool
 }
 
 /// Whether a live branch of a row has such a limit.
-fn has_limit(network: &Network, row: i64, post: bool) -> bool
-    ensures { result ≡ has_limit network.now row post }
+fn has_branch_limit(network: &Network, row: i64, post: bool) -> bool
+    ensures { result ≡ has_branch_limit network.now row post }
 {
     let branches = network.branches().slice();
     branches.iter().any(|branch| i64::from(branch.row) == row && is_limited(branch, post))
@@ -50,7 +50,7 @@ fn check_penalty(network: &Network, numbers: PenaltyRecord, line: usize) -> Resu
     if !is_row(network, numbers.branch) {
         return Err(TableFault::NoBranch { line });
     }
-    if !has_limit(network, numbers.branch, numbers.post) {
+    if !has_branch_limit(network, numbers.branch, numbers.post) {
         return Err(TableFault::NoLimit { line });
     }
     if numbers.softness.price <= 0 || numbers.softness.excess < 0 {

@@ -10,7 +10,7 @@ ghost use Rattle.market_model.specs.Stops.{StopsBy};
 ghost use Rattle.market_model.specs.Valued.{passed_at};
 ghost use Rattle.market_system.specs.MarketSystem.{residual_demand as residual_demand_of, least_added, most_added, objective_price, low, high, block_columns, excess_columns};
 ghost use Rattle.limit_screen.specs.Flows.{flows_at, IsFlowsRefusal};
-ghost use Rattle.market_dict.specs.Holding.{prices as prices_of};
+ghost use Rattle.market_dict.specs.Holding.{column_prices};
 ghost use Rattle.market_dict.specs.PricesAndBounds.{AreBounds, ArePricesAndBounds};
 ghost use Rattle.market_dict.specs.Refusals.{IsBoundsRefusal};
 ghost use Rattle.market_dict.specs.Takings.{IsTaking, columns_put, first_rows, limits_of};
@@ -72,7 +72,7 @@ fn block_prices<N: Exact>(alloc: Global, market: &Market) -> Result<List<N>, Mem
 
 /// What a MW of each block and of each offer of reserve is worth.
 fn first_prices<N: Exact>(alloc: Global, market: &Market) -> Result<List<N>, Memory>
-    ensures { IfOk result (λ prices. map N.value prices ≡ prices_of market.now []) }
+    ensures { IfOk result (λ prices. map N.value prices ≡ column_prices market.now []) }
 {
     let mut prices = block_prices(alloc, market)?;
     push_offer_prices(market, &mut prices)?;
