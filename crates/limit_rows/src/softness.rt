@@ -3,23 +3,14 @@
 ghost use Rattle.std.specs.Prelude.{◌≡◌, ◌<◌, ◌≤ℤ◌, pos, length, IfOk, IfErr};
 ghost use Rattle.fraction_theory.specs.Fraction.{whole};
 ghost use Rattle.market_data.specs.Participants.{IsDatum};
-ghost use Rattle.market_model.specs.LimitRows.{is_outage, is_soft, limit, most_excess, most_flow, penalty};
+ghost use Rattle.market_model.specs.LimitRows.{is_soft, limit, most_excess, most_flow, penalty};
 ghost use Rattle.market_model.specs.Valued.{passed_at};
 ghost use Rattle.limit_rows.specs.Refusals.{IsMostFlowRefusal};
 
+use crate::causes::is_outage;
 use crate::places::limit_at;
 use exact_fraction::{Exact, Passed, exact_sum};
-use market_model::{Cause, Market, Row, datum};
-
-/// Whether a cause is an outage.
-fn is_outage(cause: Cause) -> bool
-    ensures { result ≡ is_outage cause }
-{
-    match cause {
-        Cause::Base => false,
-        Cause::Branch(_) | Cause::UnitOutage(_) => true,
-    }
-}
+use market_model::{Market, Row, datum};
 
 /// What a MW beyond the limit of a row costs, in 10^-6 per MWh; 0 where the limit is hard.
 pub fn penalty_at(market: &Market, row: Row) -> i64

@@ -1,6 +1,7 @@
 //! Blocks, and what a market is made of.
 
 ghost use Rattle.std.specs.Prelude.{◌≡◌};
+ghost use Rattle.market_model.specs.LimitRows.{limit_of};
 ghost use Rattle.market_model.specs.Lines.{hard_line};
 ghost use Rattle.market_model.specs.Market.{bare_parts};
 ghost use Rattle.market_model.specs.Reserves.{no_reserve};
@@ -63,6 +64,13 @@ impl Line {
             post_excess: 0,
             offset,
         }
+    }
+
+    /// Its limit after an outage, or else in the base, in 10^-9 MW, where it has one.
+    pub fn limit(&self, post: bool) -> Option<i64>
+        ensures { result ≡ limit_of post self.now }
+    {
+        if post { self.post } else { self.base }
     }
 }
 

@@ -181,11 +181,7 @@ fn edit_demand(market: &mut Market, number: i64, mw: i64) -> Result<(), EditFaul
 fn has_limit(line: &Line, post: bool) -> bool
     ensures { result ≡ is_some (limit_of post line.now) }
 {
-    if post {
-        line.post.is_some()
-    } else {
-        line.base.is_some()
-    }
+    line.limit(post).is_some()
 }
 
 /// The place of the line of a branch row that has such a limit.
