@@ -54,7 +54,7 @@ IsKindStop m bound (Farkas energy limits places reserve) = IsFarkasStop m (duals
 
 -- and its factors had the market's places, which is looked at before
 pub record IsCertificateStop (m : Parts) (bound : ℕ) (c : Cert Fraction) (p : Passed Fraction) : Type 0 where
-  pub places : places_of c ≡ m.places
+  pub places : places_of c ≡ m.factor_places
   pub refused : IsKindStop m bound c p
 
 -- what a stop of the work on a market is told as

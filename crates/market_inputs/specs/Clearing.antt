@@ -87,7 +87,7 @@ abbrev pub market_of : FactorPlaces → LiveNetwork → Tables → UnitOutages �
 market_of places network tables lost offered reserve offsets penalties = record (bare_parts network.buses offered.units offered.blocks) {
   lines = map (line_of offsets penalties) network.branches;
   outages = tables.outages;
-  places = places;
+  factor_places = places;
   shift = shift_by tables.shift.entries network.branches network.buses;
   loss = loss_by tables.loss.entries network.branches;
   unit_outages = lost.lost;
@@ -151,7 +151,7 @@ whole_of places network covered limited = record limited {
   outages = covered.tables.outages;
   unit_outages = covered.lost.lost;
   pickups = covered.lost.pickups;
-  places = places;
+  factor_places = places;
 }
 
 -- the parts of the market of a network with its tables

@@ -124,10 +124,10 @@ impl Market {
     }
 
     /// How many decimal places a factor in the tables may have.
-    pub fn places(&self) -> FactorPlaces
-        ensures { result ≡ self.now.places }
+    pub fn factor_places(&self) -> FactorPlaces
+        ensures { result ≡ self.now.factor_places }
     {
-        self.parts.places
+        self.parts.factor_places
     }
 
     /// The place of the line of a branch row; the number of lines where none has it.

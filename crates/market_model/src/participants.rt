@@ -160,7 +160,7 @@ pub struct Parts {
     /// What others pick up then.
     pub pickups: List<Pickup>,
     /// How many decimal places a factor in the tables may have.
-    pub places: FactorPlaces,
+    pub factor_places: FactorPlaces,
     pub reserve: Reserve,
 }
 
@@ -179,7 +179,7 @@ impl Parts {
             loss: List::new(alloc),
             unit_outages: List::new(alloc),
             pickups: List::new(alloc),
-            places: FactorPlaces::Six,
+            factor_places: FactorPlaces::Six,
             reserve: Reserve::none(alloc),
         }
     }

@@ -254,7 +254,7 @@ pub record HasCertificate (holds : List ℕ → Cert Fraction → Type 0) (certi
 abbrev pub LawOfCertificate : Type 0
 LawOfCertificate = (words : List (List ℕ)) (files later : Files) (text : List ℕ) (s : Status) (names : MarketNames) (file : List ℕ) (m : Parts)
     (o : Outcome Fraction) → (clear : Prints words files text s) → clear.after.files ≡ Some later → AsksClear words names (Some file) → AsksMarket files words m
-    → OutcomeFitsReport m o → text ≡ report_text m o → HasCertificate (Certifies m) (cert_of_outcome m.places m.reserve.listed o) (files file) (later file)
+    → OutcomeFitsReport m o → text ≡ report_text m o → HasCertificate (Certifies m) (cert_of_outcome m.factor_places m.reserve.listed o) (files file) (later file)
 
 -- in a replay, that of the last clear and of the market as the steps before it edit it
 abbrev pub LawOfLastCertificate : Type 0
@@ -262,7 +262,7 @@ LawOfLastCertificate = (words : List (List ℕ)) (files later : Files) (text : L
     (r : MarketSteps) (outcomes : List (StepOutcome Fraction)) → (replay : Prints words files text s) → replay.after.files ≡ Some later
     → AsksReplay words names edits (Some file) → AsksToReplay files words (Ok r)
     → OutcomesFit r.market r.steps outcomes → text ≡ replayed r.market r.steps outcomes
-    → HasCertificate (CertifiesLast r) (option_and_then (cert_of_outcome r.market.places r.market.reserve.listed) (last_clear None outcomes)) (files file) (later file)
+    → HasCertificate (CertifiesLast r) (option_and_then (cert_of_outcome r.market.factor_places r.market.reserve.listed) (last_clear None outcomes)) (files file) (later file)
 
 -- ---- round trip
 -- of what a clear of a market wrote `verify` says yes against that market, or that numbers are too large
