@@ -52,8 +52,7 @@ fn add_pickup<N: Exact>(market: &Market, row: Row, price: N, out: &mut [N]) -> R
     Ok(())
 }
 
-/// The own price of each live unit, in 10^-6 per MWh, where buses have these prices, one for each bus: what it is paid for a MW. It is the
-/// price of its bus, less what the limits with duals take after its loss. The duals are as an answer has them; the prices may be any.
+/// Puts at each unit its own price, where buses have these prices.
 fn own<N: Exact>(
     market: &Market,
     duals: &Duals<N>,
@@ -79,7 +78,8 @@ fn own<N: Exact>(
     Ok(())
 }
 
-/// The same in a vector of its own.
+/// The own price of each live unit, in 10^-6 per MWh, where buses have these prices, one for each bus: what it is paid for a MW. It is the
+/// price of its bus, less what the limits with duals take after its loss. The duals are as an answer has them; the prices may be any.
 pub fn own_prices<N: Exact>(
     alloc: Global,
     market: &Market,
