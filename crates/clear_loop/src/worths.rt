@@ -18,9 +18,7 @@ ghost use Rattle.clear_loop.specs.Bounding.{IsBoundRefusal};
 use crate::answering::bus_prices;
 use bus_prices::own_prices;
 use exact_fraction::{Exact, Passed, Sign, exact_difference};
-use market_model::{
-    Duals, Market, RoomDual, Stop, block_quantity, by_side, datum, offers_reserve,
-};
+use market_model::{Duals, Market, RoomDual, Stop, block_quantity, by_side, datum, offers_reserve};
 use std::alloc::Global;
 
 /// The price of the room of the unit of a gen row; 0 where it is not named.

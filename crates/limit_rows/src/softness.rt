@@ -61,5 +61,8 @@ pub fn most_flow<N: Exact>(market: &Market, row: Row) -> Result<N, Passed<N>>
     ensures most { IfOk result (λ most. N.value most ≡ most_flow market.now row) }
     ensures cause { IfErr result (λ passed. IsMostFlowRefusal market.now row N.bound (passed_at N.value passed)) }
 {
-    exact_sum(datum(limit_at(market, row)), datum(most_excess_at(market, row)))
+    exact_sum(
+        datum(limit_at(market, row)),
+        datum(most_excess_at(market, row)),
+    )
 }
