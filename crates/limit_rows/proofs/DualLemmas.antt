@@ -11,7 +11,7 @@ use Rattle.fraction_theory.specs.declared.Sign.TheVariants.{Below, Zero}
 use Rattle.fraction_theory.specs.Sums.{sum_by, Term, term_value, total}
 use Rattle.fraction_theory.proofs.FieldLaws.{ring_ℚ}
 use Rattle.fraction_theory.proofs.ListSums.{kept, sum_by-filter, Contains-from_filter}
-use Rattle.fraction_theory.proofs.Ring.{by_ring, at, padd, pmul, pnil}
+use Rattle.fraction_theory.proofs.Ring.{by_ring, at as nth, padd, pmul, pnil}
 use Rattle.fraction_theory.proofs.SumLaws.{sum_by-same, total-map}
 use Rattle.market_model.specs.declared.answered.Dual.{Dual}
 use Rattle.market_model.specs.declared.answered.Duals.{Duals}
@@ -79,7 +79,7 @@ down_unnamed (d ∷ ds) id h =
 -- ---- prices of 0 make nothing
 pub nothing_made : (s price room : Fraction) → price ≡ whole (pos 0) → s ≡ s +ℚ price *ℚ room
 nothing_made s price room e =
-    by_ring ring_ℚ (s ∷ room ∷ []) (at 0) (padd (at 0) (pmul pnil (at 1))) refl ∙ ap (λ t. s +ℚ t *ℚ room) (sym e)
+    by_ring ring_ℚ (s ∷ room ∷ []) (nth 0) (padd (nth 0) (pmul pnil (nth 1))) refl ∙ ap (λ t. s +ℚ t *ℚ room) (sym e)
 
 -- nor does a number that is not above 0, by its part above 0
 pub none_above : (s w room : Fraction) (t : Sign) → t ≡ sign_of w → (t ≡ Below) ⊎ (t ≡ Zero) → s ≡ s +ℚ part_above w *ℚ room
