@@ -1,6 +1,6 @@
 -- Steps of the own price of a unit, dual by dual.
 use Rattle.std.specs.Prelude.{◌≡◌, ◌≢◌, ◌⊎◌, ℕ, ◌+◌, ◌<◌, ◌≤◌, ◌==◌, pos, Bool, true, false, cond, List, [], ◌∷◌, ◌++◌, map, filter, length, take, if◌then◌else◌, refl}
-use Rattle.std.proofs.Common.{zero, suc, arith, ap, ap₂, inl, inr, sym, subst, ◌∙◌, get_or, set}
+use Rattle.std.proofs.Common.{arith, ap, ap₂, inl, inr, sym, subst, ◌∙◌, get_or, set}
 use Rattle.std.proofs.lemmas.Bool.{eq-eqb, ne_eqb}
 use Rattle.std.proofs.lemmas.List.{get_or-map, get_or-set_same, get_or-set_other, length-set, map-append, take_all}
 use Rattle.std.proofs.lemmas.List.Elements.{filter-append}
@@ -29,7 +29,7 @@ use Rattle.market_model.proofs.MorePlaces.{sum_by_more}
 use Rattle.market_model.proofs.PlaceLists.{all_put, filled_at, put_read}
 use Rattle.market_model.proofs.RowMembers.{lost_unit-in}
 use Rattle.market_model.proofs.SumSteps.{share_at}
-use Rattle.limit_rows.proofs.DualLemmas.{IsRowOfDual, up_unnamed, down_unnamed, sum_named}
+use Rattle.limit_rows.proofs.DualLemmas.{IsRowOfDual, up_unnamed, down_unnamed, sum_named, filter_at}
 use Rattle.bus_prices.specs.PriceParts.{added_to_own}
 
 -- a price that was read by its place
@@ -87,24 +87,6 @@ no_unit m market Base among e u = refl
 no_unit m market (Branch lost) among e u = refl
 no_unit m market (UnitOutage k) among e u =
     let row = (market.units (lost_unit m k) (record { row = 0; bus = 0; fixed = pos 0; up = pos 0; down = pos 0 }) (lost_unit-in m market k among)).row in absurd (Prim.omega (arith, row, e))
-
--- ---- a list round one of those that pass a test
-filter_at : {X : Type 0} (p : X → Bool) (xs : List X) (k : ℕ) (e : X) → k < length (filter p xs)
-    → (front : List X) × (rest : List X) × (xs ≡ front ++ get_or (filter p xs) k e ∷ rest) × (filter p front ≡ take k (filter p xs))
-filter_at p [] k e h = absurd (Prim.omega (arith, h))
-filter_at {X} p (x ∷ xs) k e h = by (p x) refl k (λ j lt. filter_at p xs j e lt) h
-  where
-    by : (b : Bool) → p x ≡ b → (j : ℕ)
-        → ((i : ℕ) → i < length (filter p xs) → (front : List X) × (rest : List X) × (xs ≡ front ++ get_or (filter p xs) i e ∷ rest) × (filter p front ≡ take i (filter p xs)))
-        → j < length (cond b (x ∷ filter p xs) (filter p xs))
-        → (front : List X) × (rest : List X) × (x ∷ xs ≡ front ++ get_or (cond b (x ∷ filter p xs) (filter p xs)) j e ∷ rest) × (filter p front ≡ take j (cond b (x ∷ filter p xs) (filter p xs)))
-    by true t zero more lt = ([], xs, refl, refl)
-    by true t (suc j) more lt =
-        let r = more j (Prim.omega (arith, lt)) in
-        (x ∷ r.0, r.1, ap (λ ys. x ∷ ys) r.2, ap (λ (b : Bool). cond b (x ∷ filter p r.0) (filter p r.0)) t ∙ ap (λ ys. x ∷ ys) r.3)
-    by false t j more lt =
-        let r = more j lt in
-        (x ∷ r.0, r.1, ap (λ ys. x ∷ ys) r.2, ap (λ (b : Bool). cond b (x ∷ filter p r.0) (filter p r.0)) t ∙ r.3)
 
 -- ---- the own price of a unit
 module _ (m : Parts) (d : Duals Fraction) (price : ℕ → Fraction) (u : ℕ) where

@@ -3,8 +3,8 @@ use Rattle.std.specs.Prelude.{◌≡◌, ◌⊎◌, ℕ, ◌+◌, ◌<◌, ◌�
 use Rattle.std.proofs.Common.{arith, ap, ap₂, inl, inr, sym, subst, ◌∙◌, get_or, set}
 use Rattle.std.proofs.lemmas.List.{take_all, get_or-set_other}
 use Rattle.fraction_theory.specs.Fraction.{Fraction, whole, neg_ℚ, ◌+ℚ◌, ◌-ℚ◌, ◌*ℚ◌}
-use Rattle.fraction_theory.specs.Sums.{sum_by, Term, Plain, Product, term_value}
-use Rattle.fraction_theory.proofs.FieldLaws.{ring_ℚ, +ℚ_nil}
+use Rattle.fraction_theory.specs.Sums.{sum_by, Term, Product, term_value}
+use Rattle.fraction_theory.proofs.FieldLaws.{ring_ℚ}
 use Rattle.fraction_theory.proofs.Ring.{by_ring, at, padd, pmul, pneg, pnil}
 use Rattle.fraction_theory.proofs.SumLaws.{total-map}
 use Rattle.exact_fraction.specs.declared.Op.TheVariants.{Plus}
@@ -15,14 +15,14 @@ use Rattle.market_model.specs.declared.answered.Price.{Price}
 use Rattle.market_model.specs.declared.participants.Parts.{Parts}
 use Rattle.market_model.specs.declared.limits.Row.{Row}
 use Rattle.market_model.specs.Dispatch.{places}
-use Rattle.market_model.specs.LimitRows.{factor_terms, rows, row_id, row_factor}
+use Rattle.market_model.specs.LimitRows.{rows, row_id, row_factor}
 use Rattle.market_model.specs.NamedSums.{IsRefusal, IsRefusedIn, IsShareRefusal}
 use Rattle.market_model.specs.Optimality.{net_shadow_price, names_row, named_rows, congestion, congestion_terms, congestion_by, price_terms}
 use Rattle.market_model.specs.RightAnswers.{price_made, price_of_parts}
-use Rattle.market_model.specs.SumTables.{IsRefusedInBusPrices, congestion_at}
+use Rattle.market_model.specs.SumTables.{IsRefusedInBusPrices, congestion_at, BusFactorSum, IsRefusedAmong}
 use Rattle.market_model.proofs.MorePlaces.{sum_by_more}
 use Rattle.market_model.proofs.PlaceLists.{put_more, map_same}
-use Rattle.market_model.proofs.SumSteps.{plus_at, share_at}
+use Rattle.market_model.proofs.SumSteps.{share_at, two_refused}
 use Rattle.limit_rows.proofs.DualLemmas.{IsRowOfDual, up_unnamed, down_unnamed, sum_named, terms_named}
 use Rattle.bus_prices.specs.PriceParts.{HaveParts}
 
@@ -114,15 +114,14 @@ module _ (m : Parts) (d : Duals Fraction) where
       map_same (λ i. price_of_parts d.energy (congestion' i)) (price_made m d) n (λ i lt. ap (price_of_parts d.energy) (e i))
 
   pub total_refused : (i : ℕ) (sum : Fraction) (bound : ℕ) (p : Passed Fraction) → sum ≡ congestion m d i → IsRefusal Plus d.energy sum bound p → IsRefusedIn (price_terms m d i) bound p
-  total_refused i sum bound p is h =
-      plus_at (price_terms m d i) (Plain d.energy ∷ []) [] (Plain (congestion m d i)) refl bound p d.energy sum (sym (+ℚ_nil d.energy)) is h
+  total_refused i sum bound p is h = two_refused d.energy (congestion m d i) d.energy sum bound p refl is h
 
   -- what a row adds to prices is refused at a bus, or in its factor there
   pub added_refused : (k : ℕ) (e : Dual Fraction) (r s : Row) (price : Fraction) (bound : ℕ) (p : Passed Fraction) → IsRowOfDual m d k e r → price ≡ neg_ℚ (e.up -ℚ e.down) → s ≡ r
       → ((bus : ℕ) × (bus < length m.buses) × IsShareRefusal (congestion_to m d bus k) price (row_factor m s bus) bound p)
-      ⊎ ((bus : ℕ) × (bus < length m.buses) × IsRefusedIn (factor_terms m s bus) bound p) → IsRefusedInBusPrices m d bound p
+      ⊎ IsRefusedAmong (BusFactorSum m s) bound p → IsRefusedInBusPrices m d bound p
   added_refused k e r s price bound p h is same (inl (bus, inside, why)) =
       let refused = congestion_refused m d bus k e r price (row_factor m s bus) (congestion_to m d bus k) bound p h is (ap (λ (t : Row). row_factor m t bus) same) refl why in
       inl (bus, inside, (congestion_terms m d bus, congestion_at, refused))
   added_refused k e r s price bound p h is same (inr why) =
-      inr (r, (k, h.inside, sym h.at), (why.0, why.1, subst (λ (t : Row). IsRefusedIn (factor_terms m t why.0) bound p) same why.2))
+      inr (r, (k, h.inside, sym h.at), subst (λ (t : Row). IsRefusedAmong (BusFactorSum m t) bound p) same why)

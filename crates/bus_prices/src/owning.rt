@@ -6,6 +6,7 @@ ghost use Rattle.market_model.specs.Dispatch.{places, unit_at};
 ghost use Rattle.market_model.specs.LimitRows.{loses_unit, row_pickup, IsCauseOf};
 ghost use Rattle.market_model.specs.NamedSums.{IsShareRefusal};
 ghost use Rattle.market_model.specs.Optimality.{named_rows, own_price, ProperDuals};
+ghost use Rattle.market_model.specs.Stops.{StopsBy};
 ghost use Rattle.market_model.specs.SumTables.{IsPickupRefusal, IsRefusedAmong, OwnPriceSum, PickupSum};
 ghost use Rattle.market_model.specs.Valued.{duals_at, passed_at, total_at};
 ghost use Rattle.bus_prices.specs.PriceParts.{added_to_own};
@@ -13,7 +14,8 @@ ghost use Rattle.bus_prices.specs.PriceParts.{added_to_own};
 use crate::pricing::opposite_net_price;
 use exact_fraction::{Exact, Passed};
 use limit_rows::{found_row, lost_unit, pickup_factor};
-use market_model::{Cause, Duals, Market, Price, Row};
+use market_model::{Cause, Duals, Market, Price, Row, Stop, zeros};
+use std::alloc::Global;
 
 /// Puts at each unit the price of its bus, where limits take nothing yet.
 fn put_bus_prices<N: Exact>(market: &Market, prices: &[Price<N>], out: &mut [N])
@@ -50,9 +52,8 @@ fn add_pickup<N: Exact>(market: &Market, row: Row, price: N, out: &mut [N]) -> R
     Ok(())
 }
 
-/// The own price of each live unit, in 10^-6 per MWh, where buses have these prices, one for each bus: what it is paid for a MW. It is the
-/// price of its bus, less what the limits with duals take after its loss. The duals are as an answer has them; the prices may be any.
-pub fn own<N: Exact>(
+/// Puts at each unit its own price, where buses have these prices.
+fn own<N: Exact>(
     market: &Market,
     duals: &Duals<N>,
     prices: &[Price<N>],
@@ -75,4 +76,22 @@ pub fn own<N: Exact>(
         }
     }
     Ok(())
+}
+
+/// The own price of each live unit, in 10^-6 per MWh, where buses have these prices, one for each bus: what it is paid for a MW. It is the
+/// price of its bus, less what the limits with duals take after its loss. The duals are as an answer has them; the prices may be any.
+pub fn own_prices<N: Exact>(
+    alloc: Global,
+    market: &Market,
+    duals: &Duals<N>,
+    prices: &[Price<N>],
+) -> Result<Vec<N>, Stop<N>>
+    requires duals { ProperDuals market.now (duals_at N.value duals.now) }
+    requires prices { length prices.now ≡ length market.now.buses }
+    ensures own { IfOk result (λ own. map N.value own.items ≡ map (own_price market.now (duals_at N.value duals.now) (total_at N.value prices.now)) (places (length market.now.units))) }
+    ensures cause { let d = duals_at N.value duals.now in IfErr result (StopsBy N.value (λ p. IsRefusedAmong (OwnPriceSum market.now d (total_at N.value prices.now)) N.bound p ⊎ IsPickupRefusal market.now (named_rows market.now d) N.bound p)) }
+{
+    let mut by_unit = zeros(alloc, market.units().len())?;
+    own(market, duals, prices, &mut by_unit)?;
+    Ok(by_unit)
 }

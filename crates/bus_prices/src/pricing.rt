@@ -4,11 +4,11 @@ ghost use Rattle.std.specs.Prelude.{◌≡◌, ◌⊎◌, ◌<◌, ℕ, length, 
 ghost use Rattle.fraction_theory.specs.Fraction.{Fraction, neg_ℚ, ◌+ℚ◌, ◌-ℚ◌, ◌*ℚ◌};
 ghost use Rattle.exact_fraction.specs.declared.Op.TheVariants.{Plus};
 ghost use Rattle.market_model.specs.Dispatch.{places, zero};
-ghost use Rattle.market_model.specs.LimitRows.{factor_terms, row_factor, IsCauseOf};
-ghost use Rattle.market_model.specs.NamedSums.{IsRefusal, IsRefusedIn, IsShareRefusal};
+ghost use Rattle.market_model.specs.LimitRows.{row_factor, IsCauseOf};
+ghost use Rattle.market_model.specs.NamedSums.{IsRefusal, IsShareRefusal};
 ghost use Rattle.market_model.specs.Optimality.{IsOneSided, ProperDuals};
 ghost use Rattle.market_model.specs.RightAnswers.{price_made, price_of_parts};
-ghost use Rattle.market_model.specs.SumTables.{IsRefusedInBusPrices};
+ghost use Rattle.market_model.specs.SumTables.{IsRefusedInBusPrices, BusFactorSum, IsRefusedAmong};
 ghost use Rattle.market_model.specs.Valued.{dual_at, duals_at, passed_at, price_at};
 ghost use Rattle.bus_prices.specs.PriceParts.{HaveParts};
 
@@ -53,7 +53,7 @@ fn add_row<N: Exact>(
     requires out { length out.old ≡ length market.now.buses }
     ensures parts { (energy : Fraction) (before : ℕ → Fraction) → HaveParts N.value energy before out.old → IfOk result (λ _. HaveParts N.value energy (λ bus. before bus +ℚ N.value price *ℚ row_factor market.now row bus) out.new) }
     ensures cause { (energy : Fraction) (before : ℕ → Fraction) → HaveParts N.value energy before out.old → IfErr result (λ passed. ((bus : ℕ) × (bus < length market.now.buses) × IsShareRefusal (before bus) (N.value price) (row_factor market.now row bus) N.bound (passed_at N.value passed))
-        ⊎ ((bus : ℕ) × (bus < length market.now.buses) × IsRefusedIn (factor_terms market.now row bus) N.bound (passed_at N.value passed))) }
+        ⊎ IsRefusedAmong (BusFactorSum market.now row) N.bound (passed_at N.value passed)) }
 {
     for (bus, place) in out.iter_mut().enumerate() {
         let congestion = place

@@ -12,7 +12,8 @@ use Rattle.market_model.specs.Dispatch.{places, line_at}
 use Rattle.market_model.specs.declared.limits.Cause.{Cause}
 use Rattle.market_model.specs.declared.limits.Row.{Row}
 use Rattle.market_model.specs.declared.limits.Cause.TheVariants.{Base, Branch}
-use Rattle.market_model.specs.LimitRows.{bears, lines_of, lost_lines, place_of_line, rows, rows_of}
+use Rattle.market_model.specs.LimitRows.{bears, lost_lines, place_of_line, rows, rows_of}
+use Rattle.market_model.proofs.RowMembers.{lines_of}
 use Rattle.case_maker.specs.Laws.{HasCounts}
 use Rattle.case_maker.specs.Rings.{blocks_of, bus_of, drawn, line_of, ring_of, unit_of}
 use Rattle.case_maker.proofs.PlaceLists.{count-all, count-others, length-flat, places-at}

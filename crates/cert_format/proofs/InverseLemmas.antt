@@ -21,7 +21,7 @@ use Rattle.cert_format.specs.declared.forms.Version.{Version}
 use Rattle.cert_format.specs.declared.forms.Version.TheVariants as version
 use Rattle.cert_format.specs.Certificates.{CertFits, ClearedReserveFits, DualFits, Fits, NamesNoRowTwice, ReserveDualsFit, RoomFits, RowsAreDistinct, most_part}
 use Rattle.cert_format.specs.FractionTexts.{fraction_of}
-use Rattle.cert_format.specs.Grammar.{above_0, cert_in, cert_read, check, cleared_reserve_in, distinct, each, farkas_in, fraction_at, fraction_in, fractions_at, has_size, if_distinct, in_32, json_of, kind_in, limit_in, limits_in, member_count, members_with, need, number_at, of_kind, optimal_in, places_in, reserve_duals_in, reserve_in, room_in, rooms_at, unit_at, unit_in, version_in}
+use Rattle.cert_format.specs.Grammar.{above_0, cert_in, cert_read, check, cleared_reserve_in, distinct, each, farkas_in, fraction_at, fraction_in, fractions_at, has_size, if_distinct, in_32, json_of, kind_in, limit_in, limits_in, member_count, members_with, need, number_at, of_kind, optimal_in, places_in, reserve_duals_in, reserve_in, room_dual_in, rooms_at, unit_member, unit_in, version_in}
 use Rattle.cert_format.specs.Laws.{LawOfMigration}
 use Rattle.cert_format.proofs.CertLemmas.{reads-back}
 use Rattle.cert_format.proofs.FractionLemmas.{fraction_of-spells}
@@ -60,8 +60,8 @@ above_0-fits None n h fits = cc
 above_0-fits (Some zero) n h fits = cc
 above_0-fits (Some (suc m)) n h fits = fits n (rw (not_0 m) at h)
 
-unit_at-fits : (d : Data) (n : ℕ) → unit_at d ≡ Some n → n < 2 ^ 32
-unit_at-fits d n h = by (is_none (get (codes "unit") d)) h
+unit_member-fits : (d : Data) (n : ℕ) → unit_member d ≡ Some n → n < 2 ^ 32
+unit_member-fits d n h = by (is_none (get (codes "unit") d)) h
   where
     by : (none : Bool) → (if none then Some 0 else above_0 (in_32 (number_at (codes "unit") d))) ≡ Some n → n < 2 ^ 32
     by true is = let here : 0 ≡ n = cc in omega (arith, here)
@@ -69,8 +69,8 @@ unit_at-fits d n h = by (is_none (get (codes "unit") d)) h
 
 unit_in-fits : (version : Version) (d : Data) (n : ℕ) → unit_in version d ≡ Some n → n < 2 ^ 32
 unit_in-fits version.First d n h = let here : 0 ≡ n = cc in omega (arith, here)
-unit_in-fits version.Second d n h = unit_at-fits d n h
-unit_in-fits version.Third d n h = unit_at-fits d n h
+unit_in-fits version.Second d n h = unit_member-fits d n h
+unit_in-fits version.Third d n h = unit_member-fits d n h
 
 limit_in-fits : (version : Version) (d : Data) (x : Dual Fraction) → limit_in most_part version d ≡ Some x → DualFits most_part x
 unfolding limit_in
@@ -112,9 +112,9 @@ limits_in-fit version d xs h =
     (subst (All (DualFits most_part)) p.1 (each-all (DualFits most_part) (limit_in most_part version) (limit_in-fits version) ds ys h2), subst NamesNoRowTwice p.1 (distinct-names ys p.0))))
 
 -- ---- reserve
-room_in-fits : (d : Data) (x : RoomDual Fraction) → room_in most_part d ≡ Some x → RoomFits most_part x
-unfolding room_in
-room_in-fits d x h =
+room_dual_in-fits : (d : Data) (x : RoomDual Fraction) → room_dual_in most_part d ≡ Some x → RoomFits most_part x
+unfolding room_dual_in
+room_dual_in-fits d x h =
     option_and_then_some _ (fraction_at most_part (codes "dual") d) x h (λ price e1 h1.
     option_and_then_some _ (in_32 (number_at (codes "unit") d)) x h1 (λ unit e2 h2.
     subst (RoomFits most_part) (cond_some (has_size 2 d) (record { unit = unit; price = price }) x h2).1 (record {
@@ -123,7 +123,7 @@ room_in-fits d x h =
     })))
 
 rooms_at-fit : (d : Data) (xs : List (RoomDual Fraction)) → rooms_at most_part d ≡ Some xs → All (RoomFits most_part) xs
-rooms_at-fit d xs h = option_and_then_some (each (room_in most_part)) (option_and_then as_array (get (codes "units") d)) xs h (λ ds e f. each-all (RoomFits most_part) (room_in most_part) room_in-fits ds xs f)
+rooms_at-fit d xs h = option_and_then_some (each (room_dual_in most_part)) (option_and_then as_array (get (codes "units") d)) xs h (λ ds e f. each-all (RoomFits most_part) (room_dual_in most_part) room_dual_in-fits ds xs f)
 
 duals_in-fit : (size : ℕ) (d : Data) (x : ReserveDuals Fraction) → reserve_duals_in size most_part d ≡ Some x → ReserveDualsFit most_part x
 unfolding reserve_duals_in

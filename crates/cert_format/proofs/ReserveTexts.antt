@@ -13,7 +13,7 @@ use Rattle.serde_json.proofs.OnLiterals.{serde_json_on_literals}
 use Rattle.cert_format.specs.declared.certificate.ClearedReserve.{ClearedReserve}
 use Rattle.cert_format.specs.declared.certificate.ReserveDuals.{ReserveDuals}
 use Rattle.cert_format.specs.Certificates.{ClearedReserveFits, ReserveDualsFit, RoomFits, most_part}
-use Rattle.cert_format.specs.Grammar.{cleared_reserve_in, each, reserve_duals_in, room_in}
+use Rattle.cert_format.specs.Grammar.{cleared_reserve_in, each, reserve_duals_in, room_dual_in}
 use Rattle.cert_format.specs.Written.{cleared_reserve_data, reserve_duals_data, room_data}
 use Rattle.cert_format.proofs.NumberTexts.{float-fractions, flat-fractions, fraction-back, fractions-again, fractions-back, key_utf8, plain-fractions}
 use Rattle.cert_format.proofs.TextLemmas.{IsPlain, ItemsArePlain, utf8-parts_text}
@@ -85,11 +85,11 @@ unfolding serde_json_on_literals
 cleared-again r h = rw (fractions-again r.quantities, rooms-again r.duals.rooms h) refl
 
 -- ---- which is in the grammar
-room-back : (d : RoomDual Fraction) → RoomFits most_part d → room_in most_part (room_data d) ≡ Some d
-unfolding serde_json_on_literals room_in
+room-back : (d : RoomDual Fraction) → RoomFits most_part d → room_dual_in most_part (room_data d) ≡ Some d
+unfolding serde_json_on_literals room_dual_in
 room-back d h = rw (fraction-back most_part d.price h.price, lt-ltb _ _ h.unit) refl
 
-rooms-back : (ds : Rooms) → All (RoomFits most_part) ds → each (room_in most_part) (items_of (map room_data ds)) ≡ Some ds
+rooms-back : (ds : Rooms) → All (RoomFits most_part) ds → each (room_dual_in most_part) (items_of (map room_data ds)) ≡ Some ds
 unfolding each
 rooms-back [] h = refl
 rooms-back (d ∷ ds) h = rw (room-back d (h 0 d (omega arith)), rooms-back ds (λ k x lt. h (suc k) x (omega (arith, lt)))) refl

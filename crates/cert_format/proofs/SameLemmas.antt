@@ -20,7 +20,7 @@ use Rattle.cert_format.specs.declared.certificate.ReserveDuals.{ReserveDuals}
 use Rattle.cert_format.specs.declared.forms.Version.TheVariants as version
 use Rattle.cert_format.specs.Certificates.{Fits, NamesFit, RowFits, most_part}
 use Rattle.cert_format.specs.FractionTexts.{fraction_of}
-use Rattle.cert_format.specs.Grammar.{cert_in, cert_read, cleared_reserve_in, each, farkas_in, fraction_in, if_distinct, distinct, limit_in, members_with, optimal_in, places_named, reserve_duals_in, room_in}
+use Rattle.cert_format.specs.Grammar.{cert_in, cert_read, cleared_reserve_in, each, farkas_in, fraction_in, if_distinct, distinct, limit_in, members_with, optimal_in, places_named, reserve_duals_in, room_dual_in}
 use Rattle.cert_format.specs.Laws.{LawOfMigratedTexts}
 use Rattle.cert_format.specs.Written.{cert_data, cert_text, cleared_reserve_data, fraction_data, limit_data, reserve_duals_data, room_data}
 use Rattle.cert_format.proofs.CertLemmas.{after_unit, one-reader, places-back, read-cert_text, utf8-cert_text}
@@ -81,8 +81,8 @@ limits-same-3 : (ds es : List (Dual Fraction)) → All (λ d. RowFits d.row) ds 
 limits-same-3 ds es rows h = limits-same ds es rows (ap (λ (read : Data → Option (Dual Fraction)). option_and_then if_distinct (each read (items_of (map limit_data ds)))) (sym one-reader) ∙ h)
 
 -- ---- reserve
-room-same : (d y : RoomDual Fraction) → d.unit < 2 ^ 32 → room_in most_part (room_data d) ≡ Some y → y ≡ d
-unfolding serde_json_on_literals room_in
+room-same : (d y : RoomDual Fraction) → d.unit < 2 ^ 32 → room_dual_in most_part (room_data d) ≡ Some y → y ≡ d
+unfolding serde_json_on_literals room_dual_in
 room-same d y u h =
     option_and_then_some _ (fraction_of most_part (parts_text d.price)) y (rw (lt-ltb _ _ u) at h) (λ price e1 h1.
     sym (same_Some _ _ h1) ∙ ap (λ (p : Fraction). record { unit = d.unit; price = p }) (fraction-same most_part d.price price e1))
@@ -91,14 +91,14 @@ abbrev priced : Fraction → List (RoomDual Fraction) → ReserveDuals Fraction
 priced price rooms = record { price = price; rooms = rooms }
 
 abbrev rooms_read : List (RoomDual Fraction) → Option (List (RoomDual Fraction))
-rooms_read rooms = each (room_in most_part) (items_of (map room_data rooms))
+rooms_read rooms = each (room_dual_in most_part) (items_of (map room_data rooms))
 
 reserve-same : (price : Fraction) (rooms : List (RoomDual Fraction)) (y : ReserveDuals Fraction) → UnitsFit rooms
     → option_and_then (λ p. option_and_then (λ rs. Some (priced p rs)) (rooms_read rooms)) (fraction_of most_part (parts_text price)) ≡ Some y → y ≡ priced price rooms
 reserve-same price rooms y units h =
     option_and_then_some _ (fraction_of most_part (parts_text price)) y h (λ p e1 h1.
     option_and_then_some _ (rooms_read rooms) y h1 (λ rs e2 h2.
-    sym (same_Some _ _ h2) ∙ ap₂ priced (fraction-same most_part price p e1) (each-same (λ d. d.unit < 2 ^ 32) (room_in most_part) room_data room-same rooms rs units e2)))
+    sym (same_Some _ _ h2) ∙ ap₂ priced (fraction-same most_part price p e1) (each-same (λ d. d.unit < 2 ^ 32) (room_dual_in most_part) room_data room-same rooms rs units e2)))
 
 duals-same : (d y : ReserveDuals Fraction) → UnitsFit d.rooms → reserve_duals_in 2 most_part (reserve_duals_data d) ≡ Some y → y ≡ d
 unfolding serde_json_on_literals reserve_duals_in

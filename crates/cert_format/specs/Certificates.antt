@@ -29,9 +29,9 @@ cert_at value (cert.Farkas energy limits places reserve) = cert.Farkas (value en
 
 -- ---- parts of a certificate, whatever the kind
 -- the duals of limits
-abbrev pub limits_of : {N : Type 0} → Cert N → List (Dual N)
-limits_of (cert.Optimal blocks energy limits places reserve) = limits
-limits_of (cert.Farkas energy limits places reserve) = limits
+abbrev pub limit_duals_of : {N : Type 0} → Cert N → List (Dual N)
+limit_duals_of (cert.Optimal blocks energy limits places reserve) = limits
+limit_duals_of (cert.Farkas energy limits places reserve) = limits
 
 -- how many decimals the factors of the market had
 abbrev pub places_of : {N : Type 0} → Cert N → FactorPlaces
@@ -48,8 +48,8 @@ abbrev pub rooms_among : {N : Type 0} → Option (ReserveDuals N) → List (Room
 rooms_among None = []
 rooms_among (Some d) = d.rooms
 
-abbrev pub rooms_of : {N : Type 0} → Cert N → List (RoomDual N)
-rooms_of c = rooms_among (reserve_of c)
+abbrev pub room_duals_of : {N : Type 0} → Cert N → List (RoomDual N)
+room_duals_of c = rooms_among (reserve_of c)
 
 -- the name of a row as a triple: the branch row, that of its outage, and the row of the unit that is lost
 abbrev pub name_of : RowId → ℕ × ℕ × ℕ
@@ -63,7 +63,7 @@ abbrev pub NamesNoRowTwice : List (Dual Fraction) → Type 0
 NamesNoRowTwice limits = AllPairs (λ a b. a.row ≢ b.row) limits
 
 abbrev pub RowsAreDistinct : Cert Fraction → Type 0
-RowsAreDistinct c = NamesNoRowTwice (limits_of c)
+RowsAreDistinct c = NamesNoRowTwice (limit_duals_of c)
 
 -- numerator and denominator are at most so great
 pub record Fits (most : ℕ) (x : Fraction) : Type 0 where
@@ -104,8 +104,8 @@ NumbersFit most (cert.Farkas energy limits places reserve) = Fits most energy ×
 
 -- the names of rows and of units have numbers of 32 bits
 pub record NamesFit {N : Type 0} (c : Cert N) : Type 0 where
-  pub limits : All (λ d. RowFits d.row) (limits_of c)
-  pub rooms : All (λ d. d.unit < 2 ^ 32) (rooms_of c)
+  pub limits : All (λ d. RowFits d.row) (limit_duals_of c)
+  pub rooms : All (λ d. d.unit < 2 ^ 32) (room_duals_of c)
 
 -- a certificate that has a text: its numbers are within their bounds, and no row is named twice
 pub record CertFits (c : Cert Fraction) : Type 0 where

@@ -75,14 +75,14 @@ above_0 None = None
 above_0 (Some n) = if n == 0 then None else Some n
 
 -- the unit that is lost: 0 where there is no such member, and never 0 where there is one
-abbrev pub unit_at : Data → Option ℕ
-unit_at d = if is_none (get (codes "unit") d) then Some 0 else above_0 (in_32 (number_at (codes "unit") d))
+abbrev pub unit_member : Data → Option ℕ
+unit_member d = if is_none (get (codes "unit") d) then Some 0 else above_0 (in_32 (number_at (codes "unit") d))
 
 -- and in a text of any version: the first names none, so that a member for it is one too many
 abbrev pub unit_in : Version → Data → Option ℕ
 unit_in version.First d = Some 0
-unit_in version.Second d = unit_at d
-unit_in version.Third d = unit_at d
+unit_in version.Second d = unit_member d
+unit_in version.Third d = unit_member d
 
 -- how many members the duals of a row have: the unit's is there where it is not 0
 abbrev pub members_with : ℕ → ℕ
@@ -120,8 +120,8 @@ limits_in most version d = option_and_then if_distinct (option_and_then (each (l
 
 -- ---- reserve
 -- the price of a unit's room: dual and unit, and nothing else
-unfoldable pub room_in : ℕ → Data → Option (RoomDual Fraction)
-room_in most d =
+unfoldable pub room_dual_in : ℕ → Data → Option (RoomDual Fraction)
+room_dual_in most d =
     option_and_then (λ price.
     option_and_then (λ unit.
     if has_size 2 d then Some (record { unit = unit; price = price }) else None)
@@ -129,7 +129,7 @@ room_in most d =
     (fraction_at most (codes "dual") d)
 
 abbrev pub rooms_at : ℕ → Data → Option (List (RoomDual Fraction))
-rooms_at most d = option_and_then (each (room_in most)) (option_and_then as_array (get (codes "units") d))
+rooms_at most d = option_and_then (each (room_dual_in most)) (option_and_then as_array (get (codes "units") d))
 
 -- the prices of reserve and of rooms, in an object of so many members
 unfoldable pub reserve_duals_in : ℕ → ℕ → Data → Option (ReserveDuals Fraction)

@@ -9,7 +9,7 @@ ghost use Rattle.cert_format.specs.declared.certificate.CertFault.TheVariants as
 ghost use Rattle.cert_format.specs.declared.certificate.Key.{Key};
 ghost use Rattle.cert_format.specs.declared.certificate.Key.TheVariants as key;
 ghost use Rattle.cert_format.specs.Certificates.{RowsAreDistinct, cert_at, name_of, same_triple};
-ghost use Rattle.cert_format.specs.Grammar.{Gives, cert_in, cert_read, each, farkas_in, fraction_at, fraction_in, fractions_at, if_distinct, in_32, limit_in, limits_in, members_with, need, number_at, optimal_in, unit_at, unit_in};
+ghost use Rattle.cert_format.specs.Grammar.{Gives, cert_in, cert_read, each, farkas_in, fraction_at, fraction_in, fractions_at, if_distinct, in_32, limit_in, limits_in, members_with, need, number_at, optimal_in, unit_member, unit_in};
 
 use crate::forms::{Kind, Version, kind_in, member_count, places_in, version_in};
 use crate::fractions::fraction;
@@ -45,8 +45,8 @@ pub(crate) fn row_at(value: &Value, name: &str) -> Option<u32>
 }
 
 /// The row of the gen matrix of the unit that is lost, 0 where there is no such member.
-fn unit_at(value: &Value) -> Option<u32>
-    ensures { result ≡ unit_at (view value.now) }
+fn unit_member(value: &Value) -> Option<u32>
+    ensures { result ≡ unit_member (view value.now) }
 {
     if value.get("unit").is_none() {
         return Some(0);
@@ -63,7 +63,7 @@ fn unit_in(version: Version, value: &Value) -> Option<u32>
 {
     match version {
         Version::First => Some(0),
-        Version::Second | Version::Third => unit_at(value),
+        Version::Second | Version::Third => unit_member(value),
     }
 }
 

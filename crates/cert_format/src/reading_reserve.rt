@@ -5,7 +5,7 @@ ghost use Rattle.serde_json.specs.View.{items_view, view};
 ghost use Rattle.market_model.specs.Valued.{room_dual_at};
 ghost use Rattle.cert_format.specs.declared.certificate.Key.TheVariants as key;
 ghost use Rattle.cert_format.specs.Certificates.{cleared_reserve_at, reserve_duals_at};
-ghost use Rattle.cert_format.specs.Grammar.{Gives, cleared_reserve_in, each, need, reserve_duals_in, reserve_in, room_in, rooms_at};
+ghost use Rattle.cert_format.specs.Grammar.{Gives, cleared_reserve_in, each, need, reserve_duals_in, reserve_in, room_dual_in, rooms_at};
 
 use crate::forms::Version;
 use crate::members::has_size;
@@ -17,8 +17,8 @@ use serde_json::Value;
 use std::alloc::Global;
 
 /// The price of a unit's room.
-fn room_in<N: Exact>(value: &Value) -> Option<RoomDual<N>>
-    ensures { option_map (room_dual_at N.value) result ≡ room_in N.bound (view value.now) }
+fn room_dual_in<N: Exact>(value: &Value) -> Option<RoomDual<N>>
+    ensures { option_map (room_dual_at N.value) result ≡ room_dual_in N.bound (view value.now) }
 {
     let price = fraction_at(value, "dual")?;
     let unit = row_at(value, "unit")?;
@@ -29,11 +29,11 @@ fn room_in<N: Exact>(value: &Value) -> Option<RoomDual<N>>
 }
 
 fn rooms_of<N: Exact>(alloc: Global, values: &[Value]) -> Result<List<RoomDual<N>>, CertFault>
-    ensures { Gives (map (room_dual_at N.value)) result (need key.Reserve (each (room_in N.bound) (items_view values.now)) Ok) }
+    ensures { Gives (map (room_dual_at N.value)) result (need key.Reserve (each (room_dual_in N.bound) (items_view values.now)) Ok) }
 {
     let mut rooms = List::new(alloc);
     for value in values {
-        let Some(room) = room_in(value) else {
+        let Some(room) = room_dual_in(value) else {
             return Err(CertFault::Key { key: Key::Reserve });
         };
         rooms.push(room)?;

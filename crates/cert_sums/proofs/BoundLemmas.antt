@@ -1,16 +1,14 @@
 -- Steps of the Farkas bound: row by row, and block by block.
-use Rattle.std.specs.Prelude.{◌≡◌, ◌⊎◌, ℕ, ◌+◌, ◌<◌, ◌≤◌, pos, List, [], ◌∷◌, ◌++◌, map, length, take, replicate, refl}
+use Rattle.std.specs.Prelude.{◌≡◌, ℕ, ◌+◌, ◌<◌, ◌≤◌, pos, List, [], ◌∷◌, ◌++◌, map, length, take, replicate, refl}
 use Rattle.std.specs.List.{flat_map}
 use Rattle.std.proofs.Common.{inl, inr, ap, ap₂, sym, subst, subst₂, ◌∙◌, append_assoc}
 use Rattle.std.proofs.lemmas.List.{take_all}
 use Rattle.std.proofs.lemmas.Grind.{flat_map-append}
 use Rattle.fraction_theory.specs.Fraction.{Fraction, whole, ◌+ℚ◌, ◌-ℚ◌, ◌*ℚ◌}
-use Rattle.fraction_theory.specs.Signs.{sign_of, where_above, part_above}
-use Rattle.fraction_theory.specs.declared.Sign.{Sign}
-use Rattle.fraction_theory.specs.declared.Sign.TheVariants.{Below, Zero}
+use Rattle.fraction_theory.specs.Signs.{part_above}
 use Rattle.fraction_theory.specs.Sums.{sum_by, Term, Product, total}
-use Rattle.fraction_theory.proofs.FieldLaws.{ring_ℚ, +ℚ_nil, +ℚ_assoc}
-use Rattle.fraction_theory.proofs.Ring.{by_ring, at, padd, pmul, pnil}
+use Rattle.fraction_theory.proofs.FieldLaws.{+ℚ_nil, +ℚ_assoc}
+use Rattle.fraction_theory.proofs.Ring.{at}
 use Rattle.fraction_theory.proofs.SumLaws.{total-append}
 use Rattle.exact_fraction.specs.declared.Op.TheVariants.{Times}
 use Rattle.exact_fraction.specs.declared.Passed.{Passed}
@@ -27,7 +25,7 @@ use Rattle.market_model.proofs.FarkasLaw.{total-flat_map}
 use Rattle.market_model.proofs.FarkasParts.{farkas_terms-parts}
 use Rattle.market_model.proofs.MorePlaces.{sum_by_more, total-places_more}
 use Rattle.market_model.proofs.SumSteps.{product_at, share_at, terms_at, behind, in_front}
-use Rattle.limit_rows.proofs.DualLemmas.{sum_named}
+use Rattle.limit_rows.proofs.DualLemmas.{sum_named, filter_at}
 use Rattle.limit_rows.proofs.NamedLimits.{energy_left-by_named, limit_unnamed}
 use Rattle.cert_sums.specs.Named.{PricedRow, priced_by}
 use Rattle.cert_sums.specs.Pairs.{IsFarkasPair, in_flow as flow_pair, in_bound as bound_pair, in_pickup, in_price, in_worth, of_limit_less, of_limit_more, of_most}
@@ -35,22 +33,10 @@ use Rattle.market_model.specs.SumTables.{IsRefusedAmong, InjectionSum, balance_f
 use Rattle.market_model.specs.PutIn.{AreCarried, AreInjections}
 use Rattle.cert_sums.specs.Refusals.{IsAboveRefusal, IsBelowRefusal, IsCarriedRefusal, IsRowShareRefusal, IsWorthRefusal, in_most, in_flow, in_above, in_below}
 use Rattle.cert_sums.proofs.BlockFlows.{carried_of_blocks, carried_refusal, injection_refusal, injections_by_blocks, injections_of_blocks}
-use Rattle.cert_sums.proofs.NamedLemmas.{IsNamedAt, filter_at, is_named_row, is_row}
+use Rattle.cert_sums.proofs.NamedLemmas.{IsNamedAt, is_named_row, is_row}
 
--- ---- prices of 0 make nothing
-pub nothing_made : (s price room : Fraction) → price ≡ whole (pos 0) → s ≡ s +ℚ price *ℚ room
-nothing_made s price room e =
-    by_ring ring_ℚ (s ∷ room ∷ []) (at 0) (padd (at 0) (pmul pnil (at 1))) refl ∙ ap (λ t. s +ℚ t *ℚ room) (sym e)
-
--- nor does a number that is not above 0, by its part above 0
-pub none_above : (s w room : Fraction) (t : Sign) → t ≡ sign_of w → (t ≡ Below) ⊎ (t ≡ Zero) → s ≡ s +ℚ part_above w *ℚ room
-none_above s w room t is some = nothing_made s (part_above w) room (sym (ap (λ (u : Sign). where_above u w) is) ∙ by some)
-  where
-    by : (t ≡ Below) ⊎ (t ≡ Zero) → where_above t w ≡ whole (pos 0)
-    by (inl e) = ap (λ (u : Sign). where_above u w) e
-    by (inr e) = ap (λ (u : Sign). where_above u w) e
-
--- what the two prices of a row make, one added behind the other
+-- ---- what prices make
+-- the two prices of a row, one added behind the other
 pub left_sum : (m : Parts) (d : Duals Fraction) (e : PricedRow) (sum above more l f : Fraction) → e ≡ priced_by m d e.row → l ≡ most_flow m e.row → f ≡ flow m (empty m) e.row → above ≡ sum +ℚ e.up *ℚ (l -ℚ f)
     → more ≡ above +ℚ e.down *ℚ (l +ℚ f) → more ≡ sum +ℚ total (limit_terms m d e.row)
 left_sum m d e sum above more l f priced is flows first second =

@@ -1,9 +1,9 @@
 -- The named rows of duals, and the congestion at a bus row by row.
-use Rattle.std.specs.Prelude.{◌≡◌, ◌⊎◌, ℕ, ◌+◌, ◌<◌, ◌≤◌, pos, Bool, true, false, cond, List, [], ◌∷◌, ◌++◌, map, filter, length, take, Contains, refl}
-use Rattle.std.proofs.Common.{zero, suc, inl, inr, arith, ap, ap₂, sym, ◌∙◌, get_or}
+use Rattle.std.specs.Prelude.{◌≡◌, ◌⊎◌, ℕ, ◌+◌, ◌<◌, ◌≤◌, pos, false, List, [], ◌∷◌, ◌++◌, map, length, take, Contains, refl}
+use Rattle.std.proofs.Common.{inl, inr, arith, ap, ap₂, sym, ◌∙◌, get_or}
 use Rattle.std.proofs.lemmas.List.{get_or-map, length-map, take_all}
 use Rattle.fraction_theory.specs.Fraction.{Fraction, whole, neg_ℚ, ◌+ℚ◌, ◌-ℚ◌, ◌*ℚ◌}
-use Rattle.fraction_theory.specs.Sums.{sum_by, Term, Plain, Product, term_value, total}
+use Rattle.fraction_theory.specs.Sums.{sum_by, Term, Product, term_value, total}
 use Rattle.fraction_theory.proofs.FieldLaws.{ring_ℚ, +ℚ_nil}
 use Rattle.fraction_theory.proofs.ListSums.{Contains-from_filter}
 use Rattle.fraction_theory.proofs.Ring.{by_ring, at, padd, pmul, pneg, pnil, times_nil}
@@ -16,31 +16,13 @@ use Rattle.market_model.specs.declared.limits.Row.{Row}
 use Rattle.market_model.specs.LimitRows.{factor_terms, rows, row_id, row_factor}
 use Rattle.market_model.specs.NamedSums.{IsRefusal, IsRefusedIn, IsShareRefusal}
 use Rattle.market_model.specs.Optimality.{bus_price, up_of, down_of, net_shadow_price, names_row, named_rows, congestion, congestion_terms, congestion_by, price_terms}
-use Rattle.market_model.specs.SumTables.{BusPriceSum, congestion_at, factor_at_bus, IsFactorRefusal, OwnPriceSum, price_of_bus, price_of_unit}
+use Rattle.market_model.specs.SumTables.{BusPriceSum, congestion_at, factor_at_bus, IsFactorRefusal, OwnPriceSum, price_of_bus, price_of_unit, factor_of_bus}
 use Rattle.market_model.proofs.MorePlaces.{sum_by_more}
-use Rattle.market_model.proofs.SumSteps.{plus_at, refusal_same, share_at}
+use Rattle.market_model.proofs.SumSteps.{refusal_same, share_at, two_refused}
 use Rattle.limit_rows.proofs.DualLemmas.{up_unnamed, down_unnamed, sum_named, terms_named}
 use Rattle.cert_sums.specs.declared.pricing.NamedRow.{NamedRow}
 use Rattle.cert_sums.specs.Named.{PricedRow, priced_at, priced_by, AreNamed}
 use Rattle.cert_sums.specs.Refusals.{IsNetPriceRefusal, IsPriceRefusal, IsPricesRefusal, IsUnitPriceRefusal}
-
--- ---- a list round one of those that pass a test
-pub filter_at : {X : Type 0} (p : X → Bool) (xs : List X) (k : ℕ) (e : X) → k < length (filter p xs)
-    → (front : List X) × (rest : List X) × (xs ≡ front ++ get_or (filter p xs) k e ∷ rest) × (filter p front ≡ take k (filter p xs))
-filter_at p [] k e h = absurd (Prim.omega (arith, h))
-filter_at {X} p (x ∷ xs) k e h = by (p x) refl k (λ j lt. filter_at p xs j e lt) h
-  where
-    by : (b : Bool) → p x ≡ b → (j : ℕ)
-        → ((i : ℕ) → i < length (filter p xs) → (front : List X) × (rest : List X) × (xs ≡ front ++ get_or (filter p xs) i e ∷ rest) × (filter p front ≡ take i (filter p xs)))
-        → j < length (cond b (x ∷ filter p xs) (filter p xs))
-        → (front : List X) × (rest : List X) × (x ∷ xs ≡ front ++ get_or (cond b (x ∷ filter p xs) (filter p xs)) j e ∷ rest) × (filter p front ≡ take j (cond b (x ∷ filter p xs) (filter p xs)))
-    by true t zero more lt = ([], xs, refl, refl)
-    by true t (suc j) more lt =
-        let r = more j (Prim.omega (arith, lt)) in
-        (x ∷ r.0, r.1, ap (λ ys. x ∷ ys) r.2, ap (λ (b : Bool). cond b (x ∷ filter p r.0) (filter p r.0)) t ∙ ap (λ ys. x ∷ ys) r.3)
-    by false t j more lt =
-        let r = more j lt in
-        (x ∷ r.0, r.1, ap (λ ys. x ∷ ys) r.2, ap (λ (b : Bool). cond b (x ∷ filter p r.0) (filter p r.0)) t ∙ r.3)
 
 -- the row that duals name at a place, with its prices
 pub record IsNamedAt (m : Parts) (d : Duals Fraction) (k : ℕ) (e : PricedRow) : Type 0 where
@@ -130,7 +112,7 @@ module _ (m : Parts) (d : Duals Fraction) (i : ℕ) where
 
     -- the factor of the row
     pub factor_stops : (bound : ℕ) (p : Passed Fraction) → i < length m.buses → IsRefusedIn (factor_terms m e.row i) bound p → IsCongestionRefusal m d i bound p
-    factor_stops bound p inside why = inr (inr (e.row, is_named_row m d k e h, (factor_terms m e.row i, factor_at_bus i inside, why)))
+    factor_stops bound p inside why = inr (inr (e.row, is_named_row m d k e h, (factor_terms m e.row i, factor_of_bus _ (factor_at_bus i inside), why)))
 
 -- what is refused in the congestion is in the price
 pub in_congestion : (m : Parts) (d : Duals Fraction) (i : ℕ) (bound : ℕ) (p : Passed Fraction) → IsCongestionRefusal m d i bound p → IsPriceRefusal m d (BusPriceSum m d i) bound p
@@ -139,8 +121,7 @@ in_congestion m d i bound p (inr h) = inr h
 
 -- the price of energy and the congestion are added
 pub price_refused : (m : Parts) (d : Duals Fraction) (i : ℕ) (bound : ℕ) (p : Passed Fraction) → IsRefusal Plus d.energy (congestion m d i) bound p → IsRefusedIn (price_terms m d i) bound p
-price_refused m d i bound p h =
-    (plus_at (price_terms m d i) (Plain d.energy ∷ []) [] (Plain (congestion m d i)) refl bound p d.energy (congestion m d i) (sym (+ℚ_nil d.energy)) refl h)
+price_refused m d i bound p h = two_refused d.energy (congestion m d i) d.energy (congestion m d i) bound p refl refl h
 
 -- ---- what is refused in the price at a bus, or in what a unit's loss takes from that, is in the price of a unit
 pub bus_in_unit : (m : Parts) (d : Duals Fraction) (i : ℕ) (bound : ℕ) (p : Passed Fraction) → i < length m.buses → IsPriceRefusal m d (BusPriceSum m d i) bound p → IsUnitPriceRefusal m d bound p

@@ -20,10 +20,10 @@ use Rattle.market_model.specs.Optimality.{up_of, down_of, net_shadow_price, name
 use Rattle.market_model.specs.SumTables.{IsRefusedAmong, OwnPriceSum, PickupSum, factor_of_pickup, own_price_of_unit}
 use Rattle.market_model.proofs.MorePlaces.{sum_by_more}
 use Rattle.market_model.proofs.SumSteps.{refusal_same, share_at}
-use Rattle.limit_rows.proofs.DualLemmas.{up_unnamed, down_unnamed, sum_named}
+use Rattle.limit_rows.proofs.DualLemmas.{up_unnamed, down_unnamed, sum_named, filter_at}
 use Rattle.cert_sums.specs.Named.{PricedRow}
 use Rattle.cert_sums.specs.Refusals.{IsNetPriceRefusal, IsPriceRefusal}
-use Rattle.cert_sums.proofs.NamedLemmas.{IsNamedAt, filter_at, is_named_row}
+use Rattle.cert_sums.proofs.NamedLemmas.{IsNamedAt, is_named_row}
 
 module _ (m : Parts) (d : Duals Fraction) (price : ℕ → Fraction) (u : ℕ) where
   abbrev lost : Row → Bool

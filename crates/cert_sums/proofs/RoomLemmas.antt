@@ -4,10 +4,10 @@ use Rattle.std.proofs.Common.{arith, inl, inr, ap, ap₂, sym, subst, ◌∙◌,
 use Rattle.std.proofs.lemmas.List.{append-nil, map-append, get_or-map, length-map, take_all}
 use Rattle.std.proofs.lemmas.Bool.Decides.{eqb_tells}
 use Rattle.fraction_theory.specs.Fraction.{Fraction, neg_ℚ, ◌+ℚ◌, ◌-ℚ◌, ◌*ℚ◌}
-use Rattle.fraction_theory.specs.Sums.{sum_by, Term, Plain, Product, total}
+use Rattle.fraction_theory.specs.Sums.{sum_by, Term, Product, total}
 use Rattle.fraction_theory.proofs.FieldLaws.{ring_ℚ, +ℚ_nil, +ℚ_assoc}
 use Rattle.fraction_theory.proofs.ListSums.{Contains-cases, Contains-cons, Contains-filter, Contains-from_filter, Contains-head, kept, sum_by-filter}
-use Rattle.fraction_theory.proofs.Ring.{by_ring, at, neg_neg, pneg, pnil, ◌⊕◌, ◌⊗◌}
+use Rattle.fraction_theory.proofs.Ring.{by_ring, at, pneg, pnil, ◌⊕◌, ◌⊗◌}
 use Rattle.fraction_theory.proofs.SumLaws.{sum_by-same, total-append, total-map}
 use Rattle.exact_fraction.specs.declared.Op.TheVariants.{Minus}
 use Rattle.exact_fraction.specs.declared.Passed.{Passed}
@@ -24,10 +24,10 @@ use Rattle.market_model.specs.SumTables.{IsRefusedAmong, WorthSum, energy_of_uni
 use Rattle.market_model.proofs.FarkasParts.{farkas_terms-parts}
 use Rattle.market_model.proofs.MorePlaces.{sum_by_more, total-places_more}
 use Rattle.market_model.proofs.RoomLemmas.{listed-inside, offers-listed}
-use Rattle.market_model.proofs.SumSteps.{behind, in_front, minus_at, share_at, terms_at}
+use Rattle.market_model.proofs.SumSteps.{behind, in_front, share_at, terms_at, difference_refused}
 use Rattle.cert_sums.specs.declared.worths.NamedRoom.{NamedRoom}
 use Rattle.cert_sums.specs.Named.{AreNamedRooms, PricedRoom, room_in, room_priced_at, room_priced_by}
-use Rattle.cert_sums.proofs.NamedLemmas.{filter_at}
+use Rattle.limit_rows.proofs.DualLemmas.{filter_at}
 
 -- ---- a room that is not named is free
 room_unnamed : (ds : List (RoomDual Fraction)) (row : ℕ) → names_room ds row ≡ false → room_price_in ds row ≡ zero
@@ -109,16 +109,14 @@ module _ (m : Parts) (d : Duals Fraction) (u : ℕ) (listed : Contains (reserve_
   energy_worth_refused h = (
     worth_terms m d u,
     energy_of_unit u listed,
-    minus_at (worth_terms m d u) (Plain (unit_price m d u) ∷ []) [] (Plain (neg_ℚ (room_price m d u))) refl bound p (unit_price m d u) (room_price m d u) (sym (+ℚ_nil (unit_price m d u)))
-        (sym (neg_neg ring_ℚ (room_price m d u))) h,
+    difference_refused (unit_price m d u) (room_price m d u) (unit_price m d u) (room_price m d u) bound p refl refl h,
   )
 
   pub reserve_worth_refused : IsRefusal Minus d.reserve (room_price m d u) bound p → IsRefusedAmong (WorthSum m d) bound p
   reserve_worth_refused h = (
     reserve_worth_terms m d u,
     reserve_of_unit u listed,
-    minus_at (reserve_worth_terms m d u) (Plain d.reserve ∷ []) [] (Plain (neg_ℚ (room_price m d u))) refl bound p d.reserve (room_price m d u) (sym (+ℚ_nil d.reserve))
-        (sym (neg_neg ring_ℚ (room_price m d u))) h,
+    difference_refused d.reserve (room_price m d u) d.reserve (room_price m d u) bound p refl refl h,
   )
 
 -- ---- named rooms, one by one

@@ -8,10 +8,11 @@ use Rattle.market_model.specs.declared.answered.Duals.{Duals}
 use Rattle.market_model.specs.declared.limits.Row.{Row}
 use Rattle.market_model.specs.declared.participants.Parts.{Parts}
 use Rattle.market_model.specs.Dispatch.{empty}
-use Rattle.market_model.specs.LimitRows.{flow, most_flow, limit, most_excess}
+use Rattle.market_model.specs.LimitRows.{flow, most_flow, limit}
 use Rattle.market_model.specs.NamedSums.{IsRefusal}
 use Rattle.market_model.specs.Optimality.{named_rows}
 use Rattle.market_model.specs.SumTables.{IsRefusedAmong, BoundSum, FlowSum, PickupSum, WorthSum}
+use Rattle.limit_rows.specs.Refusals.{IsMostFlowRefusal}
 use Rattle.cert_sums.specs.Refusals.{IsUnitPriceRefusal}
 
 -- in a flow or a lost output where nothing is accepted, in a row's pickup factor, in the price of a unit or in what a MW of one is worth, in
@@ -22,6 +23,6 @@ pub data IsFarkasPair (m : Parts) (d : Duals Fraction) (bound : ℕ) (p : Passed
   in_price : IsUnitPriceRefusal m d bound p → IsFarkasPair m d bound p
   in_worth : IsRefusedAmong (WorthSum m d) bound p → IsFarkasPair m d bound p
   in_bound : IsRefusedAmong (BoundSum m d) bound p → IsFarkasPair m d bound p
-  of_most : (r : Row) → Contains (named_rows m d) r → IsRefusal Plus (limit m r) (most_excess m r) bound p → IsFarkasPair m d bound p
+  of_most : (r : Row) → Contains (named_rows m d) r → IsMostFlowRefusal m r bound p → IsFarkasPair m d bound p
   of_limit_less : (r : Row) → Contains (named_rows m d) r → IsRefusal Minus (most_flow m r) (flow m (empty m) r) bound p → IsFarkasPair m d bound p
   of_limit_more : (r : Row) → Contains (named_rows m d) r → IsRefusal Plus (most_flow m r) (flow m (empty m) r) bound p → IsFarkasPair m d bound p

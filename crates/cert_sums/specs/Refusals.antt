@@ -8,10 +8,11 @@ use Rattle.market_model.specs.declared.answered.Duals.{Duals}
 use Rattle.market_model.specs.declared.participants.Parts.{Parts}
 use Rattle.market_model.specs.Dispatch.{Dispatch, injection}
 use Rattle.market_model.specs.declared.limits.Row.{Row}
-use Rattle.market_model.specs.LimitRows.{carried, flow, limit, most_excess, most_flow}
+use Rattle.market_model.specs.LimitRows.{carried, flow, limit, most_flow}
 use Rattle.market_model.specs.NamedSums.{IsRefusal, IsShareRefusal}
 use Rattle.market_model.specs.Optimality.{up_of, down_of, named_rows}
 use Rattle.market_model.specs.SumTables.{IsFactorRefusal, IsFlowRefusal, IsRefusedAmong, LineFlowSum, LostOutputSum, PriceSum, WorthSum}
+use Rattle.limit_rows.specs.Refusals.{IsMostFlowRefusal}
 use Rattle.cert_sums.specs.Named.{PricedRow}
 
 -- the two prices of a row that duals name
@@ -48,7 +49,7 @@ IsBelowRefusal sum price limit flow bound p = IsRefusal Plus limit flow bound p 
 
 -- the flow of a row or its pickup factor, the most that the flow may be, or what its prices make of what the flow leaves of that, on either side
 pub data IsRowShareRefusal (m : Parts) (x : Dispatch) (e : PricedRow) (sum : Fraction) (bound : ℕ) (p : Passed Fraction) : Type 0 where
-  in_most : IsRefusal Plus (limit m e.row) (most_excess m e.row) bound p → IsRowShareRefusal m x e sum bound p
+  in_most : IsMostFlowRefusal m e.row bound p → IsRowShareRefusal m x e sum bound p
   in_flow : IsFlowRefusal m (carried m x) e.row bound p → IsRowShareRefusal m x e sum bound p
   in_above : IsAboveRefusal sum e.up (most_flow m e.row) (flow m x e.row) bound p → IsRowShareRefusal m x e sum bound p
   in_below : IsBelowRefusal (sum +ℚ e.up *ℚ (most_flow m e.row -ℚ flow m x e.row)) e.down (most_flow m e.row) (flow m x e.row) bound p → IsRowShareRefusal m x e sum bound p

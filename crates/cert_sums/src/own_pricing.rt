@@ -14,7 +14,7 @@ ghost use Rattle.cert_sums.specs.Refusals.{IsPriceRefusal};
 use crate::NamedRow;
 use crate::pricing::less_net_price;
 use exact_fraction::{Exact, Passed};
-use limit_rows::pickup_factor;
+use limit_rows::{lost_unit, pickup_factor};
 use market_model::{Cause, Market, Row, datum};
 
 /// Whether a cause loses the unit at a place.
@@ -24,7 +24,7 @@ fn loses_unit(market: &Market, cause: Cause, unit: usize) -> bool
 {
     match cause {
         Cause::Base | Cause::Branch(_) => false,
-        Cause::UnitOutage(outage) => *market.unit_outages().at(outage) == unit,
+        Cause::UnitOutage(outage) => lost_unit(market, outage) == unit,
     }
 }
 

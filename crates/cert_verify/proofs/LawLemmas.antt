@@ -105,7 +105,7 @@ module _ (m : Parts) (market : IsMarket m) where
   alone : m.reserve.listed ≡ false → m.reserve ≡ no_reserve
   alone e = market.reserve.unlisted e
 
-  pub law_of_an_answer : (a : Answer Fraction) → IsRight m a → (listed : Bool) → m.reserve.listed ≡ listed → IsShown m (cert_of m.places listed a)
+  pub law_of_an_answer : (a : Answer Fraction) → IsRight m a → (listed : Bool) → m.reserve.listed ≡ listed → IsShown m (cert_of m.factor_places listed a)
   law_of_an_answer a right true e = record {
     rows = names_by m market a.duals right.proper;
     rooms = names_rooms m market a.duals right.proper;
@@ -121,7 +121,7 @@ module _ (m : Parts) (market : IsMarket m) where
         supported = subst₂ (Supports m) x d right.supported;
       }
 
-  pub law_of_duals : (f : infeasible.Farkas Fraction) → IsFarkas m f → (listed : Bool) → m.reserve.listed ≡ listed → IsShown m (cert_against m.places listed f)
+  pub law_of_duals : (f : infeasible.Farkas Fraction) → IsFarkas m f → (listed : Bool) → m.reserve.listed ≡ listed → IsShown m (cert_against m.factor_places listed f)
   law_of_duals f shown true e = record { rows = names_by m market f.duals shown.proper; rooms = names_rooms m market f.duals shown.proper; shows = shown.shows }
   law_of_duals f shown false e =
       let d : f.duals ≡ energy_duals f.duals.energy f.duals.limits = duals_alone m (alone e) f.duals shown.proper in record {
@@ -133,9 +133,9 @@ module _ (m : Parts) (market : IsMarket m) where
 pub law_of_right_answers : LawOfRightAnswers
 law_of_right_answers m a market right =
     let apart = apart_by m market a.duals right.proper in
-    (apart, shows_yes m (cert_of m.places m.reserve.listed a) apart (record { places = refl; shown = law_of_an_answer m market a right m.reserve.listed refl }))
+    (apart, shows_yes m (cert_of m.factor_places m.reserve.listed a) apart (record { places = refl; shown = law_of_an_answer m market a right m.reserve.listed refl }))
 
 pub law_of_farkas_duals : LawOfFarkasDuals
 law_of_farkas_duals m f market shown =
     let apart = apart_by m market f.duals shown.proper in
-    (apart, shows_yes m (cert_against m.places m.reserve.listed f) apart (record { places = refl; shown = law_of_duals m market f shown m.reserve.listed refl }))
+    (apart, shows_yes m (cert_against m.factor_places m.reserve.listed f) apart (record { places = refl; shown = law_of_duals m market f shown m.reserve.listed refl }))

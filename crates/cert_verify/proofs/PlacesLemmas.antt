@@ -22,10 +22,10 @@ same_places Six Nine e = absurd (true≢false (sym e))
 same_places Nine Six e = absurd (true≢false (sym e))
 same_places Nine Nine e = refl
 
-pub places_to : (m : Parts) (had : FactorPlaces) → places_reason m had ≡ None → had ≡ m.places
-places_to m had e = same_places had m.places (not_false _ (not_so _ reason.Places e))
+pub places_to : (m : Parts) (had : FactorPlaces) → places_reason m had ≡ None → had ≡ m.factor_places
+places_to m had e = same_places had m.factor_places (not_false _ (not_so _ reason.Places e))
 
-pub places_from : (m : Parts) (had : FactorPlaces) → had ≡ m.places → places_reason m had ≡ None
+pub places_from : (m : Parts) (had : FactorPlaces) → had ≡ m.factor_places → places_reason m had ≡ None
 places_from m had e = so_none _ reason.Places (not_true _ (eq-eqb _ _ (ap place_count e)))
 
 -- they do not change with what numbers stand for

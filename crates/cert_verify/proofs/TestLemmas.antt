@@ -1,18 +1,16 @@
 -- What tests of numbers and of lists mean.
-use Rattle.std.specs.Prelude.{◌≡◌, ◌⊎◌, ◌||◌, ◌&&◌, ℕ, ◌+◌, ◌<◌, ℤ, ◌<ℤ◌, int_lt, Bool, true, false, not, cond, List, [], ◌∷◌, ◌++◌, All, Contains, Option, Some, None, option_map, refl}
+use Rattle.std.specs.Prelude.{◌≡◌, ◌⊎◌, ◌||◌, ◌&&◌, ◌+◌, ◌<◌, ℤ, ◌<ℤ◌, int_lt, Bool, true, false, not, cond, List, [], ◌∷◌, ◌++◌, All, Contains, Option, Some, None, option_map, refl}
 use Rattle.std.specs.Option.{option_or}
 use Rattle.std.specs.List.{find, list_any}
 use Rattle.std.specs.Ordering.{MatchOrdering}
 use Rattle.std.proofs.Common.{arith, inl, inr, ap, sym, subst, ◌∙◌, get_or, Ordering, Less, Equal, Greater}
 use Rattle.std.proofs.lemmas.Bool.{true≢false, or_parts, or_cases}
-use Rattle.std.proofs.lemmas.List.FromFn.{length-range_with_len, get_or-range_with_len}
 use Rattle.std.proofs.lemmas.Int.{ints}
 use Rattle.fraction_theory.specs.Fraction.{Fraction}
 use Rattle.market_model.specs.declared.participants.Side.{Side}
 use Rattle.fraction_theory.specs.Order.{◌≤ℚ◌, ◌<ℚ◌}
 use Rattle.fraction_theory.proofs.ListSums.{Contains-head, Contains-cons, Contains-cases}
 use Rattle.fraction_theory.proofs.OrderLaws.{<ℚ-≤ℚ, <ℚ-not-≤ℚ, ≤ℚ-or-<ℚ, ≤ℚ_antisym, ≤ℚ_of_same}
-use Rattle.market_model.specs.Dispatch.{places}
 use Rattle.market_model.proofs.ChangeLemmas.{same_default}
 use Rattle.cert_verify.specs.declared.verdicts.Reason.{Reason}
 use Rattle.cert_verify.specs.Reasons.{NoneOf, breaks_support, is_below, is_outside, differ, of_first, where_so, first_of, verdict_of}
@@ -116,15 +114,6 @@ any_none p (x ∷ xs) h = neither (p x) (list_any p xs) (h x (Contains-head x xs
 
 pub all_by : {X : Type 0} (P : X → Type 0) (xs : List X) → ((x : X) → Contains xs x → P x) → All P xs
 all_by P xs h k d lt = h (get_or xs k d) (k, lt, same_default xs k (get_or xs k d) d lt)
-
-pub in_places : (n j : ℕ) → j < n → Contains (places n) j
-in_places n j h = let from_0 : 0 + j ≡ j = Prim.omega arith in (j, Prim.omega (arith, h, length-range_with_len 0 n), get_or-range_with_len 0 n j j h ∙ from_0)
-
-pub from_places : (n j : ℕ) → Contains (places n) j → j < n
-from_places n j (k, lt, e) =
-    let inside : k < n = Prim.omega (arith, lt, length-range_with_len 0 n) in
-    let from_0 : 0 + k ≡ k = Prim.omega arith in
-    subst (λ (i : ℕ). i < n) (sym from_0 ∙ sym (get_or-range_with_len 0 n k j inside) ∙ e) inside
 
 -- ---- the first that a test finds
 pub find_none : {X : Type 0} (p : X → Bool) (xs : List X) → find p xs ≡ None → (x : X) → Contains xs x → p x ≡ false

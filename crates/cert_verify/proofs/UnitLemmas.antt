@@ -12,12 +12,13 @@ use Rattle.market_model.specs.Dispatch.{places}
 use Rattle.market_model.specs.Optimality.{names_room, room_price_in}
 use Rattle.market_model.proofs.MorePlaces.{places_more}
 use Rattle.market_model.proofs.SumSteps.{places_at}
+use Rattle.market_model.proofs.RowMembers.{Contains-places}
 use Rattle.cert_verify.specs.declared.verdicts.Reason.{Reason}
 use Rattle.cert_verify.specs.declared.verdicts.Reason.TheVariants as reason
 use Rattle.cert_verify.specs.Naming.{IsPriceOf}
 use Rattle.cert_verify.specs.Reasons.{of_first}
 use Rattle.cert_verify.proofs.FindLemmas.{found_behind, none_more}
-use Rattle.cert_verify.proofs.TestLemmas.{any_of, in_places, neither}
+use Rattle.cert_verify.proofs.TestLemmas.{any_of, neither}
 
 pub left_false : (a b : Bool) → a ≡ false → (a && b) ≡ false
 left_false true b e = absurd (true≢false e)
@@ -38,7 +39,7 @@ module _ (p q : ℕ → Bool) where
 
   -- this one is
   pub any_here : (n k : ℕ) → k < n → p k ≡ true → q k ≡ true → list_any p (filter q (places n)) ≡ true
-  any_here n k lt t kept = any_of p (filter q (places n)) k (Contains-filter q (places n) k (in_places n k lt) kept) t
+  any_here n k lt t kept = any_of p (filter q (places n)) k (Contains-filter q (places n) k (Contains-places n k lt) kept) t
 
   -- the first
   pub first_here : (because : ℕ → Reason) (n k : ℕ) → find p (filter q (places k)) ≡ None → k < n → q k ≡ true → p k ≡ true → Some (because k) ≡ of_first because p (filter q (places n))

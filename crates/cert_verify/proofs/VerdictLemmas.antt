@@ -19,16 +19,17 @@ use Rattle.market_model.specs.Infeasibility.{farkas_bound}
 use Rattle.market_model.specs.declared.limits.Row.{Row}
 use Rattle.market_model.specs.LimitRows.{rows, row_id, limit, flow, most_flow, penalty}
 use Rattle.market_model.specs.Optimality.{BlockSupported, Feasible, Gains, Loses, OfferSupported, RowSupported, SideSupported, Supports, same_id, names_row, up_in, down_in, up_of, down_of, price, energy_worth, reserve_worth}
-use Rattle.market_model.specs.Reserves.{offer_places, offer_price, reserve, reserve_need, reserve_units, room, room_used}
+use Rattle.market_model.specs.Reserves.{offer_places, offer_price, reserve, reserve_need, reserve_units, room, room_used, KeepRooms}
 use Rattle.limit_rows.proofs.DualLemmas.{up_unnamed, down_unnamed}
 use Rattle.limit_rows.proofs.PlaceLemmas.{same_name}
 use Rattle.cert_verify.specs.declared.verdicts.Reason.TheVariants as reason
 use Rattle.cert_verify.specs.Certificates.{ProvesInfeasible, IsOptimum, NamesRows}
 use Rattle.limit_rows.specs.Naming.{has_name}
 use Rattle.cert_verify.specs.Reasons.{NoneOf, bound_reason, block_reason, breaks_row, breaks_side, breaks_support, count_reason, balance_reason, differ, farkas_reasons, first_of, is_gaining, has_negative, has_no_row, has_slack, is_below, is_beyond, is_offer_beyond, is_offer_unsupported, is_overfull, is_overloaded, is_slack, is_unpriced, is_unsupported, limit_reason, limit_reasons, is_losing, need_reason, need_sign_reason, need_slack_reason, optimal_reasons, reserve_reason, reserve_support_reason, room_reason, room_sign_reason, room_slack_reason, row_reason, sign_reason, slack_reason, slack_reasons, sum_reasons, support_reason, unit_reason, unpriced_reason}
-use Rattle.cert_verify.proofs.TestLemmas.{below_true, below_of, not_below, below_not, same_by, same_not, neither, not_both, then_not, not_false, not_true, any_true, any_of, any_false, any_none, all_by, in_places, from_places, none_of, of_none, not_so, so_none, all_none, none_first}
+use Rattle.cert_verify.proofs.TestLemmas.{below_true, below_of, not_below, below_not, same_by, same_not, neither, not_both, then_not, not_false, not_true, any_true, any_of, any_false, any_none, all_by, none_of, of_none, not_so, so_none, all_none, none_first}
 use Rattle.cert_verify.proofs.RoomLemmas.{room_sign, room_signs_from, room_slack_from, rooms_from, rooms_to, used_up_to}
 use Rattle.market_model.specs.Overrun.{Within}
+use Rattle.market_model.proofs.RowMembers.{Contains-places, Contains-from_places}
 
 -- ---- names and their prices
 pub own_id : (a : RowId) → same_id a a ≡ true
@@ -137,24 +138,24 @@ module _ (m : Parts) (x : Dispatch) (d : Duals Fraction) where
 
   blocks_to : support_reason m x d ≡ None → (j : ℕ) → j < length m.blocks → BlockSupported m x d j
   blocks_to e j lt =
-      let none = none_of (λ (j : ℕ). reason.Support (j + 1)) (is_unsupported m x d) (places (length m.blocks)) e j (in_places (length m.blocks) j lt) in
+      let none = none_of (λ (j : ℕ). reason.Support (j + 1)) (is_unsupported m x d) (places (length m.blocks)) e j (Contains-places (length m.blocks) j lt) in
       let s = support_to (block_at m j).side (price m j) (worth_of j) (quantity m j) (accepted x j) none in record { full = s.full; empty = s.empty }
 
   blocks_from : ((j : ℕ) → j < length m.blocks → BlockSupported m x d j) → support_reason m x d ≡ None
   blocks_from h =
       of_none (λ (j : ℕ). reason.Support (j + 1)) (is_unsupported m x d) (places (length m.blocks))
-      (λ j c. let s = h j (from_places (length m.blocks) j c) in
+      (λ j c. let s = h j (Contains-from_places (length m.blocks) j c) in
       support_from (block_at m j).side (price m j) (worth_of j) (quantity m j) (accepted x j) (record { full = s.full; empty = s.empty }))
 
   offers_to : reserve_support_reason m x d ≡ None → (n : ℕ) → n < length m.reserve.offers → OfferSupported m x d n
   offers_to e n lt =
-      let none = none_of (λ (n : ℕ). reason.ReserveSupport (n + 1)) (is_offer_unsupported m x d) (offer_places m) e n (in_places (length m.reserve.offers) n lt) in
+      let none = none_of (λ (n : ℕ). reason.ReserveSupport (n + 1)) (is_offer_unsupported m x d) (offer_places m) e n (Contains-places (length m.reserve.offers) n lt) in
       let s = support_to Sell (offer_price m n) (offer_worth n) (reserve_quantity m n) (reserved x n) none in record { full = s.full; empty = s.empty }
 
   offers_from : ((n : ℕ) → n < length m.reserve.offers → OfferSupported m x d n) → reserve_support_reason m x d ≡ None
   offers_from h =
       of_none (λ (n : ℕ). reason.ReserveSupport (n + 1)) (is_offer_unsupported m x d) (offer_places m)
-      (λ n c. let s = h n (from_places (length m.reserve.offers) n c) in
+      (λ n c. let s = h n (Contains-from_places (length m.reserve.offers) n c) in
       support_from Sell (offer_price m n) (offer_worth n) (reserve_quantity m n) (reserved x n) (record { full = s.full; empty = s.empty }))
 
 -- ---- duals
@@ -270,28 +271,28 @@ module _ (m : Parts) (x : Dispatch) where
 
   inside_to : block_reason m x ≡ None → (j : ℕ) → j < length m.blocks → (zero ≤ℚ accepted x j) × (accepted x j ≤ℚ quantity m j)
   inside_to h j lt =
-      let parts = or_parts (is_below (accepted x j) zero) (is_below (quantity m j) (accepted x j)) (none_of (λ j. reason.Block (j + 1)) (is_beyond m x) (places (length m.blocks)) h j (in_places (length m.blocks) j lt)) in
+      let parts = or_parts (is_below (accepted x j) zero) (is_below (quantity m j) (accepted x j)) (none_of (λ j. reason.Block (j + 1)) (is_beyond m x) (places (length m.blocks)) h j (Contains-places (length m.blocks) j lt)) in
       (not_below (accepted x j) zero parts.0, not_below (quantity m j) (accepted x j) parts.1)
 
   inside_from : ((j : ℕ) → j < length m.blocks → (zero ≤ℚ accepted x j) × (accepted x j ≤ℚ quantity m j)) → block_reason m x ≡ None
   inside_from h =
       of_none (λ j. reason.Block (j + 1)) (is_beyond m x) (places (length m.blocks))
-      (λ j c. let w = h j (from_places (length m.blocks) j c) in neither (is_below (accepted x j) zero) (is_below (quantity m j) (accepted x j)) (below_not (accepted x j) zero w.0) (below_not (quantity m j) (accepted x j) w.1))
+      (λ j c. let w = h j (Contains-from_places (length m.blocks) j c) in neither (is_below (accepted x j) zero) (is_below (quantity m j) (accepted x j)) (below_not (accepted x j) zero w.0) (below_not (quantity m j) (accepted x j) w.1))
 
   offered_to : reserve_reason m x ≡ None → (n : ℕ) → n < length m.reserve.offers → (zero ≤ℚ reserved x n) × (reserved x n ≤ℚ reserve_quantity m n)
   offered_to h n lt =
-      let parts = or_parts (is_below (reserved x n) zero) (is_below (reserve_quantity m n) (reserved x n)) (none_of (λ (n : ℕ). reason.Reserve (n + 1)) (is_offer_beyond m x) (offer_places m) h n (in_places (length m.reserve.offers) n lt)) in
+      let parts = or_parts (is_below (reserved x n) zero) (is_below (reserve_quantity m n) (reserved x n)) (none_of (λ (n : ℕ). reason.Reserve (n + 1)) (is_offer_beyond m x) (offer_places m) h n (Contains-places (length m.reserve.offers) n lt)) in
       (not_below (reserved x n) zero parts.0, not_below (reserve_quantity m n) (reserved x n) parts.1)
 
   offered_from : ((n : ℕ) → n < length m.reserve.offers → (zero ≤ℚ reserved x n) × (reserved x n ≤ℚ reserve_quantity m n)) → reserve_reason m x ≡ None
   offered_from h =
       of_none (λ (n : ℕ). reason.Reserve (n + 1)) (is_offer_beyond m x) (offer_places m)
-      (λ n c. let w = h n (from_places (length m.reserve.offers) n c) in neither (is_below (reserved x n) zero) (is_below (reserve_quantity m n) (reserved x n)) (below_not (reserved x n) zero w.0) (below_not (reserve_quantity m n) (reserved x n) w.1))
+      (λ n c. let w = h n (Contains-from_places (length m.reserve.offers) n c) in neither (is_below (reserved x n) zero) (is_below (reserve_quantity m n) (reserved x n)) (below_not (reserved x n) zero w.0) (below_not (reserve_quantity m n) (reserved x n) w.1))
 
-  filled_to : room_reason m x ≡ None → (u : ℕ) → Contains (reserve_units m) u → room_used m x u ≤ℚ room m u
+  filled_to : room_reason m x ≡ None → KeepRooms m (reserve_units m) x
   filled_to h u c = not_below (room m u) (room_used m x u) (none_of (λ (u : ℕ). reason.Room (unit_at m u).row) (is_overfull m x) (reserve_units m) h u c)
 
-  filled_from : ((u : ℕ) → Contains (reserve_units m) u → room_used m x u ≤ℚ room m u) → room_reason m x ≡ None
+  filled_from : KeepRooms m (reserve_units m) x → room_reason m x ≡ None
   filled_from h = of_none (λ (u : ℕ). reason.Room (unit_at m u).row) (is_overfull m x) (reserve_units m) (λ u c. below_not (room m u) (room_used m x u) (h u c))
 
   met_to : need_reason m x ≡ None → reserve_need m ≤ℚ reserve m x

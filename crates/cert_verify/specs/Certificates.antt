@@ -79,5 +79,5 @@ IsShown m (Farkas energy limits places reserve) = ProvesInfeasible m (duals_of (
 
 -- the certificate is true of the market: its factors had as many places as the market's, and what it shows is so
 pub record IsTrueOf (m : Parts) (c : Cert Fraction) : Type 0 where
-  pub places : places_of c ≡ m.places
+  pub places : places_of c ≡ m.factor_places
   pub shown : IsShown m c

@@ -40,9 +40,9 @@ LawOfNothingFeasible =
 
 -- the certificate of a right answer is answered by yes
 abbrev pub LawOfRightAnswers : Type 0
-LawOfRightAnswers = (m : Parts) (a : Answer Fraction) → IsMarket m → IsRight m a → RowsAreDistinct (cert_of m.places m.reserve.listed a) × (verdict_of (first_reason m (cert_of m.places m.reserve.listed a)) ≡ Yes)
+LawOfRightAnswers = (m : Parts) (a : Answer Fraction) → IsMarket m → IsRight m a → RowsAreDistinct (cert_of m.factor_places m.reserve.listed a) × (verdict_of (first_reason m (cert_of m.factor_places m.reserve.listed a)) ≡ Yes)
 
 -- and that of duals that show a market infeasible
 abbrev pub LawOfFarkasDuals : Type 0
 LawOfFarkasDuals =
-    (m : Parts) (f : infeasible.Farkas Fraction) → IsMarket m → IsFarkas m f → RowsAreDistinct (cert_against m.places m.reserve.listed f) × (verdict_of (first_reason m (cert_against m.places m.reserve.listed f)) ≡ Yes)
+    (m : Parts) (f : infeasible.Farkas Fraction) → IsMarket m → IsFarkas m f → RowsAreDistinct (cert_against m.factor_places m.reserve.listed f) × (verdict_of (first_reason m (cert_against m.factor_places m.reserve.listed f)) ≡ Yes)

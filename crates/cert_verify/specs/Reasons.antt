@@ -123,7 +123,7 @@ where_so so because = if so then Some because else None
 
 -- factors had other places than the market's
 abbrev pub places_reason : Parts → FactorPlaces → Option Reason
-places_reason m had = where_so (not (place_count had == place_count m.places)) reason.Places
+places_reason m had = where_so (not (place_count had == place_count m.factor_places)) reason.Places
 
 abbrev pub count_reason : Parts → Dispatch → Option Reason
 count_reason m x = where_so (not ((length x.blocks == length m.blocks) && (length x.reserve == length m.reserve.offers))) reason.Count

@@ -2,7 +2,6 @@
 -- Source: own; reasons are looked at in the order in which they are told.
 use Rattle.std.specs.Prelude.{◌≡◌, ℕ, [], ◌∷◌, ◌++◌, Contains}
 use Rattle.fraction_theory.specs.Fraction.{Fraction}
-use Rattle.exact_fraction.specs.declared.Op.TheVariants.{Plus}
 use Rattle.exact_fraction.specs.declared.Passed.{Passed}
 use Rattle.market_model.specs.declared.answered.Duals.{Duals}
 use Rattle.market_model.specs.declared.limits.Row.{Row}
@@ -10,11 +9,10 @@ use Rattle.market_model.specs.declared.participants.Parts.{Parts}
 use Rattle.market_model.specs.declared.stops.Stop.{Stop}
 use Rattle.market_model.specs.declared.stops.Stop.TheVariants as stop
 use Rattle.market_model.specs.Dispatch.{Dispatch}
-use Rattle.market_model.specs.LimitRows.{rows, limit, most_excess}
-use Rattle.market_model.specs.NamedSums.{IsRefusal, IsRefusedIn}
-use Rattle.market_model.specs.Reserves.{reserve_terms}
-use Rattle.market_model.specs.SumTables.{IsRefusedAmong, BalanceSum, LimitFlowSum, PickupSum, RoomSum}
+use Rattle.market_model.specs.LimitRows.{rows, limit}
+use Rattle.market_model.specs.SumTables.{IsRefusedAmong, BalanceSum, LimitFlowSum, PickupSum, RoomSum, AcceptedSum}
 use Rattle.market_model.specs.Valued.{passed_at}
+use Rattle.limit_rows.specs.Refusals.{IsMostFlowRefusal}
 use Rattle.cert_format.specs.declared.certificate.Cert.{Cert}
 use Rattle.cert_format.specs.declared.certificate.Cert.TheVariants.{Optimal, Farkas}
 use Rattle.cert_format.specs.Certificates.{places_of}
@@ -30,14 +28,14 @@ use Rattle.cert_verify.specs.Reasons.{NoneOf, balance_reason, dual_reasons, flow
 pub data IsLimitPair (m : Parts) (x : Dispatch) (bound : ℕ) (p : Passed Fraction) : Type 0 where
   of_flow : IsRefusedAmong (LimitFlowSum m x) bound p → IsLimitPair m x bound p
   of_pickup : (r : Row) → Contains (rows m) r → IsRefusedAmong (PickupSum m r) bound p → IsLimitPair m x bound p
-  of_most : (r : Row) → Contains (rows m) r → IsRefusal Plus (limit m r) (most_excess m r) bound p → IsLimitPair m x bound p
+  of_most : (r : Row) → Contains (rows m) r → IsMostFlowRefusal m r bound p → IsLimitPair m x bound p
 
 -- An operation is refused that a reason asks for, and none of the reasons before that one holds: the balance is added up where nothing is
 -- wrong with the parts, reserve where the dispatch balances, flows where the need is met too, what is used of rooms where no limit is broken
 -- either, and what a MW is worth where nothing is wrong with all of these.
 pub data IsOptimalStop (m : Parts) (x : Dispatch) (d : Duals Fraction) (bound : ℕ) (p : Passed Fraction) : Type 0 where
   at_balance : IsRefusedAmong (BalanceSum m x) bound p → NoneOf (part_reasons m x d) → IsOptimalStop m x d bound p
-  at_need : IsRefusedIn (reserve_terms m x) bound p → NoneOf (part_reasons m x d ++ balance_reason m x ∷ []) → IsOptimalStop m x d bound p
+  at_need : IsRefusedAmong (AcceptedSum m x) bound p → NoneOf (part_reasons m x d ++ balance_reason m x ∷ []) → IsOptimalStop m x d bound p
   at_limits : IsLimitPair m x bound p → NoneOf (part_reasons m x d ++ sum_reasons m x) → IsOptimalStop m x d bound p
   at_rooms : IsRefusedAmong (RoomSum m x) bound p → NoneOf (part_reasons m x d ++ sum_reasons m x ++ limit_reason m x ∷ []) → IsOptimalStop m x d bound p
   at_support : IsWorthRefusal m d bound p → NoneOf (part_reasons m x d ++ flow_reasons m x d) → IsOptimalStop m x d bound p
@@ -54,7 +52,7 @@ IsKindStop m bound (Farkas energy limits places reserve) = IsFarkasStop m (duals
 
 -- and its factors had the market's places, which is looked at before
 pub record IsCertificateStop (m : Parts) (bound : ℕ) (c : Cert Fraction) (p : Passed Fraction) : Type 0 where
-  pub places : places_of c ≡ m.places
+  pub places : places_of c ≡ m.factor_places
   pub refused : IsKindStop m bound c p
 
 -- what a stop of the work on a market is told as

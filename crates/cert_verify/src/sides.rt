@@ -1,11 +1,9 @@
 //! Whether the prices of a row support its flow.
 
 ghost use Rattle.std.specs.Prelude.{◌≡◌, ◌<◌, length, IfOk, IfErr};
-ghost use Rattle.exact_fraction.specs.declared.Op.TheVariants.{Plus};
-ghost use Rattle.market_data.specs.Participants.{IsDatum};
-ghost use Rattle.market_model.specs.LimitRows.{limit, most_excess, most_flow};
-ghost use Rattle.market_model.specs.NamedSums.{IsRefusal};
+ghost use Rattle.market_model.specs.LimitRows.{limit, most_flow};
 ghost use Rattle.market_model.specs.Valued.{passed_at};
+ghost use Rattle.limit_rows.specs.Refusals.{IsMostFlowRefusal};
 ghost use Rattle.cert_verify.specs.Reasons.{breaks_row, breaks_side};
 
 use crate::comparing::{differ, is_below};
@@ -36,7 +34,7 @@ pub(crate) fn breaks_row<N: Exact>(
 ) -> Result<bool, Passed<N>>
     requires { row.line < length market.now.lines }
     ensures broken { IfOk result (λ broken. broken ≡ breaks_row market.now row (N.value up) (N.value down) (N.value flow)) }
-    ensures cause { IfErr result (λ passed. IsRefusal Plus (limit market.now row) (most_excess market.now row) N.bound (passed_at N.value passed)) }
+    ensures cause { IfErr result (λ passed. IsMostFlowRefusal market.now row N.bound (passed_at N.value passed)) }
 {
     let most = most_flow(market, row)?;
     Ok(breaks_side(market, row, most, up, flow) || breaks_side(market, row, most, down, flow.neg()))

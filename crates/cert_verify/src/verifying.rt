@@ -30,7 +30,7 @@ fn told(reason: Option<Reason>) -> Verdict
 fn other_places(market: &Market, places: FactorPlaces) -> Option<Reason>
     ensures { result ≡ places_reason market.now places }
 {
-    if places.count() == market.places().count() {
+    if places.count() == market.factor_places().count() {
         None
     } else {
         Some(Reason::Places)

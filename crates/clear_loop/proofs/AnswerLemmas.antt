@@ -10,11 +10,10 @@ use Rattle.market_model.specs.declared.answered.Price.{Price}
 use Rattle.market_model.specs.declared.participants.Parts.{Parts}
 use Rattle.market_model.specs.Dispatch.{dispatch_with, places}
 use Rattle.market_model.specs.Market.{IsMarket}
-use Rattle.market_model.specs.Optimality.{Feasible, Supports, ProperDuals, bus_price, price_by, welfare}
+use Rattle.market_model.specs.Optimality.{Feasible, Supports, ProperDuals, bus_price, price_by, welfare, ArePricesOf}
 use Rattle.market_model.specs.RightAnswers.{IsRight, settlement_at, price_made}
 use Rattle.market_model.specs.Valued.{answer_at, duals_at, money_at, price_at, total_at}
 use Rattle.settlement.specs.Laws.{LawOfRightMoney}
-use Rattle.settlement.specs.Paying.{ArePricesOf}
 use Rattle.market_model.proofs.ListSteps.{map-map}
 use Rattle.market_model.proofs.PlaceLists.{filled_at}
 

@@ -1,57 +1,32 @@
 -- The limits and rooms that a dispatch doesn't keep where some are taken, and what follows where all are kept.
-use Rattle.std.specs.Prelude.{◌≡◌, ◌⊎◌, ℕ, Bool, true, false, List, [], ◌∷◌, Contains, refl}
+use Rattle.std.specs.Prelude.{◌≡◌, ◌⊎◌, Bool, true, false, List, Contains, refl}
 use Rattle.std.proofs.Common.{inl, inr, ap, sym, subst, subst₂, ◌∙◌, get_or}
-use Rattle.fraction_theory.specs.Fraction.{Fraction, neg_ℚ}
+use Rattle.fraction_theory.specs.Fraction.{Fraction}
 use Rattle.fraction_theory.specs.Order.{◌<ℚ◌, ◌≤ℚ◌}
-use Rattle.fraction_theory.specs.Signs.{sign_of, abs_by, abs_ℚ}
-use Rattle.fraction_theory.specs.declared.Sign.{Sign}
-use Rattle.fraction_theory.specs.declared.Sign.TheVariants.{Below, Zero, Above}
-use Rattle.fraction_theory.proofs.OrderLaws.{NonNeg-one, by_le1, ≤ℚ_trans, ≤ℚ-<ℚ_trans, ≤ℚ-or-<ℚ, <ℚ-not-≤ℚ}
-use Rattle.fraction_theory.proofs.Ring.{at, pneg, pone}
+use Rattle.fraction_theory.proofs.OrderLaws.{<ℚ-not-≤ℚ}
 use Rattle.market_model.specs.declared.participants.Parts.{Parts}
 use Rattle.market_model.specs.Dispatch.{Dispatch}
-use Rattle.market_model.specs.Overrun.{overrun, IsBeyond, IsWorst, Keeps, Within}
+use Rattle.market_model.specs.Overrun.{overrun, IsBeyond, Keeps, Within}
 use Rattle.market_model.specs.declared.limits.Row.{Row}
-use Rattle.market_model.specs.LimitRows.{rows, limit, flow, flow_by, most_flow}
+use Rattle.market_model.specs.LimitRows.{carried, rows, limit, flow, flow_by, most_flow}
 use Rattle.market_model.specs.Market.{IsMarket}
-use Rattle.market_model.specs.Optimality.{Feasible, FeasibleFor}
+use Rattle.market_model.specs.Optimality.{Feasible}
 use Rattle.market_model.specs.Reserves.{room, room_used}
 use Rattle.market_model.proofs.ChangeLemmas.{same_default}
+use Rattle.market_model.proofs.Excesses.{within_most}
 use Rattle.market_system.specs.Growth.{BestFor, Broken}
 use Rattle.market_system.specs.MarketSystem.{is_in}
 use Rattle.market_system.proofs.RowOrder.{is_in-from, is_in-in}
+use Rattle.market_system.proofs.GrowthLaws.{beyond_is_new}
 use Rattle.limit_screen.specs.Flows.{carried_at, flows_at}
-use Rattle.limit_screen.specs.Screening.{AllKeep}
-use Rattle.limit_screen.proofs.ScreenLemmas.{law_of_row_flows, limit_most, listed_row, not_passed}
+use Rattle.limit_screen.specs.Screening.{AllKeep, IsWorstBy}
+use Rattle.limit_screen.proofs.ScreenLemmas.{law_of_row_flows, listed_row}
 use Rattle.market_dict.specs.Takings.{IsTaking, limits_of, taken_of}
 use Rattle.market_dict.specs.declared.taking.Taking.{Taking}
 use Rattle.market_dict.specs.declared.taking.Taking.TheVariants.{Limit, Room}
-use Rattle.clear_loop.specs.Growing.{IsNew, IsPassed}
-use Rattle.clear_loop.specs.Rounds.{AllKept, IsScreened, KeepsAll}
+use Rattle.clear_loop.specs.Growing.{IsNew, IsPassedTaking}
+use Rattle.clear_loop.specs.Rounds.{IsScreened, KeepsAll}
 use Rattle.clear_loop.specs.declared.screen.Screened.TheVariants as screened
-
--- ---- a limit that is passed
-below_limit : (f F : Fraction) → F <ℚ neg_ℚ f → f <ℚ neg_ℚ F
-below_limit f F h = by (≤ℚ-or-<ℚ (neg_ℚ F) f)
-  where
-    by : (neg_ℚ F ≤ℚ f) ⊎ (f <ℚ neg_ℚ F) → f <ℚ neg_ℚ F
-    by (inl le) = absurd (<ℚ-not-≤ℚ F (neg_ℚ f) h (by_le1 (f ∷ F ∷ []) (pneg (at 0)) (at 1) pone (pneg (at 1)) (at 0) NonNeg-one le refl))
-    by (inr lt) = lt
-
-past_size : (f F : Fraction) (s : Sign) → F <ℚ abs_by s f → (F <ℚ f) ⊎ (f <ℚ neg_ℚ F)
-past_size f F Below h = inr (below_limit f F h)
-past_size f F Zero h = inl h
-past_size f F Above h = inl h
-
-passed_size : (f F : Fraction) → F <ℚ abs_ℚ f → (F <ℚ f) ⊎ (f <ℚ neg_ℚ F)
-unfolding abs_ℚ
-passed_size f F h = past_size f F (sign_of f) h
-
-within_more : (F G f : Fraction) → F ≤ℚ G → Within F f → Within G f
-within_more F G f h w = record {
-  above = ≤ℚ_trans (neg_ℚ G) (neg_ℚ F) f (by_le1 (F ∷ G ∷ []) (pneg (at 1)) (pneg (at 0)) pone (at 0) (at 1) NonNeg-one h refl) w.above;
-  below = ≤ℚ_trans f F G w.below h;
-}
 
 -- ---- rows that are taken
 pub taken_or_not : (g : List Row) (r : Row) → Contains g r ⊎ (¬ (Contains g r))
@@ -64,15 +39,7 @@ taken_or_not g r = by (is_in g r) refl
 module _ (m : Parts) (market : IsMarket m) (ts : List Taking) (x : Dispatch) where
   -- a flow beyond what it may be breaks its limit
   beyond_broken : (r : Row) → IsBeyond m (limits_of ts) r (flow m x r) → Broken m x r
-  beyond_broken r beyond = passed_size (flow m x r) (limit m r) (above (taken_or_not (limits_of ts) r))
-    where
-      above : Contains (limits_of ts) r ⊎ (¬ (Contains (limits_of ts) r)) → limit m r <ℚ abs_ℚ (flow m x r)
-      above (inl c) = ≤ℚ-<ℚ_trans (limit m r) (most_flow m r) (abs_ℚ (flow m x r)) (limit_most m market r) (beyond.most c)
-      above (inr new) = beyond.limit new
-
-  -- and its row is not among those for which the dispatch is feasible
-  beyond_new : FeasibleFor m (taken_of ts) x → (r : Row) → IsBeyond m (limits_of ts) r (flow m x r) → ¬ (Contains (limits_of ts) r)
-  beyond_new feasible r beyond c = not_passed (most_flow m r) (flow m x r) (feasible.limits r c) (beyond.most c)
+  beyond_broken r beyond = λ w. beyond (record { limit = λ _. w; most = λ _. within_most m market r (flow m x r) w })
 
   -- where all rows keep what they may be, and units their rooms, a dispatch that is best for what is taken is feasible
   pub kept_feasible : BestFor m (taken_of ts) x → KeepsAll m (limits_of ts) x → Feasible m x
@@ -81,19 +48,19 @@ module _ (m : Parts) (market : IsMarket m) (ts : List Taking) (x : Dispatch) whe
     where
       within : (r : Row) → Keeps m (limits_of ts) r (flow m x r) → Contains (limits_of ts) r ⊎ (¬ (Contains (limits_of ts) r)) → Within (most_flow m r) (flow m x r)
       within r keeps (inl c) = keeps.most c
-      within r keeps (inr new) = within_more (limit m r) (most_flow m r) (flow m x r) (limit_most m market r) (keeps.limit new)
+      within r keeps (inr new) = within_most m market r (flow m x r) (keeps.limit new)
 
   -- what is passed by the most is of the market, and is new
   module _ {N : Type 0} (value : N → Fraction) (best : BestFor m (taken_of ts) x) where
-    pub worst_taking : (t : Taking) → IsScreened value m (limits_of ts) x (screened.Broken t) → IsTaking m t
+    pub worst_taking : (t : Taking) → IsScreened value m (limits_of ts) x (screened.Worst t) → IsTaking m t
     worst_taking (Limit r) (place, worst) = listed_row (rows m) place r worst.stands
     worst_taking (Room u) (kept, worst) = worst.offers
 
-    pub worst_new : (t : Taking) → IsScreened value m (limits_of ts) x (screened.Broken t) → IsNew ts t
-    worst_new (Limit r) (place, worst) = beyond_new best.feasible r worst.counts
+    pub worst_new : (t : Taking) → IsScreened value m (limits_of ts) x (screened.Worst t) → IsNew ts t
+    worst_new (Limit r) (place, worst) = beyond_is_new m (taken_of ts) x r best.feasible worst.counts
     worst_new (Room u) (kept, worst) = λ c. <ℚ-not-≤ℚ (room m u) (room_used m x u) worst.passed (best.feasible.rooms u c)
 
-    pub worst_passed : (t : Taking) → IsScreened value m (limits_of ts) x (screened.Broken t) → IsPassed m x t
+    pub worst_passed : (t : Taking) → IsScreened value m (limits_of ts) x (screened.Worst t) → IsPassedTaking m x t
     worst_passed (Limit r) (place, worst) = beyond_broken r worst.counts
     worst_passed (Room u) (kept, worst) = worst.passed
 
@@ -106,22 +73,24 @@ module _ (m : Parts) (market : IsMarket m) (g : List Row) (x : Dispatch) (fs : L
   row_is r c = law_of_row_flows m x fs r market puts c
 
   -- where all limits are kept, and where one is the worst
-  pub all_kept : AllKeep m g (carried_at m fs) → AllKept m g x
+  pub all_kept : AllKeep m g (carried_at m fs) → AllKeep m g (carried m x)
   all_kept keep r c = subst (Keeps m g r) (row_is r c) (keep r c)
 
   -- the worst row of the flows is that of the dispatch
-  pub worst_at : (place : ℕ) (r : Row) → IsWorst m g flow_at place r → IsWorst m g (flow m x) place r
-  worst_at place r worst =
-      let c : Contains (rows m) r = listed_row (rows m) place r worst.stands in
-      record {
-        stands = worst.stands;
-        counts = subst (IsBeyond m g r) (row_is r c) worst.counts;
-        most = λ k d lt beyond.
-            let s : Row = get_or (rows m) k d in
-            let cs : Contains (rows m) s = (k, lt, same_default (rows m) k s d lt) in
-            subst₂ (λ e f. e ≤ℚ f) (same s cs) (same r c) (worst.most k d lt (back s cs beyond));
-        first = λ i s lt stands beyond. let cs : Contains (rows m) s = listed_row (rows m) i s stands in subst₂ (λ e f. e <ℚ f) (same s cs) (same r c) (worst.first i s lt stands (back s cs beyond));
-      }
+  pub worst_at : (r : Row) → IsWorstBy m g (carried_at m fs) r → IsWorstBy m g (carried m x) r
+  worst_at r (place, worst) =
+      let c : Contains (rows m) r = listed_row (rows m) place r worst.stands in (
+        place,
+        record {
+          stands = worst.stands;
+          counts = subst (IsBeyond m g r) (row_is r c) worst.counts;
+          most = λ k d lt beyond.
+              let s : Row = get_or (rows m) k d in
+              let cs : Contains (rows m) s = (k, lt, same_default (rows m) k s d lt) in
+              subst₂ (λ e f. e ≤ℚ f) (same s cs) (same r c) (worst.most k d lt (back s cs beyond));
+          first = λ i s lt stands beyond. let cs : Contains (rows m) s = listed_row (rows m) i s stands in subst₂ (λ e f. e <ℚ f) (same s cs) (same r c) (worst.first i s lt stands (back s cs beyond));
+        },
+      )
     where
       same : (s : Row) → Contains (rows m) s → overrun m s (flow_at s) ≡ overrun m s (flow m x s)
       same s c = ap (overrun m s) (row_is s c)

@@ -1,16 +1,14 @@
 -- The bound of duals added up: limit by limit, room by room, block by block and offer by offer.
-use Rattle.std.specs.Prelude.{◌≡◌, ◌⊎◌, ℕ, ◌+◌, ◌<◌, ◌≤◌, pos, Bool, true, false, cond, List, [], ◌∷◌, ◌++◌, map, filter, length, take, Contains, if◌then◌else◌, refl}
+use Rattle.std.specs.Prelude.{◌≡◌, ◌⊎◌, ℕ, ◌+◌, ◌<◌, ◌≤◌, pos, Bool, true, false, List, [], ◌∷◌, ◌++◌, map, filter, length, take, Contains, if◌then◌else◌, refl}
 use Rattle.std.specs.List.{flat_map}
-use Rattle.std.proofs.Common.{zero as none, suc, inl, inr, arith, ap, ap₂, sym, subst, subst₂, ◌∙◌, append_assoc, get_or}
+use Rattle.std.proofs.Common.{inl, inr, ap, ap₂, sym, subst, subst₂, ◌∙◌, append_assoc, get_or}
 use Rattle.std.proofs.lemmas.List.{take_all}
 use Rattle.std.proofs.lemmas.Grind.{flat_map-append}
 use Rattle.fraction_theory.specs.Fraction.{Fraction, whole, neg_ℚ, ◌+ℚ◌, ◌-ℚ◌, ◌*ℚ◌}
-use Rattle.fraction_theory.specs.Signs.{sign_of, where_above, part_above}
-use Rattle.fraction_theory.specs.declared.Sign.{Sign}
-use Rattle.fraction_theory.specs.declared.Sign.TheVariants.{Below, Zero}
-use Rattle.fraction_theory.specs.Sums.{sum_by, Term, Plain, Product, total}
+use Rattle.fraction_theory.specs.Signs.{part_above}
+use Rattle.fraction_theory.specs.Sums.{sum_by, Term, Product, total}
 use Rattle.fraction_theory.proofs.FieldLaws.{ring_ℚ, +ℚ_nil, +ℚ_assoc}
-use Rattle.fraction_theory.proofs.Ring.{by_ring, at, pneg, pnil, neg_neg, ◌⊕◌, ◌⊗◌}
+use Rattle.fraction_theory.proofs.Ring.{by_ring, at, pneg, pnil, ◌⊕◌, ◌⊗◌}
 use Rattle.fraction_theory.proofs.SumLaws.{total-append}
 use Rattle.exact_fraction.specs.declared.Op.TheVariants.{Minus, Times}
 use Rattle.exact_fraction.specs.declared.Passed.{Passed}
@@ -20,58 +18,29 @@ use Rattle.market_model.specs.declared.limits.Row.{Row}
 use Rattle.market_model.specs.declared.participants.Parts.{Parts}
 use Rattle.market_model.specs.Dispatch.{places, zero, balance, empty, quantity, reserve_quantity, unit_at}
 use Rattle.market_model.specs.Infeasibility.{block_most, block_weight, energy_left_terms, farkas_bound, farkas_terms, limit_terms, need_terms, nothing_terms, offer_most, offer_weight, reserve_left_terms}
-use Rattle.market_model.specs.LimitRows.{factor_terms, flow, loses_unit, most_flow, row_id, row_pickup, rows}
+use Rattle.market_model.specs.LimitRows.{flow, most_flow, row_id, rows}
 use Rattle.market_model.specs.Market.{IsMarket}
 use Rattle.market_model.specs.NamedSums.{IsRefusal, IsRefusedIn, IsShareRefusal}
-use Rattle.market_model.specs.Optimality.{bus_price, down_of, named_rows, names_row, net_shadow_price, own_price, own_terms, reserve_worth_terms, room_price, room_price_in, unit_price, up_of, worth_terms}
+use Rattle.market_model.specs.Optimality.{down_of, named_rows, names_row, own_price, reserve_worth_terms, room_price, room_price_in, unit_price, up_of, worth_terms, ArePricesOf}
 use Rattle.market_model.specs.Reserves.{offer_places, offers_reserve, reserve_need, reserve_units, room}
-use Rattle.market_model.specs.SumTables.{IsPickupRefusal, IsRefusedAmong, IsRefusedInBusPrices, IsRefusedInPrices, OwnPriceSum, energy_of_unit, factor_at_bus, factor_of_pickup, farkas_bound_of_all, flow_in_limits, limited_row, own_price_of_unit, price_of_bus, price_of_unit, reserve_of_unit}
-use Rattle.settlement.specs.Paying.{ArePricesOf}
+use Rattle.market_model.specs.SumTables.{IsPickupRefusal, IsRefusedAmong, IsRefusedInBusPrices, IsRefusedInPrices, OwnPriceSum, energy_of_unit, factor_of_pickup, farkas_bound_of_all, flow_in_limits, limited_row, own_price_of_unit, price_of_bus, price_of_unit, reserve_of_unit, factor_of_bus}
 use Rattle.market_model.proofs.FarkasLaw.{total-flat_map}
 use Rattle.market_model.proofs.FarkasParts.{farkas_terms-parts, need_refused as need_refused_in_terms}
 use Rattle.market_model.proofs.MorePlaces.{sum_by_more, total-filter_more, total-places_more}
 use Rattle.market_model.proofs.RoomLemmas.{offers-listed}
-use Rattle.market_model.proofs.SumSteps.{minus_at, product_at, share_at, terms_at, tested_at, behind, in_front}
-use Rattle.limit_rows.proofs.DualLemmas.{IsRowOfDual, sum_named}
+use Rattle.market_model.proofs.SumSteps.{product_at, share_at, terms_at, tested_at, behind, in_front, difference_refused}
+use Rattle.limit_rows.proofs.DualLemmas.{IsRowOfDual, sum_named, filter_at}
+use Rattle.market_model.proofs.UnitPrices.{at_unit, own_at}
 use Rattle.limit_rows.proofs.NamedLimits.{energy_left-by_named, limit_unnamed}
 use Rattle.clear_loop.specs.Bounding.{IsBoundRefusal, IsRowStepRefusal, IsSideRefusal, in_bound, in_factor, in_flow, in_lower, in_most, in_price, in_row_flow, in_row_most, in_upper, in_worth, of_lower, of_most, of_upper}
 
--- ---- prices of 0 make nothing
-pub nothing_made : (s price room : Fraction) → price ≡ whole (pos 0) → s ≡ s +ℚ price *ℚ room
-nothing_made s price room e = by_ring ring_ℚ (s ∷ room ∷ []) (at 0) (at 0 ⊕ pnil ⊗ at 1) refl ∙ ap (λ t. s +ℚ t *ℚ room) (sym e)
-
--- nor does a number that is not above 0, by its part above 0
-pub none_above : (s w room : Fraction) (t : Sign) → t ≡ sign_of w → (t ≡ Below) ⊎ (t ≡ Zero) → s ≡ s +ℚ part_above w *ℚ room
-none_above s w room t is some = nothing_made s (part_above w) room (sym (ap (λ (u : Sign). where_above u w) is) ∙ by some)
-  where
-    by : (t ≡ Below) ⊎ (t ≡ Zero) → where_above t w ≡ whole (pos 0)
-    by (inl e) = ap (λ (u : Sign). where_above u w) e
-    by (inr e) = ap (λ (u : Sign). where_above u w) e
-
+-- ---- limit by limit
 -- the lower side, by the flow turned round
 pub lower_side : (m : Parts) (r : Row) (up down sum above l f g : Fraction) (bound : ℕ) (p : Passed Fraction) → above ≡ sum +ℚ up *ℚ (l -ℚ f) → l ≡ most_flow m r → f ≡ flow m (empty m) r → g ≡ neg_ℚ f
     → IsSideRefusal above down l g bound p → IsRowStepRefusal m r up down sum bound p
 lower_side m r up down sum above l f g bound p first is flows turned h =
     in_lower
     (subst₂ (λ a b. IsSideRefusal (sum +ℚ up *ℚ (a -ℚ b)) down a (neg_ℚ b) bound p) is flows (subst₂ (λ a b. IsSideRefusal a down l b bound p) first turned h))
-
--- ---- a list round one of those that pass a test
-filter_at : {X : Type 0} (p : X → Bool) (xs : List X) (k : ℕ) (e : X) → k < length (filter p xs)
-    → (front : List X) × (rest : List X) × (xs ≡ front ++ get_or (filter p xs) k e ∷ rest) × (filter p front ≡ take k (filter p xs))
-filter_at p [] k e h = absurd (Prim.omega (arith, h))
-filter_at {X} p (x ∷ xs) k e h = by (p x) refl k (λ j lt. filter_at p xs j e lt) h
-  where
-    by : (b : Bool) → p x ≡ b → (j : ℕ)
-        → ((i : ℕ) → i < length (filter p xs) → (front : List X) × (rest : List X) × (xs ≡ front ++ get_or (filter p xs) i e ∷ rest) × (filter p front ≡ take i (filter p xs)))
-        → j < length (cond b (x ∷ filter p xs) (filter p xs))
-        → (front : List X) × (rest : List X) × (x ∷ xs ≡ front ++ get_or (cond b (x ∷ filter p xs) (filter p xs)) j e ∷ rest) × (filter p front ≡ take j (cond b (x ∷ filter p xs) (filter p xs)))
-    by true t none more lt = ([], xs, refl, refl)
-    by true t (suc j) more lt =
-        let r = more j (Prim.omega (arith, lt)) in
-        (x ∷ r.0, r.1, ap (λ ys. x ∷ ys) r.2, ap (λ (b : Bool). cond b (x ∷ filter p r.0) (filter p r.0)) t ∙ ap (λ ys. x ∷ ys) r.3)
-    by false t j more lt =
-        let r = more j lt in
-        (x ∷ r.0, r.1, ap (λ ys. x ∷ ys) r.2, ap (λ (b : Bool). cond b (x ∷ filter p r.0) (filter p r.0)) t ∙ r.3)
 
 -- the room of a unit that offers no reserve takes nothing
 pub no_room_price : (m : Parts) (d : Duals Fraction) (u : ℕ) (x : Fraction) → offers_reserve m u ≡ false → x ≡ x -ℚ room_price m d u
@@ -84,21 +53,16 @@ no_room m u x more none_ = sym (+ℚ_nil x) ∙ ap (λ (b : Bool). x +ℚ (if b 
 -- what is refused in the prices at buses is refused in prices
 pub bus_prices_refused : (m : Parts) (d : Duals Fraction) (bound : ℕ) (p : Passed Fraction) → IsRefusedInBusPrices m d bound p → IsRefusedInPrices m d bound p
 bus_prices_refused m d bound p (inl (i, lt, (terms, sum, why))) = inl (terms, price_of_bus i terms lt sum, why)
-bus_prices_refused m d bound p (inr (r, named, (i, lt, why))) = inr (r, named, (factor_terms m r i, factor_at_bus i lt, why))
+bus_prices_refused m d bound p (inr (r, named, (terms, sum, why))) = inr (r, named, (terms, factor_of_bus terms sum, why))
 
 -- own prices at the bus prices of duals
 module _ (m : Parts) (d : Duals Fraction) (price : ℕ → Fraction) (are : ArePricesOf m d price) (market : IsMarket m) where
-  terms_same : (u : ℕ) → u < length m.units → own_terms m d price u ≡ own_terms m d (bus_price m d) u
-  terms_same u lt =
-      ap (λ x. Plain x ∷ map (λ r. Product (neg_ℚ (net_shadow_price m d r)) (row_pickup m r.line r.cause)) (filter (λ r. loses_unit m u r.cause) (rows m)))
-      (are (unit_at m u).bus (market.units u (record { row = 0; bus = 0; fixed = pos 0; up = pos 0; down = pos 0 }) lt).bus)
-
   pub own_same : (u : ℕ) → u < length m.units → own_price m d price u ≡ unit_price m d u
   unfolding unit_price
-  own_same u lt = ap total (terms_same u lt)
+  own_same u lt = at_unit m d price market are u lt
 
   pub own_refused : (bound : ℕ) (p : Passed Fraction) → IsRefusedAmong (OwnPriceSum m d price) bound p ⊎ IsPickupRefusal m (named_rows m d) bound p → IsRefusedInPrices m d bound p
-  own_refused bound p (inl (_, own_price_of_unit u lt, why)) = inl (_, price_of_unit _ (own_price_of_unit u lt), subst (λ (ts : List Term). IsRefusedIn ts bound p) (terms_same u lt) why)
+  own_refused bound p (inl (_, own_price_of_unit u lt, why)) = inl (_, price_of_unit _ (own_price_of_unit u lt), subst (λ (ts : List Term). IsRefusedIn ts bound p) (own_at m d price market are u lt) why)
   own_refused bound p (inr (r, named, (terms, sum, why))) = inr (r, named, (terms, factor_of_pickup terms sum, why))
 
 module _ (m : Parts) (d : Duals Fraction) where
@@ -279,16 +243,14 @@ module _ (m : Parts) (d : Duals Fraction) where
     energy_refused_there price is h = in_worth (
       worth_terms m d u,
       energy_of_unit u (offers-listed m u lt offers),
-      minus_at (worth_terms m d u) (Plain (unit_price m d u) ∷ []) [] (Plain (neg_ℚ (room_price m d u))) refl bound p price (room_price m d u) (is ∙ sym (+ℚ_nil (unit_price m d u)))
-          (sym (neg_neg ring_ℚ (room_price m d u))) h,
+      difference_refused (unit_price m d u) (room_price m d u) price (room_price m d u) bound p is refl h,
     )
 
     pub reserve_refused_there : IsRefusal Minus d.reserve (room_price m d u) bound p → IsBoundRefusal m d bound p
     reserve_refused_there h = in_worth (
       reserve_worth_terms m d u,
       reserve_of_unit u (offers-listed m u lt offers),
-      minus_at (reserve_worth_terms m d u) (Plain d.reserve ∷ []) [] (Plain (neg_ℚ (room_price m d u))) refl bound p d.reserve (room_price m d u) (sym (+ℚ_nil d.reserve))
-          (sym (neg_neg ring_ℚ (room_price m d u))) h,
+      difference_refused d.reserve (room_price m d u) d.reserve (room_price m d u) bound p refl refl h,
     )
 
   -- ---- the blocks

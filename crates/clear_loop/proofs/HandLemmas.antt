@@ -21,14 +21,14 @@ use Rattle.market_dict.specs.declared.posing.PricesAndBounds.{PricesAndBounds}
 use Rattle.market_dict.specs.declared.taking.Taking.{Taking}
 use Rattle.market_dict.specs.declared.taking.Taking.TheVariants.{Limit, Room}
 use Rattle.market_dict.proofs.TakingLists.{limits-limit, limits-room, rooms-limit, rooms-room}
-use Rattle.clear_loop.specs.Growing.{Grown, GrowsByOne, IsNew, IsPassed}
+use Rattle.clear_loop.specs.Growing.{Grown, GrowsByOne, IsNew, IsPassedTaking}
 use Rattle.clear_loop.specs.Keeping.{AreListed}
 use Rattle.clear_loop.specs.Rounds.{IsInHand}
 use Rattle.clear_loop.specs.declared.hand.TakenInOrder.{TakenInOrder}
 use Rattle.clear_loop.proofs.CountLemmas.{no_longer}
 
 -- ---- one limit or room more
-pub grown_behind : (m : Parts) (ts : List Taking) (t : Taking) → IsTaking m t → IsNew ts t → ((x : Dispatch) × BestFor m (taken_of ts) x × IsPassed m x t) → Growth m (limits_of ts) (limits_of (ts ++ t ∷ []))
+pub grown_behind : (m : Parts) (ts : List Taking) (t : Taking) → IsTaking m t → IsNew ts t → ((x : Dispatch) × BestFor m (taken_of ts) x × IsPassedTaking m x t) → Growth m (limits_of ts) (limits_of (ts ++ t ∷ []))
 grown_behind m ts (Limit r) inside new (x, best, broken) =
     subst (Growth m (limits_of ts)) (sym (limits-limit ts r)) (growth_more m (limits_of ts) (limits_of ts) x r (growth_none m (limits_of ts)) (rooms_of ts, best) broken inside new)
 grown_behind m ts (Room u) inside new passed = subst (Growth m (limits_of ts)) (sym (limits-room ts u)) (growth_none m (limits_of ts))

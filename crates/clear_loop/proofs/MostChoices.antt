@@ -24,6 +24,7 @@ use Rattle.market_model.specs.declared.participants.Parts.{Parts}
 use Rattle.market_model.specs.Dispatch.{empty, places, zero}
 use Rattle.market_model.specs.LimitRows.{flow, is_soft, limit, most_excess, most_flow}
 use Rattle.market_model.specs.Optimality.{Taken}
+use Rattle.market_model.proofs.RowMembers.{Contains-from_places}
 use Rattle.market_system.specs.declared.variables.Variable.TheVariants.{Block, Limit, Over, Under}
 use Rattle.market_system.specs.MarketSystem.{block_coefficient, least_added, most_added, over_name, row_name, system_over, under_name}
 use Rattle.market_system.proofs.RowOrder.{AreInOrder, increasing-from_pairs, same_row-itself}
@@ -155,7 +156,7 @@ module _ (m : Parts) (t : Taken) (ordered : AreInOrder m t) (r : Row) (c : Conta
       blocks_none : sum_by (λ j. block_coefficient m r j *ℚ value s entered j) (places (length m.blocks)) ≡ zero
       blocks_none =
           sum_by-members (λ j. block_coefficient m r j *ℚ value s entered j) (λ j. zero) (places (length m.blocks))
-          (λ j k. ap (λ x. block_coefficient m r j *ℚ x) (block_none j (law.from_places (length m.blocks) j k)) ∙ by_ring ring_ℚ (block_coefficient m r j ∷ []) (at 0 ⊗ pnil) pnil refl)
+          (λ j k. ap (λ x. block_coefficient m r j *ℚ x) (block_none j (Contains-from_places (length m.blocks) j k)) ∙ by_ring ring_ℚ (block_coefficient m r j ∷ []) (at 0 ⊗ pnil) pnil refl)
           ∙ sum_by-nil (places (length m.blocks))
 
       pub row_value : value s entered a ≡ value s entered (under_name m r) -ℚ value s entered (over_name m r)

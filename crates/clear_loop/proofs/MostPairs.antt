@@ -19,6 +19,7 @@ use Rattle.market_model.specs.Market.{IsMarket}
 use Rattle.market_model.specs.NamedSums.{IsRefusal}
 use Rattle.market_model.specs.Optimality.{Taken}
 use Rattle.market_model.specs.SumTables.{balance_of_all, flow_in_balance}
+use Rattle.limit_rows.specs.Refusals.{IsMostFlowRefusal}
 use Rattle.limit_rows.proofs.ApartLemmas.{names_apart}
 use Rattle.market_system.specs.declared.variables.Variable.TheVariants.{Limit, Over}
 use Rattle.market_system.specs.Growth.{Growth}
@@ -102,7 +103,7 @@ module _ (m : Parts) (old : List Row) (g : Taken) (h : Choice) (bound : ℕ) (p 
   excess_number false hard =
       subst (MarketNumber m g h Quantity) (sym (hard_stands m market r hard)) (of_sum Quantity (balance_terms m (empty m)) 0 (of_flow (empty m) (balance_terms m (empty m)) (inl refl) (flow_in_balance _ balance_of_all)))
 
-  most_range : IsRefusal Plus (limit m r) (most_excess m r) bound p → IsRangeOf m old bound p
+  most_range : IsMostFlowRefusal m r bound p → IsRangeOf m old bound p
   most_range a = record { over = g; reached = grown; pair = subst (λ (o : Op). IsWorkingPair m g bound o p.left p.right) (sym a.same_op) there }
     where
       pair : IsWorkingPair m g bound Plus (limit m r) (most_excess m r)

@@ -12,7 +12,7 @@ use Rattle.market_model.specs.Market.{IsMarket}
 use Rattle.market_model.specs.Valued.{passed_at}
 use Rattle.market_system.specs.WorkingPairs.{IsRangeOf}
 use Rattle.market_system.proofs.GrowthLaws.{growth_none}
-use Rattle.market_dict.specs.Holding.{HoldsMarket, HoldsSystem, prices as prices_of, lows, highs}
+use Rattle.market_dict.specs.Holding.{HoldsMarket, HoldsSystem, column_prices, lows, highs}
 use Rattle.market_dict.specs.PricesAndBounds.{ArePricesAndBounds}
 use Rattle.market_dict.specs.Takings.{limits_of}
 use Rattle.market_dict.specs.declared.posing.PricesAndBounds.{PricesAndBounds}
@@ -31,7 +31,7 @@ module _ {N : Type 0} (value : N → Fraction) (m : Parts) (ts : List Taking) (p
     bounds_for : length bounds ≡ length d.columns + length d.rows
     bounds_for = bound_count value m ts d posing holds are bounds bounded
 
-    price_values : map value prices ≡ prices_of m ts
+    price_values : map value prices ≡ column_prices m ts
     price_values = ap (map value) priced ∙ are.prices
 
     low_values : map (λ (b : Bounds N). value b.low) bounds ≡ lows m ts

@@ -15,8 +15,8 @@ use Rattle.market_model.specs.LimitRows.{carried, flow_terms, row_id, rows}
 use Rattle.market_model.specs.Market.{IsMarket}
 use Rattle.market_model.specs.NamedSums.{IsRefusedIn}
 use Rattle.market_model.proofs.SumParts.{flow_carried}
-use Rattle.market_model.specs.SumTables.{IsFlowRefusal, IsRefusedAmong, factor_of_pickup, flow_of_row, limited_row, FlowSum, flow_in_limits, PriceSum, reserve_in_room, RoomSum, IsRefusedInPrices, left_of_all, paid_by_load, paid_for_reserve, paid_to_unit, rent_of_row, SettledSum, own_price_of_unit, paid_output, paid_price, demand_of_bus, payment, paid_row}
-use Rattle.market_model.specs.Optimality.{names_row, Feasible, Supports, ProperDuals, bus_price, own_terms, welfare_terms}
+use Rattle.market_model.specs.SumTables.{IsFlowRefusal, IsRefusedAmong, factor_of_pickup, flow_of_row, limited_row, FlowSum, flow_in_limits, PriceSum, reserve_in_room, RoomSum, IsRefusedInPrices, left_of_all, paid_by_load, paid_for_reserve, paid_to_unit, rent_of_row, SettledSum, own_price_of_unit, paid_output, paid_price, demand_of_bus, payment, paid_row, WelfareSum}
+use Rattle.market_model.specs.Optimality.{names_row, Feasible, Supports, ProperDuals, bus_price, own_terms, ArePricesOf}
 use Rattle.market_model.specs.Settlement.{load_terms, rent_terms, reserve_term, surplus_terms, unit_terms}
 use Rattle.market_system.specs.Growth.{BestFor, PricesOnly}
 use Rattle.market_system.specs.MarketNumbers.{IsRightChoice, IsInjecting, factor_of, of_flow, of_price, of_reserve, of_welfare, of_settlement}
@@ -31,9 +31,9 @@ use Rattle.market_system.proofs.SolvedMarkets.{supports_by}
 use Rattle.limit_rows.proofs.ApartLemmas.{names_apart}
 use Rattle.limit_screen.proofs.ScreenLemmas.{flow_refusal_same, row_terms}
 use Rattle.limit_screen.specs.Flows.{carried_at, flows_at, IsFlowsRefusal}
-use Rattle.limit_screen.specs.Screening.{IsScreenRefusal}
 use Rattle.market_model.proofs.UnitPrices.{at_unit, left_at, own_at}
 use Rattle.settlement.specs.Paying.{ArePricesOf}
+use Rattle.limit_rows.specs.Refusals.{IsAnyFlowRefusal}
 use Rattle.settlement.specs.Refusals.{IsMoneyRefusal, IsWelfareRefusal}
 use Rattle.market_dict.specs.Findings.{IsSolvedBy}
 use Rattle.market_dict.specs.Takings.{limits_of, taken_of}
@@ -83,7 +83,7 @@ module _ (m : Parts) (ts : List Taking) (x : Dispatch) (d : Duals Fraction) (mar
     flows_range : IsFlowsRefusal m x bound p → IsRangeOf m (limits_of ts) bound p
     flows_range (terms, sum, a) = flow_sum terms (flow_carried m x terms sum) a
 
-    screen_range : IsScreenRefusal m (carried_at m (flows_at m x)) bound p → IsRangeOf m (limits_of ts) bound p
+    screen_range : IsAnyFlowRefusal m (carried_at m (flows_at m x)) bound p → IsRangeOf m (limits_of ts) bound p
     screen_range (r, c, why) = row_sum r c (flow_refusal_same m (carried_at m (flows_at m x)) (carried m x) r bound p (row_terms m x (flows_at m x) refl r market c) why)
 
     rooms_range : IsRefusedAmong (RoomSum m x) bound p → IsRangeOf m (limits_of ts) bound p
@@ -109,7 +109,7 @@ module _ (m : Parts) (ts : List Taking) (x : Dispatch) (d : Duals Fraction) (mar
 
       pub welfare_range : IsWelfareRefusal m x bound p → IsRangeOf m (limits_of ts) bound p
       welfare_range (inr (r, c, soft, why)) = row_sum r c why
-      welfare_range (inl a) = pairs.sum None (welfare_terms m (choice_dispatch m (taken_of ts) solved.choice)) (of_welfare best) (subst (λ y. IsRefusedIn (welfare_terms m y) bound p) solved.dispatch a)
+      welfare_range (inl (terms, sum, a)) = pairs.sum None terms (of_welfare terms best (subst (λ (y : Dispatch). WelfareSum m y terms) solved.dispatch sum)) a
 
       module _ (price : ℕ → Fraction) (priced : ArePricesOf m d price) where
         -- what is settled at these prices is at those of the duals

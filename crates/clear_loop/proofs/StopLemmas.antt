@@ -20,7 +20,6 @@ use Rattle.market_system.specs.MarketSystem.{system_of}
 use Rattle.market_system.proofs.GrowthLaws.{growth_again, growth_none}
 use Rattle.market_system.proofs.PairCases.{law_of_the_pairs}
 use Rattle.market_system.specs.MarketNumbers.{factor_of}
-use Rattle.settlement.specs.Paying.{ArePricesOf}
 use Rattle.settlement.specs.Refusals.{IsMoneyStop}
 use Rattle.market_dict.specs.Findings.{IsPairOver, IsSolvedBy, IsStuckBy}
 use Rattle.market_dict.specs.Refusals.{IsBoundsRefusal}
@@ -29,6 +28,7 @@ use Rattle.market_dict.specs.declared.taking.Taking.{Taking}
 use Rattle.market_dict.specs.declared.taking.Taking.TheVariants.{Limit}
 use Rattle.market_model.specs.declared.stops.Stop.{Stop}
 use Rattle.market_model.specs.declared.stops.Stop.TheVariants as stop
+use Rattle.market_model.specs.Optimality.{ArePricesOf}
 use Rattle.market_dict.proofs.RefusalLaws.{pair_range, posing_range}
 use Rattle.market_dict.proofs.TakingLists.{limits-append}
 use Rattle.clear_loop.specs.Bounding.{IsBoundRefusal}

@@ -1,20 +1,21 @@
 -- Which operations are refused where the bound of duals is made.
 use Rattle.std.specs.Prelude.{◌⊎◌, ℕ, Contains}
 use Rattle.fraction_theory.specs.Fraction.{Fraction, neg_ℚ, ◌+ℚ◌, ◌-ℚ◌, ◌*ℚ◌}
-use Rattle.exact_fraction.specs.declared.Op.TheVariants.{Plus, Minus}
+use Rattle.exact_fraction.specs.declared.Op.TheVariants.{Minus}
 use Rattle.exact_fraction.specs.declared.Passed.{Passed}
 use Rattle.market_model.specs.declared.answered.Duals.{Duals}
 use Rattle.market_model.specs.declared.limits.Row.{Row}
 use Rattle.market_model.specs.declared.participants.Parts.{Parts}
 use Rattle.market_model.specs.Dispatch.{empty}
-use Rattle.market_model.specs.LimitRows.{carried, flow, limit, most_excess, most_flow}
+use Rattle.market_model.specs.LimitRows.{carried, flow, most_flow}
 use Rattle.market_model.specs.NamedSums.{IsRefusal, IsShareRefusal}
 use Rattle.market_model.specs.Optimality.{named_rows}
 use Rattle.market_model.specs.SumTables.{IsFactorRefusal, IsFlowRefusal, IsRefusedAmong, BoundSum, FlowSum, PriceSum, WorthSum}
+use Rattle.limit_rows.specs.Refusals.{IsMostFlowRefusal}
 
 -- an operation refused for the most that the flow of a row may be, or for what the flow leaves of that on either side, where nothing is accepted
 pub data IsMostRefusal (m : Parts) (r : Row) (bound : ℕ) (p : Passed Fraction) : Type 0 where
-  of_most : IsRefusal Plus (limit m r) (most_excess m r) bound p → IsMostRefusal m r bound p
+  of_most : IsMostFlowRefusal m r bound p → IsMostRefusal m r bound p
   of_upper : IsRefusal Minus (most_flow m r) (flow m (empty m) r) bound p → IsMostRefusal m r bound p
   of_lower : IsRefusal Minus (most_flow m r) (neg_ℚ (flow m (empty m) r)) bound p → IsMostRefusal m r bound p
 
@@ -36,6 +37,6 @@ IsSideRefusal sum price most flow bound p = IsRefusal Minus most flow bound p �
 -- of a row: in its flow, for the most that this may be, or on either side at these prices
 pub data IsRowStepRefusal (m : Parts) (r : Row) (up down sum : Fraction) (bound : ℕ) (p : Passed Fraction) : Type 0 where
   in_row_flow : IsFlowRefusal m (carried m (empty m)) r bound p → IsRowStepRefusal m r up down sum bound p
-  in_row_most : IsRefusal Plus (limit m r) (most_excess m r) bound p → IsRowStepRefusal m r up down sum bound p
+  in_row_most : IsMostFlowRefusal m r bound p → IsRowStepRefusal m r up down sum bound p
   in_upper : IsSideRefusal sum up (most_flow m r) (flow m (empty m) r) bound p → IsRowStepRefusal m r up down sum bound p
   in_lower : IsSideRefusal (sum +ℚ up *ℚ (most_flow m r -ℚ flow m (empty m) r)) down (most_flow m r) (neg_ℚ (flow m (empty m) r)) bound p → IsRowStepRefusal m r up down sum bound p

@@ -15,13 +15,13 @@ IsNew ts (taking.Limit r) = ¬ (Contains (limits_of ts) r)
 IsNew ts (taking.Room u) = ¬ (Contains (rooms_of ts) u)
 
 -- a dispatch passes it
-abbrev pub IsPassed : Parts → Dispatch → Taking → Type 0
-IsPassed m x (taking.Limit r) = Broken m x r
-IsPassed m x (taking.Room u) = room m u <ℚ room_used m x u
+abbrev pub IsPassedTaking : Parts → Dispatch → Taking → Type 0
+IsPassedTaking m x (taking.Limit r) = Broken m x r
+IsPassedTaking m x (taking.Room u) = room m u <ℚ room_used m x u
 
 -- what is taken with one limit or room more of the market behind, which is not among it, and which a best dispatch for it passes
 abbrev pub GrowsByOne : Parts → List Taking → List Taking → Type 0
-GrowsByOne m ts new = (t : Taking) × (new ≡ ts ++ t ∷ []) × IsTaking m t × IsNew ts t × ((x : Dispatch) × BestFor m (taken_of ts) x × IsPassed m x t)
+GrowsByOne m ts new = (t : Taking) × (new ≡ ts ++ t ∷ []) × IsTaking m t × IsNew ts t × ((x : Dispatch) × BestFor m (taken_of ts) x × IsPassedTaking m x t)
 
 -- What may be taken of the market where this was before: just that; or with one limit or room more behind what may be taken, which is new
 -- there, and which a best dispatch for all that stands before it passes. Nothing is let go, and nothing is taken that no such dispatch passes.

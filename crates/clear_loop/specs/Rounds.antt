@@ -1,5 +1,5 @@
 -- What is in hand between two rounds of a clear, and what a round comes to.
-use Rattle.std.specs.Prelude.{◌≡◌, ◌⊎◌, ℕ, Option, Some, List, Result, Ok, Err, map, Contains}
+use Rattle.std.specs.Prelude.{◌≡◌, ◌⊎◌, ℕ, Option, Some, List, Result, Ok, Err, map}
 use Rattle.fraction_theory.specs.Fraction.{Fraction}
 use Rattle.exact_fraction.specs.declared.Passed.{Passed}
 use Rattle.linear_dict.specs.Dictionaries.{Dictionary}
@@ -11,8 +11,7 @@ use Rattle.market_model.specs.Dispatch.{Dispatch}
 use Rattle.market_model.specs.Fitting.{FitsMarket}
 use Rattle.market_model.specs.Infeasibility.{IsFarkas}
 use Rattle.market_model.specs.declared.limits.Row.{Row}
-use Rattle.market_model.specs.LimitRows.{flow, rows}
-use Rattle.market_model.specs.Overrun.{IsWorst, Keeps}
+use Rattle.market_model.specs.LimitRows.{carried}
 use Rattle.market_model.specs.RightAnswers.{IsRight}
 use Rattle.market_model.specs.SumTables.{IsRefusedAmong, RoomSum}
 use Rattle.market_model.specs.Valued.{answer_at, duals_at, farkas_at}
@@ -20,7 +19,7 @@ use Rattle.market_system.specs.Growth.{PricesOnly}
 use Rattle.market_system.specs.WorkingPairs.{IsRangeOf}
 use Rattle.limit_screen.specs.Flows.{carried_at, flows_at, IsFlowsRefusal}
 use Rattle.limit_screen.specs.Rooms.{AllKeepRooms, IsWorstRoom}
-use Rattle.limit_screen.specs.Screening.{IsScreenRefusal}
+use Rattle.limit_screen.specs.Screening.{AllKeep, IsWorstBy}
 use Rattle.market_model.specs.Stops.{StopsBy}
 use Rattle.market_dict.specs.Findings.{IsSolvedBy}
 use Rattle.market_dict.specs.Holding.{HoldsMarket}
@@ -29,6 +28,7 @@ use Rattle.market_dict.specs.Takings.{limits_of}
 use Rattle.market_dict.specs.declared.taking.Taking.{Taking}
 use Rattle.market_dict.specs.declared.taking.Taking.TheVariants as taking
 use Rattle.market_model.specs.declared.stops.Stop.{Stop}
+use Rattle.limit_rows.specs.Refusals.{IsAnyFlowRefusal}
 use Rattle.clear_loop.specs.Growing.{GrowsByOne}
 use Rattle.clear_loop.specs.Keeping.{AreListed}
 use Rattle.clear_loop.specs.declared.hand.Hand.{Hand}
@@ -48,13 +48,9 @@ pub record IsInHand {N : Type 0} (value : N → Fraction) (m : Parts) (h : Hand 
   pub posing : ArePricesAndBounds value m h.taken.takings h.posing
   pub listed : AreListed m h.taken
 
--- where some rows are taken, all rows of the market keep at a dispatch what they may be
-abbrev pub AllKept : Parts → List Row → Dispatch → Type 0
-AllKept m taken x = (r : Row) → Contains (rows m) r → Keeps m taken r (flow m x r)
-
--- and all units that offer reserve their rooms
+-- where some rows are taken, all rows of the market keep at a dispatch what they may be, and all units that offer reserve their rooms
 pub record KeepsAll (m : Parts) (taken : List Row) (x : Dispatch) : Type 0 where
-  pub limits : AllKept m taken x
+  pub limits : AllKeep m taken (carried m x)
   pub rooms : AllKeepRooms m x
 
 -- a dispatch and duals solve the market over some limits and rooms, and where these are taken all are kept
@@ -65,13 +61,13 @@ pub record IsSolution (m : Parts) (ts : List Taking) (x : Dispatch) (d : Duals F
 -- what a look at all limits and rooms comes to at a dispatch, where some rows are taken: the worst of the limits that are broken, or where
 -- all are kept the worst room that is passed, or the flows
 abbrev pub IsScreened : {N : Type 0} → (N → Fraction) → Parts → List Row → Dispatch → Screened N → Type 0
-IsScreened value m taken x (screened.Broken (taking.Limit row)) = (place : ℕ) × IsWorst m taken (flow m x) place row
-IsScreened value m taken x (screened.Broken (taking.Room unit)) = AllKept m taken x × IsWorstRoom m x unit
+IsScreened value m taken x (screened.Worst (taking.Limit row)) = IsWorstBy m taken (carried m x) row
+IsScreened value m taken x (screened.Worst (taking.Room unit)) = AllKeep m taken (carried m x) × IsWorstRoom m x unit
 IsScreened value m taken x (screened.Within flows) = KeepsAll m taken x × (map value flows.items ≡ flows_at m x)
 
 -- an operation refused where all limits and rooms are looked at: in the flows of the dispatch, in that of a row, or in what is used of a room
 abbrev pub IsLookRefusal : Parts → Dispatch → ℕ → Passed Fraction → Type 0
-IsLookRefusal m x bound p = IsFlowsRefusal m x bound p ⊎ IsScreenRefusal m (carried_at m (flows_at m x)) bound p ⊎ IsRefusedAmong (RoomSum m x) bound p
+IsLookRefusal m x bound p = IsFlowsRefusal m x bound p ⊎ IsAnyFlowRefusal m (carried_at m (flows_at m x)) bound p ⊎ IsRefusedAmong (RoomSum m x) bound p
 
 -- a right answer, or duals that show that nothing is feasible, with prices of no other rows
 abbrev pub IsEnd : {N : Type 0} → (N → Fraction) → Parts → List Row → Result (Answer N) (Farkas N) → Type 0
@@ -86,7 +82,7 @@ pub record IsEnded {N : Type 0} (value : N → Fraction) (m : Parts) (e : Ended 
 
 -- what a round over this comes to: one limit or room more, or the end
 abbrev pub IsRound : {N : Type 0} → (N → Fraction) → Parts → List Taking → Round N → Type 0
-IsRound value m ts (round.Broken hand) = IsInHand value m hand × GrowsByOne m ts hand.taken.takings
+IsRound value m ts (round.Grown hand) = IsInHand value m hand × GrowsByOne m ts hand.taken.takings
 IsRound value m ts (round.Done ended) = IsEnded value m ended × (ended.taken.takings ≡ ts)
 
 -- where numbers became too large, the two are a working pair of the market over rows reached from those taken

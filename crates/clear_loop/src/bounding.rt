@@ -15,7 +15,7 @@ ghost use Rattle.limit_screen.specs.Flows.{flows_at};
 ghost use Rattle.clear_loop.specs.Bounding.{IsBoundRefusal, IsRowStepRefusal, IsSideRefusal};
 
 use crate::bounding_reserve::{with_need, with_offers, with_rooms};
-use crate::worths::{own_prices, with_blocks};
+use crate::worths::{unit_prices, with_blocks};
 use exact_fraction::{Exact, Passed, Sign, exact_difference};
 use limit_rows::{found_row, most_flow, row_flow};
 use limit_screen::{bus_injections, carried_flows};
@@ -120,7 +120,7 @@ pub(crate) fn farkas_bound<N: Exact>(
     ensures bound { IfOk result (λ bound. N.value bound ≡ farkas_bound market.now (duals_at N.value duals.now)) }
     ensures cause { IfErr result (StopsBy N.value (IsBoundRefusal market.now (duals_at N.value duals.now) N.bound)) }
 {
-    let own = own_prices(alloc, market, duals)?;
+    let own = unit_prices(alloc, market, duals)?;
     let of_energy = left_of_energy(market, flows, duals)?;
     Ok(with_reserve(market, of_energy, duals, &own)?)
 }

@@ -9,7 +9,7 @@ ghost use Rattle.market_dict.specs.PricesAndBounds.{ArePricesAndBounds};
 ghost use Rattle.market_dict.specs.Takings.{IsTaking, limits_of, taken_of};
 ghost use Rattle.market_dict.specs.declared.taking.Taking.{Taking};
 ghost use Rattle.market_dict.specs.declared.taking.Taking.TheVariants as taking;
-ghost use Rattle.clear_loop.specs.Growing.{IsNew, IsPassed};
+ghost use Rattle.clear_loop.specs.Growing.{IsNew, IsPassedTaking};
 ghost use Rattle.clear_loop.specs.Keeping.{AreListed};
 ghost use Rattle.clear_loop.specs.Rounds.{IsInHand, StopsInRange};
 ghost use Rattle.clear_loop.specs.Starts.{taken_in};
@@ -123,7 +123,7 @@ pub(crate) fn with_taking<N: Exact>(
     requires listed { AreListed market.now taken }
     requires taking { IsTaking market.now taking }
     requires new { IsNew taken.takings taking }
-    requires passed { (x : Dispatch) × BestFor market.now (taken_of taken.takings) x × IsPassed market.now x taking }
+    requires passed { (x : Dispatch) × BestFor market.now (taken_of taken.takings) x × IsPassedTaking market.now x taking }
     ensures hand { IfOk result (IsInHand N.value market.now) }
     ensures takings { IfOk result (λ hand. hand.taken.takings ≡ taken.takings ++ taking ∷ []) }
     ensures cause { IfErr result (StopsInRange N.value N.bound market.now (limits_of taken.takings)) }

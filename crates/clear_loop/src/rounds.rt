@@ -40,7 +40,7 @@ pub(crate) struct Ended<N: Exact> {
 #[derive(Drop)]
 enum Round<N: Exact> {
     /// A limit or a room was passed, and is in hand now.
-    Broken(Hand<N>),
+    Grown(Hand<N>),
     Done(Ended<N>),
 }
 
@@ -135,7 +135,7 @@ fn after_best<N: Exact>(
         reserve.slice(),
         taken.rows.slice(),
     )? {
-        Screened::Broken(taking) => Ok(Round::Broken(with_taking(
+        Screened::Worst(taking) => Ok(Round::Grown(with_taking(
             alloc, market, dict, posing, taken, taking,
         )?)),
         Screened::Within(flows) => Ok(Round::Done(answered(
@@ -189,7 +189,7 @@ pub(crate) fn all_rounds<N: Exact>(
     let mut hand = first;
     loop {
         match one_round(alloc, market, hand)? {
-            Round::Broken(next) => hand = next,
+            Round::Grown(next) => hand = next,
             Round::Done(ended) => return Ok(ended),
         }
     }

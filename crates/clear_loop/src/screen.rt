@@ -16,7 +16,7 @@ use std::alloc::Global;
 pub(crate) enum Screened<N> {
     /// Of the limits that are not kept that which is passed by the most, and the first of those in the market's order; where all limits
     /// are kept, so of the rooms.
-    Broken(Taking),
+    Worst(Taking),
     /// All limits and rooms are kept. What each bus puts in, then what each line carries, and then what each lost unit puts out, in
     /// 10^-9 MW.
     Within(Vec<N>),
@@ -40,9 +40,9 @@ pub(crate) fn screened_at<N: Exact>(
     let by_place = flows_made(alloc, market, dispatch)?;
     let parts = whole_parts(alloc, market, &by_place)?;
     match worst_row_by_parts(market, &by_place, &parts, taken)? {
-        Some(row) => Ok(Screened::Broken(Taking::Limit(row))),
+        Some(row) => Ok(Screened::Worst(Taking::Limit(row))),
         None => match worst_room(market, dispatch, reserve)? {
-            Some(unit) => Ok(Screened::Broken(Taking::Room(unit))),
+            Some(unit) => Ok(Screened::Worst(Taking::Room(unit))),
             None => Ok(Screened::Within(by_place)),
         },
     }

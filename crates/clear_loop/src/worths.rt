@@ -1,6 +1,6 @@
 //! What a MW of a unit is worth at duals, and the most that blocks make of that.
 
-ghost use Rattle.std.specs.Prelude.{◌≡◌, ◌⊎◌, ◌<◌, ◌++◌, true, length, map, IfOk, IfErr};
+ghost use Rattle.std.specs.Prelude.{◌≡◌, ◌<◌, ◌++◌, true, length, map, IfOk, IfErr};
 ghost use Rattle.fraction_theory.specs.Fraction.{◌+ℚ◌, ◌-ℚ◌, ◌*ℚ◌};
 ghost use Rattle.fraction_theory.specs.Signs.{part_above};
 ghost use Rattle.fraction_theory.specs.Sums.{total};
@@ -8,19 +8,17 @@ ghost use Rattle.exact_fraction.specs.declared.Op.TheVariants.{Minus};
 ghost use Rattle.market_model.specs.Dispatch.{places};
 ghost use Rattle.market_model.specs.Infeasibility.{block_most, nothing_terms};
 ghost use Rattle.market_model.specs.NamedSums.{IsRefusal, IsShareRefusal};
-ghost use Rattle.market_model.specs.Optimality.{ProperDuals, named_rows, own_price, room_price, room_price_in, unit_price};
+ghost use Rattle.market_model.specs.Optimality.{ProperDuals, room_price, room_price_in, unit_price};
 ghost use Rattle.market_model.specs.Reserves.{offers_reserve};
 ghost use Rattle.market_model.specs.Stops.{StopsBy};
-ghost use Rattle.market_model.specs.SumTables.{IsPickupRefusal, IsRefusedAmong, IsRefusedInPrices, OwnPriceSum};
-ghost use Rattle.market_model.specs.Valued.{duals_at, passed_at, room_dual_at, total_at};
+ghost use Rattle.market_model.specs.SumTables.{IsRefusedInPrices};
+ghost use Rattle.market_model.specs.Valued.{duals_at, passed_at, room_dual_at};
 ghost use Rattle.clear_loop.specs.Bounding.{IsBoundRefusal};
 
 use crate::answering::bus_prices;
-use bus_prices::own;
+use bus_prices::own_prices;
 use exact_fraction::{Exact, Passed, Sign, exact_difference};
-use market_model::{
-    Duals, Market, Price, RoomDual, Stop, block_quantity, by_side, datum, offers_reserve, zeros,
-};
+use market_model::{Duals, Market, RoomDual, Stop, block_quantity, by_side, datum, offers_reserve};
 use std::alloc::Global;
 
 /// The price of the room of the unit of a gen row; 0 where it is not named.
@@ -55,25 +53,8 @@ pub(crate) fn less_room<N: Exact>(
     }
 }
 
-/// The own price of each unit, where buses have these prices.
-fn own_at<N: Exact>(
-    alloc: Global,
-    market: &Market,
-    duals: &Duals<N>,
-    prices: &[Price<N>],
-) -> Result<Vec<N>, Stop<N>>
-    requires duals { ProperDuals market.now (duals_at N.value duals.now) }
-    requires prices { length prices.now ≡ length market.now.buses }
-    ensures own { IfOk result (λ own. map N.value own.items ≡ map (own_price market.now (duals_at N.value duals.now) (total_at N.value prices.now)) (places (length market.now.units))) }
-    ensures cause { let d = duals_at N.value duals.now in IfErr result (StopsBy N.value (λ p. IsRefusedAmong (OwnPriceSum market.now d (total_at N.value prices.now)) N.bound p ⊎ IsPickupRefusal market.now (named_rows market.now d) N.bound p)) }
-{
-    let mut by_unit = zeros(alloc, market.units().len())?;
-    own(market, duals, prices, &mut by_unit)?;
-    Ok(by_unit)
-}
-
 /// The own price of each unit at the bus prices of duals.
-pub(crate) fn own_prices<N: Exact>(
+pub(crate) fn unit_prices<N: Exact>(
     alloc: Global,
     market: &Market,
     duals: &Duals<N>,
@@ -84,7 +65,7 @@ pub(crate) fn own_prices<N: Exact>(
 {
     let _units = market.units();
     let prices = bus_prices(alloc, market, duals)?;
-    own_at(alloc, market, duals, prices.slice())
+    own_prices(alloc, market, duals, prices.slice())
 }
 
 /// A sum with what a quantity makes, where a MW of it makes so much; nothing where that is not above 0.

@@ -142,8 +142,8 @@ module _ {N : Type 0} (value : N → Fraction) (bound : ℕ) (fits : (x : N) →
       → IsMarket m → All IsStep steps
       → IsReplay bound start.market start.kept.taken.rows steps (map (step_outcome_at value) outcomes) now.kept.taken.rows
       → t.status ≡ replay_status (map (step_outcome_at value) outcomes) → t.text ≡ replayed m steps (map (step_outcome_at value) outcomes)
-      → t.outputs ≡ certified (option_and_then (certificate_of m.places m.reserve.listed) (last_clear None (map (step_outcome_at value) outcomes)))
-      → IfSome (option_and_then (cert_of_outcome m.places m.reserve.listed) (last_clear None (map (step_outcome_at value) outcomes))) (NumbersFit bound) → ReplaysTo bound m steps t
+      → t.outputs ≡ certified (option_and_then (certificate_of m.factor_places m.reserve.listed) (last_clear None (map (step_outcome_at value) outcomes)))
+      → IfSome (option_and_then (cert_of_outcome m.factor_places m.reserve.listed) (last_clear None (map (step_outcome_at value) outcomes))) (NumbersFit bound) → ReplaysTo bound m steps t
   replays_to m steps start now outcomes t is market data_ok replay status_is text_is certificate_is certificate_fits =
       let right : IsReplay bound m [] steps (map (step_outcome_at value) outcomes) now.kept.taken.rows =
       subst (λ (s : SessionState). IsReplay bound s.market s.kept.taken.rows steps (map (step_outcome_at value) outcomes) now.kept.taken.rows) is replay in

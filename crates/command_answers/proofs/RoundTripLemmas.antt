@@ -61,12 +61,12 @@ certified m c text right fits is =
 
 -- that of a right outcome
 of_outcome : (m : Parts) (taken : List Row) (o : Outcome Fraction) (text : List ℕ) → IsMarket m → IsRightOutcome most_size m taken o
-    → IfSome (cert_of_outcome m.places m.reserve.listed o) (NumbersFit most_size) → certificate_of m.places m.reserve.listed o ≡ Some text
-    → (c : Cert Fraction) × (cert_of_outcome m.places m.reserve.listed o ≡ Some c) × Certifies m text c
+    → IfSome (cert_of_outcome m.factor_places m.reserve.listed o) (NumbersFit most_size) → certificate_of m.factor_places m.reserve.listed o ≡ Some text
+    → (c : Cert Fraction) × (cert_of_outcome m.factor_places m.reserve.listed o ≡ Some c) × Certifies m text c
 of_outcome m taken (outcome.Cleared a) text market right fits is =
-    let c = cert_of m.places m.reserve.listed a in (c, refl, certified m c text (law_of_right_answers m a market right) fits is)
+    let c = cert_of m.factor_places m.reserve.listed a in (c, refl, certified m c text (law_of_right_answers m a market right) fits is)
 of_outcome m taken (outcome.Infeasible f) text market right fits is =
-    let c = cert_against m.places m.reserve.listed f in (c, refl, certified m c text (law_of_farkas_duals m f market right) fits is)
+    let c = cert_against m.factor_places m.reserve.listed f in (c, refl, certified m c text (law_of_farkas_duals m f market right) fits is)
 of_outcome m taken (outcome.Range p) text market right fits is = cc is
 
 pub law_of_the_round_trip : LawOfTheRoundTrip
@@ -119,10 +119,10 @@ last_of bound m before after (edit.Clear ∷ steps) (step.Clear q ∷ outcomes) 
 module _ (r : MarketSteps) (t : Telling) (text : List ℕ) (replays : ReplaysTo most_size r.market r.steps t) where
   -- the certificate of an outcome of a market, and its text: edits change neither how many places factors have nor whether reserve is listed
   abbrev cert_in : Parts → Outcome Fraction → Option (Cert Fraction)
-  cert_in m = cert_of_outcome m.places m.reserve.listed
+  cert_in m = cert_of_outcome m.factor_places m.reserve.listed
 
   abbrev text_in : Parts → Outcome Fraction → Option (List ℕ)
-  text_in m = certificate_of m.places m.reserve.listed
+  text_in m = certificate_of m.factor_places m.reserve.listed
 
   last_certifies : (o : Outcome Fraction) → IsOfLast most_size r.market r.steps o → IfSome (cert_in r.market o) (NumbersFit most_size) → text_in r.market o ≡ Some text
       → (c : Cert Fraction) × (cert_in r.market o ≡ Some c) × CertifiesLast r text c

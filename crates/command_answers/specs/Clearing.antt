@@ -38,8 +38,8 @@ AreSidesWithin bound (outcome.Range p) = ArePassedWithin bound p
 pub record TellsCertified (bound : ℕ) (m : Parts) (o : Outcome Fraction) (t : Telling) : Type 0 where
   pub status_is : t.status ≡ status_of o
   pub text_is : t.text ≡ report_text m o
-  pub certificate_is : t.outputs ≡ certified (certificate_of m.places m.reserve.listed o)
-  pub certificate_fits : IfSome (cert_of_outcome m.places m.reserve.listed o) (NumbersFit bound)
+  pub certificate_is : t.outputs ≡ certified (certificate_of m.factor_places m.reserve.listed o)
+  pub certificate_fits : IfSome (cert_of_outcome m.factor_places m.reserve.listed o) (NumbersFit bound)
 
 -- What is told is that of a right outcome of the market, with no limits taken before: the report of a right answer, of duals that show
 -- that no dispatch is feasible, or of two numbers of the market, each within the bound, whose outcome passes it. Its certificate is that
@@ -50,8 +50,8 @@ pub record ClearsTo (bound : ℕ) (m : Parts) (t : Telling) : Type 0 where
   pub sides : AreSidesWithin bound outcome
   pub status_is : t.status ≡ status_of outcome
   pub text_is : t.text ≡ report_text m outcome
-  pub certificate_is : t.outputs ≡ certified (certificate_of m.places m.reserve.listed outcome)
-  pub certificate_fits : IfSome (cert_of_outcome m.places m.reserve.listed outcome) (NumbersFit bound)
+  pub certificate_is : t.outputs ≡ certified (certificate_of m.factor_places m.reserve.listed outcome)
+  pub certificate_fits : IfSome (cert_of_outcome m.factor_places m.reserve.listed outcome) (NumbersFit bound)
 
 -- the greatest size of a numerator or denominator, in what is told and in certificates
 abbrev pub most_size : ℕ

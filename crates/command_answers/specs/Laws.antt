@@ -53,7 +53,7 @@ pub record Certifies (m : Parts) (text : List ℕ) (c : Cert Fraction) : Type 0 
 -- what a clear of a market writes is read as the certificate of what it came to, which is true of the market
 abbrev pub LawOfTheRoundTrip : Type 0
 LawOfTheRoundTrip =
-    (m : Parts) (t : Telling) (text : List ℕ) (tells : TellsClear m t) → t.outputs.certificate ≡ Some text → (c : Cert Fraction) × (cert_of_outcome m.places m.reserve.listed tells.1.outcome ≡ Some c) × Certifies m text c
+    (m : Parts) (t : Telling) (text : List ℕ) (tells : TellsClear m t) → t.outputs.certificate ≡ Some text → (c : Cert Fraction) × (cert_of_outcome m.factor_places m.reserve.listed tells.1.outcome ≡ Some c) × Certifies m text c
 
 abbrev pub IsEdit : Step → Type 0
 IsEdit (step.Edit e) = Unit {0}
@@ -71,7 +71,7 @@ pub record CertifiesLast (r : MarketSteps) (text : List ℕ) (c : Cert Fraction)
 abbrev pub LawOfTheReplay : Type 0
 LawOfTheReplay =
     (r : MarketSteps) (t : Telling) (text : List ℕ) (tells : TellsReplay r t) → t.outputs.certificate ≡ Some text
-    → (c : Cert Fraction) × (option_and_then (cert_of_outcome r.market.places r.market.reserve.listed) (last_clear None tells.1.outcomes) ≡ Some c) × CertifiesLast r text c
+    → (c : Cert Fraction) × (option_and_then (cert_of_outcome r.market.factor_places r.market.reserve.listed) (last_clear None tells.1.outcomes) ≡ Some c) × CertifiesLast r text c
 
 -- ---- when it is verified
 -- yes is told, or that numbers are too large

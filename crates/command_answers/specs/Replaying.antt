@@ -76,8 +76,8 @@ AreDecided m steps outcomes = (k : ℕ) (o : Outcome Fraction) → slice_get out
 pub record TellsSteps (bound : ℕ) (m : Parts) (steps : List Step) (outcomes : List (StepOutcome Fraction)) (t : Telling) : Type 0 where
   pub status_is : t.status ≡ replay_status outcomes
   pub text_is : t.text ≡ replayed m steps outcomes
-  pub certificate_is : t.outputs ≡ certified (option_and_then (certificate_of m.places m.reserve.listed) (last_clear None outcomes))
-  pub certificate_fits : IfSome (option_and_then (cert_of_outcome m.places m.reserve.listed) (last_clear None outcomes)) (NumbersFit bound)
+  pub certificate_is : t.outputs ≡ certified (option_and_then (certificate_of m.factor_places m.reserve.listed) (last_clear None outcomes))
+  pub certificate_fits : IfSome (option_and_then (cert_of_outcome m.factor_places m.reserve.listed) (last_clear None outcomes)) (NumbersFit bound)
 
 -- What is told is that of right outcomes, one for each step: those of edits as the market stands then, and those of clears of the market
 -- as it is edited by then, with no limits taken before the first; each of these is a market. Each clear is decided, where no working pair
@@ -91,8 +91,8 @@ pub record ReplaysTo (bound : ℕ) (m : Parts) (steps : List Step) (t : Telling)
   pub decided : NoPairPassesIn m [] steps bound → AreDecided m steps outcomes
   pub status_is : t.status ≡ replay_status outcomes
   pub text_is : t.text ≡ replayed m steps outcomes
-  pub certificate_is : t.outputs ≡ certified (option_and_then (certificate_of m.places m.reserve.listed) (last_clear None outcomes))
-  pub certificate_fits : IfSome (option_and_then (cert_of_outcome m.places m.reserve.listed) (last_clear None outcomes)) (NumbersFit bound)
+  pub certificate_is : t.outputs ≡ certified (option_and_then (certificate_of m.factor_places m.reserve.listed) (last_clear None outcomes))
+  pub certificate_fits : IfSome (option_and_then (cert_of_outcome m.factor_places m.reserve.listed) (last_clear None outcomes)) (NumbersFit bound)
 
 -- the same of a market, which keeps what every market keeps, by numbers of 127 bits
 abbrev pub TellsReplay : MarketSteps → Telling → Type 0

@@ -69,7 +69,8 @@ fn outcome_told<N: Exact>(
     ensures tells { IfOk result (λ told. TellsCertified N.bound market.now (outcome_at N.value outcome.now) (telling_of told)) }
 {
     let text = report(alloc, market, outcome)?;
-    let certificate = outcome_json(alloc, market.places(), market.reserve().listed, outcome)?;
+    let places = market.factor_places();
+    let certificate = outcome_json(alloc, places, market.reserve().listed, outcome)?;
     Ok(Told {
         status: clear_status(outcome),
         text,

@@ -135,7 +135,8 @@ fn outcomes_told<N: Exact>(
     ensures tells { (m : Parts) → SameFrame market.now m → IfOk result (λ told. TellsSteps N.bound (with_need m need) steps.now (map (step_outcome_at N.value) outcomes.now) (telling_of told)) }
 {
     let text = replay_text(alloc, market, need, steps, outcomes)?;
-    let certificate = last_certificate(alloc, outcomes, market.places(), market.reserve().listed)?;
+    let places = market.factor_places();
+    let certificate = last_certificate(alloc, outcomes, places, market.reserve().listed)?;
     Ok(Told {
         status: replay_status(outcomes),
         text,

@@ -8,7 +8,7 @@ use Rattle.market_model.specs.declared.participants.Side.{Side}
 use Rattle.market_model.specs.declared.participants.Side.TheVariants.{Sell, Buy}
 use Rattle.record_reading.specs.Records.{Record, cell_of}
 use Rattle.record_reading.specs.Steps.{and_then, or_as}
-use Rattle.record_reading.specs.Rows.{read_rows}
+use Rattle.record_reading.specs.Gathering.{read_records}
 use Rattle.csv_table.specs.Table.{framed, number_in}
 use Rattle.offer_book.specs.Edits.{number_of}
 use Rattle.offer_book.specs.declared.edit_parts.Edit.TheVariants as edit
@@ -109,7 +109,7 @@ step_in line r = option_map_or (numbers_in line r) (form_in r) (Err (fault.Word 
 
 -- the steps that the bytes stand for, in the order of their records
 unfoldable pub steps_of_table : List ℕ → Result (List Step) StepFault
-steps_of_table bytes = and_then (framed fault.Frame header (Some most_steps) bytes) (read_rows (λ _. step_in) [] 2)
+steps_of_table bytes = and_then (framed fault.Frame header (Some most_steps) bytes) (read_records (λ _. step_in) [] 2)
 
 -- ---- what is kept of steps
 -- an edit's number has at most 63 bits

@@ -2,7 +2,7 @@
 #![tactic(auto)]
 
 ghost use Rattle.std.specs.Prelude.{◌≡◌, ◌≢◌, ◌+◌, ◌<◌, ◌≤◌, ◌^◌, length, get_or, [], Ok, Err, IfOk};
-ghost use Rattle.record_reading.specs.Rows.{read_rows};
+ghost use Rattle.record_reading.specs.Gathering.{read_records};
 ghost use Rattle.edit_table.specs.EditTable.{AreSteps, IsStep, form_in, is_bare, is_empty, is_plain, most_steps, numbers_in, post_in, side_in, step_in, steps_of_table};
 ghost use Rattle.edit_table.specs.declared.Form.TheVariants as form;
 
@@ -264,7 +264,7 @@ fn step_of(table: &Table, place: usize) -> Result<Step, StepFault>
 fn steps_of(alloc: Global, table: &Table) -> Result<Steps, StepFault>
     requires { length table.now ≤ most_steps }
     ensures kept { IfOk result AreSteps }
-    ensures is { result ≢ Err StepFault.Memory → result ≡ read_rows (λ _. step_in) [] 2 table.now }
+    ensures is { result ≢ Err StepFault.Memory → result ≡ read_records (λ _. step_in) [] 2 table.now }
 {
     let mut steps = List::new(alloc);
     for place in 0..table.len() {

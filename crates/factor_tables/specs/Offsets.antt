@@ -5,7 +5,7 @@ use Rattle.std.specs.Map.{lookup}
 use Rattle.std.specs.Option.{option_map_or}
 use Rattle.record_reading.specs.Records.{Record}
 use Rattle.record_reading.specs.Steps.{and_then, checked, fine}
-use Rattle.record_reading.specs.Rows.{read_rows}
+use Rattle.record_reading.specs.Gathering.{read_records}
 use Rattle.csv_table.specs.Table.{framed}
 use Rattle.market_data.specs.Participants.{IsDatum}
 use Rattle.net_case.specs.Networks.{LiveNetwork}
@@ -55,4 +55,4 @@ abbrev pub offset_header : Record
 offset_header = codes "branch" ∷ codes "mw" ∷ []
 
 unfoldable pub offsets_of : LiveNetwork → List ℕ → Result (List OffsetEntry) TableFault
-offsets_of network bytes = and_then (and_then (framed fault.Frame offset_header None bytes) (read_rows (offset_entry network) [] 2)) (with_all_offsets network)
+offsets_of network bytes = and_then (and_then (framed fault.Frame offset_header None bytes) (read_records (offset_entry network) [] 2)) (with_all_offsets network)

@@ -2,7 +2,7 @@
 use Rattle.std.specs.Prelude.{ℕ, ℤ, List, [], ◌∷◌, codes, Some, Result}
 use Rattle.record_reading.specs.Records.{Record}
 use Rattle.record_reading.specs.Steps.{and_then}
-use Rattle.record_reading.specs.Rows.{read_rows}
+use Rattle.record_reading.specs.Gathering.{read_records}
 use Rattle.csv_table.specs.Table.{framed}
 use Rattle.market_data.specs.Scales.{most_outages}
 use Rattle.factor_tables.specs.declared.table_fault.TableFault.{TableFault}
@@ -17,4 +17,4 @@ abbrev pub outage_header : Record
 outage_header = codes "branch" ∷ []
 
 unfoldable pub outage_rows_of : List ℕ → Result (List ℤ) TableFault
-outage_rows_of bytes = and_then (framed fault.Frame outage_header (Some most_outages) bytes) (read_rows outage_number [] 2)
+outage_rows_of bytes = and_then (framed fault.Frame outage_header (Some most_outages) bytes) (read_records outage_number [] 2)

@@ -2,7 +2,7 @@
 use Rattle.std.specs.Prelude.{ℕ, List, [], ◌∷◌, codes, if◌then◌else◌, None, Result, Ok, Err}
 use Rattle.record_reading.specs.Records.{Record}
 use Rattle.record_reading.specs.Steps.{and_then, checked, fine}
-use Rattle.record_reading.specs.Rows.{read_rows}
+use Rattle.record_reading.specs.Gathering.{read_records}
 use Rattle.csv_table.specs.Table.{framed}
 use Rattle.market_data.specs.declared.scales.FactorPlaces.{FactorPlaces}
 use Rattle.net_case.specs.Networks.{LiveNetwork}
@@ -32,7 +32,7 @@ loss_header = header_of column.Outage
 
 -- the pairs and factors of a table of this kind, or the first fault
 unfoldable pub factors_of : Column → LiveNetwork → List ℕ → FactorPlaces → Result (List Entry) TableFault
-factors_of kind network bytes places = and_then (framed fault.Frame (header_of kind) None bytes) (read_rows (entry_in places network kind) [] 2)
+factors_of kind network bytes places = and_then (framed fault.Frame (header_of kind) None bytes) (read_records (entry_in places network kind) [] 2)
 
 -- with the places that they were read with
 abbrev pub table_of : Column → LiveNetwork → List ℕ → FactorPlaces → Result FactorRecords TableFault

@@ -5,7 +5,7 @@ ghost use Rattle.market_data.specs.Scales.{most_factor};
 ghost use Rattle.factor_tables.specs.Records.{FactorIsRead, OffsetIsRead, PenaltyIsRead, factor_cell, factor_of_units, offset_in, penalty_in, post_in, record_in};
 
 use crate::TableFault;
-use crate::penalty_list::Penalty;
+use crate::penalty_list::Softness;
 use csv_table::Table;
 use market_data::{FactorPlaces, MOST_FACTOR, MW_PLACES, PRICE_PLACES};
 use record_reading::{FrameFault, Why};
@@ -34,7 +34,7 @@ pub(crate) struct PenaltyRecord {
     pub(crate) branch: i64,
     /// Whether it is of the limit after an outage.
     pub(crate) post: bool,
-    pub(crate) penalty: Penalty,
+    pub(crate) softness: Softness,
 }
 
 /// The factor that is so many units of the last place, in 10^-9; none where its size is above 1000.
@@ -127,6 +127,6 @@ pub(crate) fn penalty_of(table: &Table, place: usize) -> Result<PenaltyRecord, T
     Ok(PenaltyRecord {
         branch,
         post,
-        penalty: Penalty { price, excess },
+        softness: Softness { price, excess },
     })
 }

@@ -1,7 +1,7 @@
 //! Reading the tables of factors.
 
 ghost use Rattle.std.specs.Prelude.{◌≡◌, ◌≢◌, ℕ, ◌+◌, ◌<◌, ◌≤◌, ◌^◌, ◌&&◌, not, unsigned_abs, length, map, get_or, [], Ok, Err, IfOk, IfErr, false};
-ghost use Rattle.record_reading.specs.Rows.{read_rows};
+ghost use Rattle.record_reading.specs.Gathering.{read_records};
 ghost use Rattle.record_reading.specs.Steps.{checked, fine};
 ghost use Rattle.market_data.specs.Scales.{most_factor};
 ghost use Rattle.factor_tables.specs.Factors.{ArePairFactors, HasNoPairTwice, has_pair, marked_row};
@@ -119,8 +119,8 @@ fn pairs_of(
     places: FactorPlaces,
 ) -> Result<Pairs, TableFault>
     ensures kept { IfOk result (ArePairFactors column) }
-    ensures ok { IfOk result (λ pairs. read_rows (entry_in places network.now column) [] 2 table.now ≡ Ok pairs.by_pair.entries) }
-    ensures err { IfErr result (λ fault. fault ≢ TableFault.Memory → read_rows (entry_in places network.now column) [] 2 table.now ≡ Err fault) }
+    ensures ok { IfOk result (λ pairs. read_records (entry_in places network.now column) [] 2 table.now ≡ Ok pairs.by_pair.entries) }
+    ensures err { IfErr result (λ fault. fault ≢ TableFault.Memory → read_records (entry_in places network.now column) [] 2 table.now ≡ Err fault) }
 {
     let mut pairs = Pairs::new(alloc, network.branch_rows(), table.len())?;
     for place in 0..table.len() {

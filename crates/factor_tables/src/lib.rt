@@ -25,6 +25,6 @@ pub use names::{is_live_branch, is_row};
 pub use offset_list::Offsets;
 pub use offset_reading::{OFFSET_HEADER, offsets};
 pub use outage_numbers::{OUTAGE_HEADER, OutageRows, outage_rows};
-pub use penalty_list::{Penalties, Penalty};
+pub use penalty_list::{Penalties, Softness};
 pub use penalty_reading::{PENALTY_HEADER, penalties};
 pub use table_fault::TableFault;

@@ -2,7 +2,7 @@
 
 ghost use Rattle.std.specs.Prelude.{◌≡◌, ◌≢◌, ℕ, ◌+◌, ◌<◌, ◌^◌, length, get_or, [], List, Ok, Err, IfOk, IfErr, is_some, option_map, false};
 ghost use Rattle.std.specs.List.{find};
-ghost use Rattle.record_reading.specs.Rows.{read_rows};
+ghost use Rattle.record_reading.specs.Gathering.{read_records};
 ghost use Rattle.record_reading.specs.Steps.{checked, fine};
 ghost use Rattle.market_data.specs.Participants.{IsDatum};
 ghost use Rattle.factor_tables.specs.Offsets.{AreOffsets, OffsetEntry, has_offset, offset_entry, offset_faults, offsets_of, wants_offset, with_all_offsets};
@@ -73,8 +73,8 @@ fn entries_of(
     table: &Table,
 ) -> Result<IndexMap<u32, i64>, TableFault>
     ensures kept { IfOk result (λ by_row. AreOffsets by_row.entries) }
-    ensures ok { IfOk result (λ by_row. read_rows (offset_entry network.now) [] 2 table.now ≡ Ok by_row.entries) }
-    ensures err { IfErr result (λ fault. fault ≢ TableFault.Memory → read_rows (offset_entry network.now) [] 2 table.now ≡ Err fault) }
+    ensures ok { IfOk result (λ by_row. read_records (offset_entry network.now) [] 2 table.now ≡ Ok by_row.entries) }
+    ensures err { IfErr result (λ fault. fault ≢ TableFault.Memory → read_records (offset_entry network.now) [] 2 table.now ≡ Err fault) }
 {
     let mut by_row = IndexMap::new(alloc);
     for place in 0..table.len() {

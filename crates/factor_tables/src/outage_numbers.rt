@@ -1,7 +1,7 @@
 //! The numbers of the outages that are asked for.
 
 ghost use Rattle.std.specs.Prelude.{◌≡◌, ◌≢◌, ℕ, ◌+◌, ◌<◌, ◌≤◌, ◌^◌, length, get_or, [], Ok, Err, IfOk, All, unsigned_abs};
-ghost use Rattle.record_reading.specs.Rows.{read_rows};
+ghost use Rattle.record_reading.specs.Gathering.{read_records};
 ghost use Rattle.market_data.specs.Scales.{most_outages};
 ghost use Rattle.factor_tables.specs.OutageNumbers.{outage_number, outage_rows_of};
 
@@ -20,7 +20,7 @@ pub const OUTAGE_HEADER: &[&str] = &["branch"];
 /// The numbers of a table's records.
 fn numbers_of(alloc: Global, table: &Table) -> Result<List<i64>, TableFault>
     ensures count { IfOk result (λ numbers. length numbers ≤ length table.now) }
-    ensures is { result ≢ Err TableFault.Memory → result ≡ read_rows outage_number [] 2 table.now }
+    ensures is { result ≢ Err TableFault.Memory → result ≡ read_records outage_number [] 2 table.now }
 {
     let mut numbers = List::new(alloc);
     for place in 0..table.len() {

@@ -1,14 +1,14 @@
 //! Penalties by limit.
 
 ghost use Rattle.std.specs.Prelude.{◌≡◌, IfSome};
-ghost use Rattle.factor_tables.specs.Penalties.{GivesWay, penalty_at};
+ghost use Rattle.factor_tables.specs.Penalties.{IsSoftness, softness_at};
 
 use indexmap::IndexMap;
 use std::marker::Model;
 
 /// What lets a limit give way.
 #[derive(Clone, Copy, Debug, PartialEq, Eq)]
-pub struct Penalty {
+pub struct Softness {
     /// What a MW beyond the limit costs, in 10^-6 per MWh.
     pub price: i64,
     /// The most by which a flow may exceed the limit, in 10^-9 MW.
@@ -19,7 +19,7 @@ pub struct Penalty {
 /// as the list of its records.
 #[derive(Drop)]
 pub struct Penalties {
-    pub(crate) by_limit: IndexMap<(u32, bool), Penalty>,
+    pub(crate) by_limit: IndexMap<(u32, bool), Softness>,
 }
 
 impl Model for Penalties {
@@ -35,9 +35,9 @@ impl Model for Penalties {
 
 impl Penalties {
     /// The penalty of the limit after an outage, or else of that in the base, of a branch's row, where it has a record.
-    pub fn penalty(&self, branch: u32, post: bool) -> Option<Penalty>
-        ensures kept { IfSome result GivesWay }
-        ensures is { result ≡ penalty_at self.now (branch, post) }
+    pub fn softness(&self, branch: u32, post: bool) -> Option<Softness>
+        ensures kept { IfSome result IsSoftness }
+        ensures is { result ≡ softness_at self.now (branch, post) }
     {
         self.by_limit.get(&(branch, post)).copied()
     }

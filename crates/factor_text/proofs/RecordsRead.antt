@@ -11,7 +11,7 @@ use Rattle.std.proofs.lemmas.List.{append-nil, get_or_append_left, length-append
 use Rattle.std.proofs.lemmas.List.Elements.{recursion_from_All}
 use Rattle.std.proofs.lemmas.Map.Entries.{place_from_lookup}
 use Rattle.std.proofs.lemmas.Option.{get_or_from_slice_get, slice_get_within}
-use Rattle.record_reading.specs.Rows.{gather, read_rows}
+use Rattle.record_reading.specs.Gathering.{gather, read_records}
 use Rattle.record_reading.specs.Steps.{and_then, checked, fine, or_as, some_of}
 use Rattle.scaled_decimal.specs.Reading.{units_of}
 use Rattle.csv_table.specs.Table.{framed}
@@ -113,7 +113,7 @@ entry-read kind network places done line entry rules range new =
     (then-ok (checked (record_faults kind network line (record { branch = pos entry.0.0; of = pos entry.0.1; factor = entry.1 })) fine) tt _ (Ok entry) (checks-pass kind network places line entry rules) (chosen (has_pair done entry.0) (fault.Twice line) entry new))
 
 all-read : (kind : Column) (network : LiveNetwork) (places : FactorPlaces) (rest done : List Entry) (line : ℕ) → AllByRecursion (ObeysRules kind network places) rest → AllByRecursion IsInRange rest → HasNoPairTwice (done ++ rest)
-    → read_rows (entry_in places network kind) done line (map cells_of rest) ≡ Ok (done ++ rest)
+    → read_records (entry_in places network kind) done line (map cells_of rest) ≡ Ok (done ++ rest)
 unfolding gather
 all-read kind network places [] done line rules ranges once = ap Ok (sym (append-nil done))
 all-read kind network places (entry ∷ rest) done line rules ranges once =

@@ -17,11 +17,11 @@ use Rattle.market_model.proofs.ChangeLemmas.{same_default}
 use Rattle.market_model.specs.declared.limits.Row.{Row}
 use Rattle.market_model.specs.declared.limits.Cause.{Cause}
 use Rattle.market_model.specs.declared.limits.Cause.TheVariants.{Base, Branch, UnitOutage}
-use Rattle.market_model.specs.LimitRows.{lost_lines, lost_unit, outage_of, unit_of, place_of_line, row_id, rows, bears, causes, lines_of, rows_of}
+use Rattle.market_model.specs.LimitRows.{lost_lines, lost_unit, outage_of, unit_of, place_of_line, row_id, rows, bears, causes, rows_of}
 use Rattle.limit_rows.proofs.FactorLemmas.{outage_stands}
 use Rattle.market_model.proofs.LostLemmas.{place_at, row_at, row-of_outage}
 use Rattle.limit_rows.proofs.GroupLemmas.{length-map, rows-causes}
-use Rattle.market_model.proofs.RowMembers.{lost_unit-in, row_on}
+use Rattle.market_model.proofs.RowMembers.{lost_unit-in, row_on, lines_of}
 use Rattle.limit_rows.specs.Naming.{IsCauseNamed}
 
 -- ---- lists whose elements are apart

@@ -10,14 +10,14 @@ use Rattle.std.proofs.lemmas.List.FromFn.{length-range_with_len}
 use Rattle.std.proofs.lemmas.List.Sums.{count_by-le-length, length-filter}
 use Rattle.std.proofs.lemmas.Option.{get_or_from_slice_get, slice_get-get_or, slice_get_within}
 use Rattle.market_model.specs.declared.participants.Parts.{Parts}
-use Rattle.market_model.specs.Dispatch.{places}
+use Rattle.market_model.specs.Dispatch.{places, line_at}
 use Rattle.market_model.specs.declared.limits.Cause.{Cause}
 use Rattle.market_model.specs.declared.limits.Cause.TheVariants.{Base, Branch, UnitOutage}
 use Rattle.market_model.specs.declared.limits.Row.{Row}
-use Rattle.market_model.specs.LimitRows.{causes, lines_of, rows, rows_of}
+use Rattle.market_model.specs.LimitRows.{causes, rows, rows_of, has_limit}
 use Rattle.market_model.proofs.MorePlaces.{places_more}
-use Rattle.market_model.proofs.RowMembers.{Contains-from_map, row_on}
-use Rattle.limit_rows.specs.Counting.{has_limit, limits_to, AreLimitCounts}
+use Rattle.market_model.proofs.RowMembers.{Contains-from_map, row_on, lines_of}
+use Rattle.limit_rows.specs.Counting.{limits_to, AreLimitCounts}
 use Rattle.limit_rows.specs.Walk.{rows_from}
 use Rattle.limit_rows.specs.declared.counting.LimitCounts.{LimitCounts}
 use Rattle.limit_rows.proofs.NumberingLemmas.{length-rows_of}
@@ -67,17 +67,17 @@ module _ (p : ℕ → Bool) (lost : ℕ) where
 
 module _ (m : Parts) where
   -- ---- lines one by one
-  pub limits_more : (post : Bool) (k : ℕ) (b : Bool) → has_limit m post k ≡ b → limits_to m post (k + 1) ≡ limits_to m post k + cond b 1 0
+  pub limits_more : (post : Bool) (k : ℕ) (b : Bool) → has_limit post (line_at m k) ≡ b → limits_to m post (k + 1) ≡ limits_to m post k + cond b 1 0
   limits_more post k b is =
-      ap (λ (ls : List ℕ). length (filter (has_limit m post) ls)) (places_more k)
-      ∙ ap length (filter-append (has_limit m post) (places k) (k ∷ []))
-      ∙ length-end (has_limit m post k) k (filter (has_limit m post) (places k))
+      ap (λ (ls : List ℕ). length (filter (λ l. has_limit post (line_at m l)) ls)) (places_more k)
+      ∙ ap length (filter-append (λ l. has_limit post (line_at m l)) (places k) (k ∷ []))
+      ∙ length-end (has_limit post (line_at m k)) k (filter (λ l. has_limit post (line_at m l)) (places k))
       ∙ ap (λ (c : Bool). limits_to m post k + cond c 1 0) is
 
   pub limits_few : (post : Bool) (k : ℕ) → limits_to m post k ≤ k
   limits_few post k =
-      let kept = length-filter (has_limit m post) (places k) in
-      Prim.omega (arith, kept, count_by-le-length (has_limit m post) (places k), length-range_with_len 0 k)
+      let kept = length-filter (λ l. has_limit post (line_at m l)) (places k) in
+      Prim.omega (arith, kept, count_by-le-length (λ l. has_limit post (line_at m l)) (places k), length-range_with_len 0 k)
 
   -- ---- how many rows there are under a cause
   module _ (counts : LimitCounts) (are : AreLimitCounts m counts) where
@@ -87,13 +87,13 @@ module _ (m : Parts) where
     pub under_unit : (k : ℕ) → counts.post ≡ length (rows_of m (UnitOutage k))
     under_unit k = are.post ∙ sym (length-rows_of m (UnitOutage k))
 
-    pub under_branch : (lost : ℕ) (b : Bool) → lost < length m.lines → has_limit m true lost ≡ b → counts.post ≡ length (rows_of m (Branch lost)) + cond b 1 0
+    pub under_branch : (lost : ℕ) (b : Bool) → lost < length m.lines → has_limit true (line_at m lost) ≡ b → counts.post ≡ length (rows_of m (Branch lost)) + cond b 1 0
     under_branch lost b inside is =
-        let but : length (lines_of m (Branch lost)) + cond (has_limit m true lost) 1 0 ≡ limits_to m true (length m.lines) =
-        but_one (has_limit m true) lost 0 (length m.lines) (Prim.omega arith) (Prim.omega (arith, inside)) in
+        let but : length (lines_of m (Branch lost)) + cond (has_limit true (line_at m lost)) 1 0 ≡ limits_to m true (length m.lines) =
+        but_one (λ l. has_limit true (line_at m l)) lost 0 (length m.lines) (Prim.omega arith) (Prim.omega (arith, inside)) in
         let all = are.post in
         let listed = length-rows_of m (Branch lost) in
-        let same : cond (has_limit m true lost) 1 0 ≡ cond b 1 0 = ap (λ (c : Bool). let n : ℕ = cond c 1 0 in n) is in
+        let same : cond (has_limit true (line_at m lost)) 1 0 ≡ cond b 1 0 = ap (λ (c : Bool). let n : ℕ = cond c 1 0 in n) is in
         Prim.omega (arith, but, all, listed, same)
 
   -- ---- behind how many rows those of a cause and of the causes behind it stand

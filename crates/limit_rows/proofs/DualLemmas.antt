@@ -1,12 +1,17 @@
 -- The rows that duals name, and sums over them.
-use Rattle.std.specs.Prelude.{◌≡◌, ◌≢◌, ◌||◌, ℕ, ◌<◌, pos, Bool, true, false, cond, List, [], ◌∷◌, ◌++◌, map, filter, length, take, AllPairs, Contains, if◌then◌else◌, refl}
-use Rattle.std.proofs.Common.{zero, suc, arith, ap, sym, subst, ◌∙◌, get_or}
+use Rattle.std.specs.Prelude.{◌≡◌, ◌≢◌, ◌⊎◌, ◌||◌, ℕ, ◌<◌, pos, Bool, true, false, cond, List, [], ◌∷◌, ◌++◌, map, filter, length, take, AllPairs, Contains, if◌then◌else◌, refl}
+use Rattle.std.proofs.Common.{zero, suc, inl, inr, arith, ap, sym, subst, ◌∙◌, get_or}
 use Rattle.std.proofs.lemmas.Bool.{eq-eqb}
 use Rattle.std.proofs.lemmas.List.{get_or-map, map-append}
 use Rattle.std.proofs.lemmas.List.Kept.{AllPairs-filter}
-use Rattle.fraction_theory.specs.Fraction.{Fraction, whole}
+use Rattle.fraction_theory.specs.Fraction.{Fraction, whole, ◌+ℚ◌, ◌*ℚ◌}
+use Rattle.fraction_theory.specs.Signs.{sign_of, where_above, part_above}
+use Rattle.fraction_theory.specs.declared.Sign.{Sign}
+use Rattle.fraction_theory.specs.declared.Sign.TheVariants.{Below, Zero}
 use Rattle.fraction_theory.specs.Sums.{sum_by, Term, term_value, total}
+use Rattle.fraction_theory.proofs.FieldLaws.{ring_ℚ}
 use Rattle.fraction_theory.proofs.ListSums.{kept, sum_by-filter, Contains-from_filter}
+use Rattle.fraction_theory.proofs.Ring.{by_ring, at as nth, padd, pmul, pnil}
 use Rattle.fraction_theory.proofs.SumLaws.{sum_by-same, total-map}
 use Rattle.market_model.specs.declared.answered.Dual.{Dual}
 use Rattle.market_model.specs.declared.answered.Duals.{Duals}
@@ -71,8 +76,21 @@ down_unnamed [] id h = refl
 down_unnamed (d ∷ ds) id h =
     let both = or_false (same_id d.row id) (names_row ds id) h in ap (λ (b : Bool). if b then d.down else down_in ds id) both.0 ∙ down_unnamed ds id both.1
 
+-- ---- prices of 0 make nothing
+pub nothing_made : (s price room : Fraction) → price ≡ whole (pos 0) → s ≡ s +ℚ price *ℚ room
+nothing_made s price room e =
+    by_ring ring_ℚ (s ∷ room ∷ []) (nth 0) (padd (nth 0) (pmul pnil (nth 1))) refl ∙ ap (λ t. s +ℚ t *ℚ room) (sym e)
+
+-- nor does a number that is not above 0, by its part above 0
+pub none_above : (s w room : Fraction) (t : Sign) → t ≡ sign_of w → (t ≡ Below) ⊎ (t ≡ Zero) → s ≡ s +ℚ part_above w *ℚ room
+none_above s w room t is some = nothing_made s (part_above w) room (sym (ap (λ (u : Sign). where_above u w) is) ∙ by some)
+  where
+    by : (t ≡ Below) ⊎ (t ≡ Zero) → where_above t w ≡ whole (pos 0)
+    by (inl e) = ap (λ (u : Sign). where_above u w) e
+    by (inr e) = ap (λ (u : Sign). where_above u w) e
+
 -- ---- a list round one of those that pass a test
-filter_at : {X : Type 0} (p : X → Bool) (xs : List X) (k : ℕ) (e : X) → k < length (filter p xs)
+pub filter_at : {X : Type 0} (p : X → Bool) (xs : List X) (k : ℕ) (e : X) → k < length (filter p xs)
     → (front : List X) × (rest : List X) × (xs ≡ front ++ get_or (filter p xs) k e ∷ rest) × (filter p front ≡ take k (filter p xs))
 filter_at p [] k e h = absurd (Prim.omega (arith, h))
 filter_at {X} p (x ∷ xs) k e h = by (p x) refl k (λ j lt. filter_at p xs j e lt) h

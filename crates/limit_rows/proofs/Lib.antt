@@ -7,6 +7,7 @@ mod PickupSteps
 pub mod PlaceLemmas
 pub mod DualLemmas
 pub mod FactorLemmas
+pub mod FlowSizes
 pub mod FlowSteps
 pub mod PositionLemmas
 pub mod NameLemmas

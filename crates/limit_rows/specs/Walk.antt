@@ -1,11 +1,11 @@
 -- The rows of a market one by one, in order.
-use Rattle.std.specs.Prelude.{◌≡◌, ℕ, ◌+◌, List, [], ◌∷◌, ◌++◌, length, filter, Option, MatchOption, drop}
+use Rattle.std.specs.Prelude.{◌≡◌, ℕ, ◌+◌, List, [], ◌∷◌, ◌++◌, length, Option, MatchOption, drop}
 use Rattle.std.specs.List.{flat_map}
 use Rattle.market_model.specs.declared.participants.Parts.{Parts}
 use Rattle.market_model.specs.Dispatch.{places}
 use Rattle.market_model.specs.declared.limits.Cause.{Cause}
 use Rattle.market_model.specs.declared.limits.Row.{Row}
-use Rattle.market_model.specs.LimitRows.{bears, causes, rows_among, rows_of}
+use Rattle.market_model.specs.LimitRows.{causes, rows_among, rows_of, lines_among}
 
 -- the lines from a place on
 abbrev pub lines_from : Parts → ℕ → List ℕ
@@ -22,4 +22,4 @@ rows_from m place line = rows_under m line (drop place (causes m))
 
 -- the first line from a place on that has a limit under a cause
 abbrev pub IsNextLine : Parts → Cause → ℕ → Option ℕ → Type 0
-IsNextLine m cause line found = MatchOption found (filter (bears m cause) (lines_from m line) ≡ []) (λ l. filter (bears m cause) (lines_from m line) ≡ l ∷ filter (bears m cause) (lines_from m (l + 1)))
+IsNextLine m cause line found = MatchOption found (lines_among m cause (lines_from m line) ≡ []) (λ l. lines_among m cause (lines_from m line) ≡ l ∷ lines_among m cause (lines_from m (l + 1)))

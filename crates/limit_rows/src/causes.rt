@@ -3,7 +3,7 @@
 ghost use Rattle.std.specs.Prelude.{◌≡◌, ◌≤◌, ◌<◌, ◌+◌, length, Some};
 ghost use Rattle.std.specs.List.{slice_get};
 ghost use Rattle.market_data.specs.Scales.{most_outages, most_units};
-ghost use Rattle.market_model.specs.LimitRows.{bears, causes, lost_unit, outage_of, stated, unit_of, IsCauseOf};
+ghost use Rattle.market_model.specs.LimitRows.{bears, causes, is_outage, lost_unit, outage_of, stated, unit_of, IsCauseOf};
 
 use market_model::{Cause, Line, Market};
 
@@ -63,14 +63,21 @@ pub(crate) fn unit_of(market: &Market, cause: Cause) -> u32
     }
 }
 
+/// Whether a cause is an outage.
+pub(crate) fn is_outage(cause: Cause) -> bool
+    ensures { result ≡ is_outage cause }
+{
+    match cause {
+        Cause::Base => false,
+        Cause::Branch(_) | Cause::UnitOutage(_) => true,
+    }
+}
+
 /// The limit that a line states for a cause, in 10^-9 MW, where it states one.
 pub(crate) fn stated(line: &Line, cause: Cause) -> Option<i64>
     ensures { result ≡ stated line.now cause }
 {
-    match cause {
-        Cause::Base => line.base,
-        Cause::Branch(_) | Cause::UnitOutage(_) => line.post,
-    }
+    line.limit(is_outage(cause))
 }
 
 /// Whether the line at a place has a limit under a cause.

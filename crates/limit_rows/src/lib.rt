@@ -19,5 +19,5 @@ pub use factors::{
 pub use flowing::{put_line_flows, put_lost_outputs, row_flow, row_offset};
 pub use numbering::{count, id, place_of, position, row_at};
 pub use places::{found_row, limit_at, name_at, row_named};
-pub use softness::{excess_at, is_soft, most_flow, penalty_at};
+pub use softness::{is_soft, most_excess_at, most_flow, penalty_at};
 pub use walk::{RowWalk, rows};

@@ -2,25 +2,15 @@
 
 ghost use Rattle.std.specs.Prelude.{◌≡◌, ◌<◌, ◌≤ℤ◌, pos, length, IfOk, IfErr};
 ghost use Rattle.fraction_theory.specs.Fraction.{whole};
-ghost use Rattle.exact_fraction.specs.declared.Op.TheVariants.{Plus};
 ghost use Rattle.market_data.specs.Participants.{IsDatum};
-ghost use Rattle.market_model.specs.LimitRows.{is_outage, is_soft, limit, most_excess, most_flow, penalty};
-ghost use Rattle.market_model.specs.NamedSums.{IsRefusal};
+ghost use Rattle.market_model.specs.LimitRows.{is_soft, limit, most_excess, most_flow, penalty};
 ghost use Rattle.market_model.specs.Valued.{passed_at};
+ghost use Rattle.limit_rows.specs.Refusals.{IsMostFlowRefusal};
 
+use crate::causes::is_outage;
 use crate::places::limit_at;
 use exact_fraction::{Exact, Passed, exact_sum};
-use market_model::{Cause, Market, Row, datum};
-
-/// Whether a cause is an outage.
-fn is_outage(cause: Cause) -> bool
-    ensures { result ≡ is_outage cause }
-{
-    match cause {
-        Cause::Base => false,
-        Cause::Branch(_) | Cause::UnitOutage(_) => true,
-    }
-}
+use market_model::{Market, Row, datum};
 
 /// What a MW beyond the limit of a row costs, in 10^-6 per MWh; 0 where the limit is hard.
 pub fn penalty_at(market: &Market, row: Row) -> i64
@@ -51,7 +41,7 @@ pub fn is_soft(market: &Market, row: Row) -> bool
 }
 
 /// The most by which the flow of a row may exceed its limit, in 10^-9 MW.
-pub fn excess_at(market: &Market, row: Row) -> i64
+pub fn most_excess_at(market: &Market, row: Row) -> i64
     requires { row.line < length market.now.lines }
     ensures datum { IsDatum result }
     ensures sign { pos 0 ≤ℤ result }
@@ -69,7 +59,10 @@ pub fn excess_at(market: &Market, row: Row) -> i64
 pub fn most_flow<N: Exact>(market: &Market, row: Row) -> Result<N, Passed<N>>
     requires { row.line < length market.now.lines }
     ensures most { IfOk result (λ most. N.value most ≡ most_flow market.now row) }
-    ensures cause { IfErr result (λ passed. IsRefusal Plus (limit market.now row) (most_excess market.now row) N.bound (passed_at N.value passed)) }
+    ensures cause { IfErr result (λ passed. IsMostFlowRefusal market.now row N.bound (passed_at N.value passed)) }
 {
-    exact_sum(datum(limit_at(market, row)), datum(excess_at(market, row)))
+    exact_sum(
+        datum(limit_at(market, row)),
+        datum(most_excess_at(market, row)),
+    )
 }

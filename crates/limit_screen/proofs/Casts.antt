@@ -6,7 +6,7 @@ use Rattle.std.specs.Int.{w128}
 use Rattle.std.proofs.lemmas.Int.{ints, to_z_pos, to_z-of_z, fits_signed_from_abs, unsigned_abs-mul}
 use Rattle.std.proofs.Math.Nat.{lt_of_le_of_lt, mul-le-mul}
 use Rattle.std.specs.Int.Signed.{nat_abs-le}
-use Rattle.market_model.specs.PickupTable.{pickup_one}
+use Rattle.market_data.specs.Scales.{pickup_one}
 use mir.Val.{to_z, of_z}
 
 -- what is left of a number where it is kept in 64 or 128 bits

@@ -84,8 +84,9 @@ module _ (m : Parts) (x : Dispatch) (place : ℕ) (all : length m.units ≤ plac
 
   pub worst_of_all : (u : ℕ) → IsWorstRoomBefore m x place u → IsWorstRoom m x u
   worst_of_all u h = record {
+    before = listed-inside m u h.offers;
     offers = h.offers;
     passed = h.passed;
-    most = λ v c. let lt = listed-inside m v c in h.most v (Prim.omega (arith, lt, all)) c;
+    most = λ v lt c. h.most v (Prim.omega (arith, lt, all)) c;
     first = h.first;
   }

@@ -1,48 +1,40 @@
 -- The worst of some rows, with one row more.
-use Rattle.std.specs.Prelude.{◌≡◌, ◌⊎◌, ℕ, ℤ, ◌+◌, ◌-◌, ◌<◌, ◌≤◌, pos, List, [], ◌∷◌, ◌++◌, map, length, All, Option, Some, None, Contains, refl}
+use Rattle.std.specs.Prelude.{◌≡◌, ℕ, ℤ, ◌+◌, ◌-◌, ◌<◌, ◌≤◌, pos, List, [], ◌∷◌, ◌++◌, map, length, All, Option, Some, None, Contains, refl}
 use Rattle.std.specs.List.{slice_get}
-use Rattle.std.specs.Ordering.{MatchOrdering}
-use Rattle.std.proofs.Common.{zero, suc, arith, inl, inr, ap, sym, subst, ◌∙◌, get_or, drop, take, Ordering, Less, Equal, Greater}
-use Rattle.std.proofs.lemmas.List.{length-append, get_or_append_left, get_or-append_right, get_or-drop, drop-map, take-map, take_rest}
+use Rattle.std.proofs.Common.{zero, suc, arith, inl, inr, ap, sym, subst, ◌∙◌, get_or, drop, take}
+use Rattle.std.proofs.lemmas.List.{length-append, drop-map, take-map, take_rest, drop_at}
 use Rattle.std.proofs.Math.Seq.{take-append_seam}
-use Rattle.std.proofs.lemmas.List.FromFn.{length-map-range_with_len, get_or-map-range_with_len}
+use Rattle.std.proofs.lemmas.List.FromFn.{length-map-range_with_len}
 use Rattle.std.proofs.lemmas.List.Elements.{All-append, All-cons, All-nil}
 use Rattle.std.proofs.lemmas.Option.{slice_get_within, get_or_from_slice_get}
 use Rattle.fraction_theory.specs.Fraction.{Fraction, whole, neg_ℚ, ◌+ℚ◌, ◌-ℚ◌}
 use Rattle.fraction_theory.specs.Order.{◌<ℚ◌, ◌≤ℚ◌}
-use Rattle.fraction_theory.specs.Signs.{sign_of, abs_ℚ, abs_by}
+use Rattle.fraction_theory.specs.Signs.{abs_ℚ}
 use Rattle.fraction_theory.specs.Sums.{total}
-use Rattle.fraction_theory.specs.declared.Sign.{Sign}
-use Rattle.fraction_theory.specs.declared.Sign.TheVariants.{Below, Zero, Above}
 use Rattle.fraction_theory.proofs.FieldLaws.{+ℚ_neg}
-use Rattle.fraction_theory.proofs.OrderLaws.{NonNeg-one, by_le1, not-≤ℚ, <ℚ-not-≤ℚ, ≤ℚ_refl, ≤ℚ_trans, <ℚ-≤ℚ, ≤ℚ_of_same, ≤ℚ-<ℚ_trans, +ℚ-≤ℚ, +ℚ-<ℚ, whole-≤ℚ}
+use Rattle.fraction_theory.proofs.OrderLaws.{NonNeg-one, by_le1, not-≤ℚ, <ℚ-not-≤ℚ, ≤ℚ_refl, ≤ℚ_trans, <ℚ-≤ℚ, ≤ℚ-<ℚ_trans, +ℚ-≤ℚ, +ℚ-<ℚ, whole-≤ℚ}
 use Rattle.fraction_theory.proofs.Ring.{at, padd, pneg, pnil, pone}
-use Rattle.fraction_theory.proofs.SignLaws.{IsSign, abs_within, sign_of_is}
 use Rattle.exact_fraction.specs.declared.Passed.{Passed}
 use Rattle.market_model.specs.declared.participants.Parts.{Parts}
 use Rattle.market_model.specs.Dispatch.{Dispatch, places, injection}
-use Rattle.market_model.specs.Overrun.{IsBeyond, IsFirstMost, Keeps, Within, overrun}
+use Rattle.market_model.specs.Overrun.{IsBeyond, IsFirstMost, Keeps, overrun}
 use Rattle.market_model.specs.declared.limits.Row.{Row}
 use Rattle.market_model.specs.LimitRows.{Carried, carried, flow_by, flow_terms, limit, line_flow, line_flows, lost_output, lost_outputs, most_excess, most_flow, rows}
 use Rattle.market_model.specs.NamedSums.{IsRefusedIn}
-use Rattle.market_model.specs.PutIn.{carried_in, put_in}
+use Rattle.market_model.specs.PutIn.{AreCarried, carried_in}
 use Rattle.market_model.specs.SumTables.{IsFlowRefusal, flow_of_row}
 use Rattle.market_model.proofs.LinePenalties.{penalties}
-use Rattle.limit_rows.proofs.FlowSteps.{flow_terms-same}
+use Rattle.limit_rows.proofs.FlowSteps.{row_terms_are}
+use Rattle.limit_rows.proofs.FlowSizes.{not_passed, size_kept}
 use Rattle.market_model.proofs.RowMembers.{at_places}
 use Rattle.limit_screen.specs.declared.screening.RowOverrun.{RowOverrun}
 use Rattle.market_model.specs.Market.{IsMarket}
+use Rattle.market_model.proofs.Excesses.{within_most}
 use Rattle.limit_screen.specs.Bounds.{IsLeastOf}
 use Rattle.limit_screen.specs.Flows.{carried_at, flows_at, LawOfRowFlows}
 use Rattle.limit_screen.specs.Screening.{AllKeep, IsWorstOf}
 
--- ---- orders and differences
-pub not_past : (o : Ordering) (x y : Fraction) → MatchOrdering o (x <ℚ y) (x ≡ y) (y <ℚ x) → (o ≡ Less) ⊎ (o ≡ Equal) → x ≤ℚ y
-not_past Less x y h is = <ℚ-≤ℚ x y h
-not_past Equal x y h is = ≤ℚ_of_same x y h
-not_past Greater x y h (inl e) = absurd Prim.cc
-not_past Greater x y h (inr e) = absurd Prim.cc
-
+-- ---- differences
 pub above_nil : (x y : Fraction) → y <ℚ x → whole (pos 0) <ℚ (x -ℚ y)
 above_nil x y h = subst (λ z. z <ℚ (x -ℚ y)) (+ℚ_neg y) (+ℚ-<ℚ y x (neg_ℚ y) (neg_ℚ y) h (≤ℚ_refl (neg_ℚ y)))
 
@@ -89,24 +81,6 @@ module _ (Counts : Row → Type 0) (e : Row → Fraction) (rs : List Row) (r : R
           first = λ i s lt at. h.first i s lt (sym (slice_get-left rs (r ∷ []) i (Prim.omega (arith, lt, inside))) ∙ at);
         }
 
--- ---- a limit that holds
-from_opposite : (f F : Fraction) → neg_ℚ f ≤ℚ F → neg_ℚ F ≤ℚ f
-from_opposite f F h = by_le1 (f ∷ F ∷ []) (pneg (at 1)) (at 0) pone (pneg (at 0)) (at 1) NonNeg-one h refl
-
-below_opposite : (f : Fraction) → f ≤ℚ whole (pos 0) → f ≤ℚ neg_ℚ f
-below_opposite f h = ≤ℚ_trans f (whole (pos 0)) (neg_ℚ f) h (by_le1 (f ∷ []) pnil (pneg (at 0)) pone (at 0) pnil NonNeg-one h refl)
-
-opposite_below : (f : Fraction) → whole (pos 0) ≤ℚ f → neg_ℚ f ≤ℚ f
-opposite_below f h = ≤ℚ_trans (neg_ℚ f) (whole (pos 0)) f (by_le1 (f ∷ []) (pneg (at 0)) pnil pone pnil (at 0) NonNeg-one h refl) h
-
-within_size : (f F : Fraction) (s : Sign) → s ≡ sign_of f → abs_by s f ≤ℚ F → (neg_ℚ F ≤ℚ f) × (f ≤ℚ F)
-within_size f F s e h = by s (sign_of_is f s e) h
-  where
-    by : (t : Sign) → IsSign t f → abs_by t f ≤ℚ F → (neg_ℚ F ≤ℚ f) × (f ≤ℚ F)
-    by Below is h = (from_opposite f F h, ≤ℚ_trans f (neg_ℚ f) F (below_opposite f (<ℚ-≤ℚ f (whole (pos 0)) is)) h)
-    by Zero is h = (from_opposite f F (≤ℚ_trans (neg_ℚ f) f F (opposite_below f (≤ℚ_of_same (whole (pos 0)) f (sym is))) h), h)
-    by Above is h = (from_opposite f F (≤ℚ_trans (neg_ℚ f) f F (opposite_below f (<ℚ-≤ℚ (whole (pos 0)) f is)) h), h)
-
 -- ---- what a flow may be
 pub limit_passed : (s F : Fraction) → whole (pos 0) <ℚ (s -ℚ F) → F <ℚ s
 limit_passed s F h = not-≤ℚ s F (λ n. <ℚ-not-≤ℚ (whole (pos 0)) (s -ℚ F) h (below_nil s F n))
@@ -117,56 +91,36 @@ most_passed s F e h = not-≤ℚ s (F +ℚ e) (λ n. <ℚ-not-≤ℚ e (s -ℚ F
 most_kept : (s F e : Fraction) → (s -ℚ F) ≤ℚ e → s ≤ℚ (F +ℚ e)
 most_kept s F e h = by_le1 (s ∷ F ∷ e ∷ []) (at 0) (padd (at 1) (at 2)) pone (padd (at 0) (pneg (at 1))) (at 2) NonNeg-one h refl
 
-size_kept : (most f : Fraction) → abs_ℚ f ≤ℚ most → Within most f
-unfolding sign_of abs_ℚ
-size_kept most f h = let both = within_size f most (sign_of f) refl h in record { above = both.0; below = both.1 }
-
-pub not_passed : (most f : Fraction) → Within most f → ¬ (most <ℚ abs_ℚ f)
-not_passed most f within h = <ℚ-not-≤ℚ most (abs_ℚ f) h (abs_within f most within.above within.below)
-
--- the excess is at least 0
-more_kept : (F e : Fraction) → whole (pos 0) ≤ℚ e → F ≤ℚ (F +ℚ e)
-more_kept F e h = by_le1 (F ∷ e ∷ []) (at 0) (padd (at 0) (at 1)) pone pnil (at 1) NonNeg-one h refl
-
-pub limit_most : (m : Parts) → IsMarket m → (r : Row) → limit m r ≤ℚ most_flow m r
-limit_most m market r = more_kept (limit m r) (most_excess m r) (whole-≤ℚ (pos 0) _ (penalties m market r).exceeds)
-
 -- where some rows are taken, a flow f of a row
 module _ (m : Parts) (taken : List Row) (r : Row) (f : Fraction) where
-  pub keeps_not_beyond : Keeps m taken r f → ¬ (IsBeyond m taken r f)
-  keeps_not_beyond keeps beyond =
-      let new : ¬ (Contains taken r) = λ c. not_passed (most_flow m r) f (keeps.most c) (beyond.most c) in
-      not_passed (limit m r) f (keeps.limit new) (beyond.limit new)
-
   -- it doesn't pass its limit
   pub keeps_limit : IsMarket m → overrun m r f ≤ℚ whole (pos 0) → Keeps m taken r f
   keeps_limit market h =
-      let size : abs_ℚ f ≤ℚ limit m r = from_below (abs_ℚ f) (limit m r) h in
-      record {
-        limit = λ _. size_kept (limit m r) f size;
-        most = λ _. size_kept (most_flow m r) f (≤ℚ_trans (abs_ℚ f) (limit m r) (most_flow m r) size (limit_most m market r));
-      }
+      let within : Within (limit m r) f = size_kept (limit m r) f (from_below (abs_ℚ f) (limit m r) h) in
+      record { limit = λ _. within; most = λ _. within_most m market r f within }
 
   -- it passes that, by no more than its excess or by more
   pub keeps_most : Contains taken r → overrun m r f ≤ℚ most_excess m r → Keeps m taken r f
   keeps_most c h = record { limit = λ new. absurd (new c); most = λ _. size_kept (most_flow m r) f (most_kept (abs_ℚ f) (limit m r) (most_excess m r) h) }
 
   pub beyond_limit : ¬ (Contains taken r) → whole (pos 0) <ℚ overrun m r f → IsBeyond m taken r f
-  beyond_limit new h = record { limit = λ _. limit_passed (abs_ℚ f) (limit m r) h; most = λ c. absurd (new c) }
+  beyond_limit new h = λ keeps. not_passed (limit m r) f (keeps.limit new) (limit_passed (abs_ℚ f) (limit m r) h)
 
   pub beyond_most : whole (pos 0) <ℚ overrun m r f → most_excess m r <ℚ overrun m r f → IsBeyond m taken r f
-  beyond_most h more = record { limit = λ _. limit_passed (abs_ℚ f) (limit m r) h; most = λ _. most_passed (abs_ℚ f) (limit m r) (most_excess m r) more }
+  beyond_most h more = λ keeps.
+      let new : ¬ (Contains taken r) = λ c. not_passed (most_flow m r) f (keeps.most c) (most_passed (abs_ℚ f) (limit m r) (most_excess m r) more) in
+      beyond_limit new h keeps
 
 -- ---- the worst of some rows, with one more
 module _ {N : Type 0} (value : N → Fraction) (m : Parts) (taken : List Row) (f : Row → Fraction) (rs : List Row) (r : Row) where
   pub worse_than_kept : All (λ s. Keeps m taken s (f s)) rs → All (λ s. IsBeyond m taken s (f s) → overrun m s (f s) <ℚ overrun m r (f r)) rs
-  worse_than_kept all k d lt beyond = let s : Row = get_or rs k d in absurd (keeps_not_beyond m taken s (f s) (all k d lt) beyond)
+  worse_than_kept all k d lt beyond = absurd (beyond (all k d lt))
 
   -- one that keeps what it may be changes nothing
   pub kept : (worst : Option (RowOverrun N)) → IsWorstOf value m taken f rs worst → Keeps m taken r (f r) → IsWorstOf value m taken f (rs ++ r ∷ []) worst
   kept None before keeps = All-append (λ s. Keeps m taken s (f s)) rs (r ∷ []) before (All-one (λ s. Keeps m taken s (f s)) r keeps)
   kept (Some b) ((place, worst), is, low) keeps =
-      ((place, old_worst (λ s. IsBeyond m taken s (f s)) (λ s. overrun m s (f s)) rs r place b.row worst (λ beyond. absurd (keeps_not_beyond m taken r (f r) keeps beyond))), is, low)
+      ((place, old_worst (λ s. IsBeyond m taken s (f s)) (λ s. overrun m s (f s)) rs r place b.row worst (λ beyond. absurd (beyond keeps))), is, low)
 
   -- one whose overrun is not above a number that is not above that of the worst changes nothing
   pub no_worse : (worst : Option (RowOverrun N)) (most : ℤ) → IsMarket m → IsLeastOf worst most → IsWorstOf value m taken f rs worst → overrun m r (f r) ≤ℚ whole most → IsWorstOf value m taken f (rs ++ r ∷ []) worst
@@ -184,46 +138,22 @@ module _ (m : Parts) (x : Dispatch) (fs : List Fraction) (puts : fs ≡ flows_at
   buses_count : length bus_part ≡ length m.buses
   buses_count = length-map-range_with_len (injection m x) 0 (length m.buses)
 
-  lines_count : length (line_flows m x) ≡ length m.lines
-  lines_count = length-map-range_with_len (line_flow m (injection m x)) 0 (length m.lines)
-
-  behind_buses : (place there : ℕ) → there ≡ length m.buses + place → get_or fs there (whole (pos 0)) ≡ get_or (line_flows m x ++ lost_outputs m x) place (whole (pos 0))
-  behind_buses place there e =
-      let past : length m.buses ≤ there = Prim.omega (arith, e) in
-      let left : there - length m.buses ≡ place = Prim.omega (arith, e) in
-      ap (λ (ys : List Fraction). get_or ys there (whole (pos 0))) puts
-      ∙ get_or-append_right bus_part (line_flows m x ++ lost_outputs m x) (length m.buses) there (whole (pos 0)) buses_count past
-      ∙ ap (λ (i : ℕ). get_or (line_flows m x ++ lost_outputs m x) i (whole (pos 0))) left
-
-  line_at_place : (l : ℕ) → l < length m.lines → (carried_at m fs).line l ≡ line_flow m (injection m x) l
-  line_at_place l h =
-      let from_0 : 0 + l ≡ l = Prim.omega arith in
-      behind_buses l (length m.buses + l) refl
-      ∙ get_or_append_left (line_flows m x) (lost_outputs m x) (whole (pos 0)) l (Prim.omega (arith, h, lines_count))
-      ∙ get_or-map-range_with_len (line_flow m (injection m x)) 0 (length m.lines) l l (whole (pos 0)) h from_0
-
-  lost_at_place : (k : ℕ) → k < length m.unit_outages → (carried_at m fs).lost k ≡ lost_output m x k
-  lost_at_place k h =
-      let past : length m.lines ≤ length m.lines + k = Prim.omega arith in
-      let left : (length m.lines + k) - length m.lines ≡ k = Prim.omega arith in
-      let from_0 : 0 + k ≡ k = Prim.omega arith in
-      behind_buses (length m.lines + k) (length m.buses + length m.lines + k) (Prim.omega arith)
-      ∙ get_or-append_right (line_flows m x) (lost_outputs m x) (length m.lines) (length m.lines + k) (whole (pos 0)) lines_count past
-      ∙ ap (λ (i : ℕ). get_or (lost_outputs m x) i (whole (pos 0))) left
-      ∙ get_or-map-range_with_len (lost_output m x) 0 (length m.unit_outages) k k (whole (pos 0)) h from_0
+  carried_there : AreCarried m x (drop (length m.buses) fs)
+  carried_there = ap (λ (ys : List Fraction). drop (length m.buses) ys) puts ∙ drop_at bus_part (line_flows m x ++ lost_outputs m x) (length m.buses) buses_count
 
   pub flow_count : length fs ≡ length m.buses + length m.lines + length m.unit_outages
   flow_count =
+      let lines : length (line_flows m x) ≡ length m.lines = length-map-range_with_len (line_flow m (injection m x)) 0 (length m.lines) in
       let lost : length (lost_outputs m x) ≡ length m.unit_outages = length-map-range_with_len (lost_output m x) 0 (length m.unit_outages) in
       let all : length fs ≡ length bus_part + (length (line_flows m x) + length (lost_outputs m x)) =
       ap length puts ∙ length-append bus_part (line_flows m x ++ lost_outputs m x) ∙ ap (λ (n : ℕ). length bus_part + n) (length-append (line_flows m x) (lost_outputs m x)) in
-      Prim.omega (arith, all, buses_count, lines_count, lost)
+      Prim.omega (arith, all, buses_count, lines, lost)
 
   -- the terms of a row's flow
   pub row_terms : (r : Row) → IsMarket m → Contains (rows m) r → flow_terms m (carried_at m fs) r ≡ flow_terms m (carried m x) r
   row_terms r market c =
       let places = at_places m market r c in
-      flow_terms-same m (carried_at m fs) (carried m x) line_at_place lost_at_place r places.0 places.1
+      row_terms_are m x (drop (length m.buses) fs) carried_there r places.0 places.1
 
 pub law_of_row_flows : LawOfRowFlows
 law_of_row_flows m x fs r market puts c = ap total (row_terms m x fs puts r market c)
@@ -237,17 +167,7 @@ buses_before value m x fs n count puts =
 
 -- and what is carried
 pub carried_behind : {N : Type 0} (value : N → Fraction) (m : Parts) (fs : List N) (n : ℕ) → n ≡ length m.buses → carried_in m (map value (take (length fs - n) (drop n fs))) ≡ carried_at m (map value fs)
-carried_behind {N} value m fs n count i = record {
-  line = λ l. at_place l (length m.buses + l) refl i;
-  lost = λ k. at_place (length m.lines + k) (length m.buses + length m.lines + k) (Prim.omega arith) i;
-}
-  where
-    at_place : (place there : ℕ) → there ≡ length m.buses + place → put_in (map value (take (length fs - n) (drop n fs))) place ≡ get_or (map value fs) there (whole (pos 0))
-    at_place place there e =
-        let behind : n + place ≡ there = Prim.omega (arith, count, e) in
-        ap (λ (ys : List N). put_in (map value ys) place) (take_rest fs n)
-        ∙ ap (λ ys. get_or ys place (whole (pos 0))) (sym (drop-map value n fs)) ∙ get_or-drop n (map value fs) place (whole (pos 0))
-        ∙ ap (λ (k : ℕ). get_or (map value fs) k (whole (pos 0))) behind
+carried_behind value m fs n count = ap (λ (ys : List Fraction). carried_in m ys) (ap (map value) (take_rest fs n) ∙ sym (drop-map value n fs) ∙ ap (λ (k : ℕ). drop k (map value fs)) count)
 
 -- where the flow of a row is refused
 pub flow_refusal_same : (m : Parts) (a b : Carried) (r : Row) (bound : ℕ) (p : Passed Fraction) → flow_terms m a r ≡ flow_terms m b r → IsFlowRefusal m a r bound p → IsFlowRefusal m b r bound p

@@ -9,11 +9,11 @@ use Rattle.exact_fraction.specs.Floor.{IsFloor}
 use Rattle.market_model.specs.declared.participants.Parts.{Parts}
 use Rattle.market_model.specs.Dispatch.{zero}
 use Rattle.market_model.specs.LimitRows.{Carried}
-use Rattle.market_model.specs.PickupTable.{pickup_one}
 use Rattle.limit_screen.specs.declared.bounds.Near.{Near}
 use Rattle.limit_screen.specs.declared.bounds.NearFlow.{NearFlow}
 use Rattle.limit_screen.specs.declared.parts.WholeParts.{WholeParts}
 use Rattle.limit_screen.specs.declared.screening.RowOverrun.{RowOverrun}
+use Rattle.market_data.specs.Scales.{pickup_one}
 
 -- each element that stands at a place is what is asked there
 abbrev pub EachAt : {X : Type 0} → (ℕ → X → Type 0) → List X → Type 0

@@ -1,14 +1,15 @@
 -- What a network carries at a dispatch, and the flows of rows where this is carried.
 -- Wood and Wollenberg, Power Generation, Operation and Control: flows by shift factors, after an outage of a branch by the flow that the
 -- lost branch had, and after one of a unit by the output that others pick up.
-use Rattle.std.specs.Prelude.{◌≡◌, ℕ, ◌+◌, List, ◌++◌, length, map, slice_index_or, Contains}
+use Rattle.std.specs.Prelude.{◌≡◌, ℕ, List, ◌++◌, length, map, drop, Contains}
 use Rattle.fraction_theory.specs.Fraction.{Fraction}
 use Rattle.exact_fraction.specs.declared.Passed.{Passed}
 use Rattle.market_model.specs.declared.participants.Parts.{Parts}
-use Rattle.market_model.specs.Dispatch.{Dispatch, zero, places, injection}
+use Rattle.market_model.specs.Dispatch.{Dispatch, places, injection}
 use Rattle.market_model.specs.declared.limits.Row.{Row}
 use Rattle.market_model.specs.LimitRows.{Carried, rows, line_flows, lost_outputs, flow, flow_by}
 use Rattle.market_model.specs.Market.{IsMarket}
+use Rattle.market_model.specs.PutIn.{carried_in}
 use Rattle.market_model.specs.SumTables.{IsRefusedAmong, CarriedSum}
 
 -- what each bus puts in at a dispatch, then the flow of each line, and then the output of the unit of each outage of a unit
@@ -17,10 +18,7 @@ flows_at m x = map (injection m x) (places (length m.buses)) ++ (line_flows m x 
 
 -- of numbers for each bus, then for each line and then for each outage of a unit, what is carried by the last two
 abbrev pub carried_at : Parts → List Fraction → Carried
-carried_at m fs = record {
-  line = λ l. slice_index_or fs (length m.buses + l) zero;
-  lost = λ k. slice_index_or fs (length m.buses + length m.lines + k) zero;
-}
+carried_at m fs = carried_in m (drop (length m.buses) fs)
 
 -- of the flows of a dispatch, those of the market's rows are their flows at the dispatch
 abbrev pub LawOfRowFlows : Type 0

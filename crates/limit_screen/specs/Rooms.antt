@@ -1,11 +1,11 @@
 -- Which room, that a unit's energy and its reserve share, is passed by the most.
 -- Source: own; as violated limits, of rooms that are passed one alone is taken.
-use Rattle.std.specs.Prelude.{◌≡◌, ℕ, ◌<◌, Option, Some, None, Contains}
+use Rattle.std.specs.Prelude.{◌≡◌, ℕ, ◌<◌, length, Option, Some, None, Contains}
 use Rattle.fraction_theory.specs.Fraction.{Fraction, ◌-ℚ◌}
 use Rattle.fraction_theory.specs.Order.{◌<ℚ◌, ◌≤ℚ◌}
 use Rattle.market_model.specs.declared.participants.Parts.{Parts}
 use Rattle.market_model.specs.Dispatch.{Dispatch, unit_at}
-use Rattle.market_model.specs.Reserves.{reserve_units, room, room_used}
+use Rattle.market_model.specs.Reserves.{reserve_units, room, room_used, KeepRooms}
 use Rattle.limit_screen.specs.declared.sharing.RoomOverrun.{RoomOverrun}
 
 -- by how much a unit uses more than its room; at most 0 where it keeps that
@@ -14,20 +14,9 @@ room_overrun m x u = room_used m x u -ℚ room m u
 
 -- all units that offer reserve keep their rooms
 abbrev pub AllKeepRooms : Parts → Dispatch → Type 0
-AllKeepRooms m x = (u : ℕ) → Contains (reserve_units m) u → room_used m x u ≤ℚ room m u
+AllKeepRooms m x = KeepRooms m (reserve_units m) x
 
--- a unit that offers reserve passes its room, none of these passes its own by more, and none before it by as much
-pub record IsWorstRoom (m : Parts) (x : Dispatch) (u : ℕ) : Type 0 where
-  pub offers : Contains (reserve_units m) u
-  pub passed : room m u <ℚ room_used m x u
-  pub most : (v : ℕ) → Contains (reserve_units m) v → room_overrun m x v ≤ℚ room_overrun m x u
-  pub first : (v : ℕ) → v < u → Contains (reserve_units m) v → room_overrun m x v <ℚ room_overrun m x u
-
--- its row in the gen matrix
-abbrev pub IsWorstRoomNamed : Parts → Dispatch → ℕ → Type 0
-IsWorstRoomNamed m x row = (u : ℕ) × IsWorstRoom m x u × (row ≡ (unit_at m u).row)
-
--- the same of the units before a place, or none where these keep their rooms
+-- of the units before a place that offer reserve, one passes its room, none passes its own by more, and none before it by as much
 pub record IsWorstRoomBefore (m : Parts) (x : Dispatch) (place u : ℕ) : Type 0 where
   pub before : u < place
   pub offers : Contains (reserve_units m) u
@@ -35,7 +24,15 @@ pub record IsWorstRoomBefore (m : Parts) (x : Dispatch) (place u : ℕ) : Type 0
   pub most : (v : ℕ) → v < place → Contains (reserve_units m) v → room_overrun m x v ≤ℚ room_overrun m x u
   pub first : (v : ℕ) → v < u → Contains (reserve_units m) v → room_overrun m x v <ℚ room_overrun m x u
 
--- with its overrun
+-- of all units
+abbrev pub IsWorstRoom : Parts → Dispatch → ℕ → Type 0
+IsWorstRoom m x u = IsWorstRoomBefore m x (length m.units) u
+
+-- its row in the gen matrix
+abbrev pub IsWorstRoomNamed : Parts → Dispatch → ℕ → Type 0
+IsWorstRoomNamed m x row = (u : ℕ) × IsWorstRoom m x u × (row ≡ (unit_at m u).row)
+
+-- of the units before a place the worst with its overrun, or none where these keep their rooms
 abbrev pub IsWorstRoomTo : {N : Type 0} → (N → Fraction) → Parts → Dispatch → ℕ → Option (RoomOverrun N) → Type 0
 IsWorstRoomTo value m x place None = (v : ℕ) → v < place → Contains (reserve_units m) v → room_used m x v ≤ℚ room m v
 IsWorstRoomTo value m x place (Some b) = IsWorstRoomBefore m x place b.unit × (value b.overrun ≡ room_overrun m x b.unit)

@@ -2,13 +2,11 @@
 use Rattle.std.specs.Prelude.{◌≡◌, ℕ, List, Option, Some, None, map, All, Contains}
 use Rattle.fraction_theory.specs.Fraction.{Fraction, whole}
 use Rattle.fraction_theory.specs.Order.{◌≤ℚ◌}
-use Rattle.exact_fraction.specs.declared.Passed.{Passed}
 use Rattle.market_model.specs.declared.answered.RowId.{RowId}
 use Rattle.market_model.specs.declared.participants.Parts.{Parts}
 use Rattle.market_model.specs.Overrun.{overrun, IsBeyond, IsFirstMost, IsWorst, Keeps}
 use Rattle.market_model.specs.declared.limits.Row.{Row}
 use Rattle.market_model.specs.LimitRows.{Carried, flow_by, row_id, rows}
-use Rattle.market_model.specs.SumTables.{IsFlowRefusal}
 use Rattle.limit_screen.specs.declared.screening.RowOverrun.{RowOverrun}
 use Rattle.limit_screen.specs.declared.taking.TakenRows.{TakenRows}
 use Rattle.limit_screen.specs.declared.taking.TakenRows.TheVariants.{Rows, Names}
@@ -33,10 +31,6 @@ AreNamesOf m taken names = ((r : Row) → Contains taken r → Contains (rows m)
 abbrev pub AreTakenRows : Parts → List Row → TakenRows → Type 0
 AreTakenRows m taken (Rows given) = given.now ≡ taken
 AreTakenRows m taken (Names given) = AreNamesOf m taken given.now
-
--- an operation refused for the flow of a row of the market; by how much that passes its limit is refused of none
-abbrev pub IsScreenRefusal : Parts → Carried → ℕ → Passed Fraction → Type 0
-IsScreenRefusal m c bound p = (r : Row) × Contains (rows m) r × IsFlowRefusal m c r bound p
 
 -- the worst of some rows with its overrun and a whole number that is not above this, the first of several, or none where all of them keep
 -- what they may be

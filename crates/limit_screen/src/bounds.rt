@@ -6,17 +6,14 @@ ghost use Rattle.fraction_theory.specs.Fraction.{Fraction, ◌+ℚ◌, ◌*ℚ�
 ghost use Rattle.fraction_theory.specs.Order.{◌≤ℚ◌};
 ghost use Rattle.fraction_theory.specs.Signs.{abs_ℚ};
 ghost use Rattle.exact_fraction.specs.Floor.{IsFloor};
+ghost use Rattle.market_data.specs.Scales.{pickup_one};
 ghost use Rattle.market_model.specs.LimitRows.{Carried, flow_by, pickup_factor, IsCauseOf};
-ghost use Rattle.market_model.specs.PickupTable.{pickup_one};
 ghost use Rattle.limit_screen.specs.Bounds.{AreWholeParts, IsNear, IsNearFlow, IsSmall, IsUpTo};
 
 use crate::parts::WholeParts;
 use limit_rows::loss_of;
-use market_data::{FACTOR_ONE, SHARE_ONE};
+use market_data::{FACTOR_ONE, PICKUP_ONE};
 use market_model::{Cause, Market, Row};
-
-/// What factors after the loss of a unit are told in: 10^-15, shares in 10^-6 of factors in 10^-9.
-const PICKUP_ONE: u64 = SHARE_ONE * FACTOR_ONE;
 
 /// A whole number that is near another number, and how far from it that is at the most.
 #[derive(Clone, Copy)]

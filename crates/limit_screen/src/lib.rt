@@ -11,5 +11,5 @@ mod taking;
 
 pub use flowing::{bus_injections, carried_flows, flows, flows_made};
 pub use parts::{WholeParts, whole_parts};
-pub use screening::{worst, worst_row, worst_row_by_parts};
+pub use screening::{beyond, worst, worst_row, worst_row_by_parts};
 pub use sharing::{rooms, worst_room};

@@ -11,16 +11,17 @@ ghost use Rattle.market_model.specs.declared.limits.Row.{Row};
 ghost use Rattle.market_model.specs.declared.participants.Parts.{Parts};
 ghost use Rattle.market_model.specs.LimitRows.{Carried, flow_by, rows};
 ghost use Rattle.market_model.specs.SumTables.{IsFlowRefusal};
+ghost use Rattle.limit_rows.specs.Refusals.{IsAnyFlowRefusal};
 ghost use Rattle.limit_screen.specs.Bounds.{AreWholeParts, IsLeastOf};
 ghost use Rattle.limit_screen.specs.Flows.{carried_at};
-ghost use Rattle.limit_screen.specs.Screening.{AllKeep, AreNamesOf, AreTakenRows, IsScreenRefusal, IsWorstBy, IsWorstNamed, IsWorstOf};
+ghost use Rattle.limit_screen.specs.Screening.{AllKeep, AreNamesOf, AreTakenRows, IsWorstBy, IsWorstNamed, IsWorstOf};
 
 use crate::bounds::{is_within, near_flow};
 use crate::flowing::carried_flows;
 use crate::parts::WholeParts;
 use crate::taking::{TakenRows, is_taken};
 use exact_fraction::{Exact, Passed, exact_difference, size};
-use limit_rows::{excess_at, limit_at, name_at, row_flow, rows};
+use limit_rows::{limit_at, most_excess_at, name_at, row_flow, rows};
 use market_model::{Market, Row, RowId, datum};
 use std::cmp::Ordering;
 
@@ -35,7 +36,7 @@ struct RowOverrun<N> {
 }
 
 /// By how much a flow passes a limit; nothing where it doesn't. That is never too large: its parts are no greater than those of the flow.
-fn beyond<N: Exact>(flow: N, limit: N) -> Result<Option<N>, Passed<N>>
+pub fn beyond<N: Exact>(flow: N, limit: N) -> Result<Option<N>, Passed<N>>
     requires { (mw : ℤ) × (pos 0 ≤ℤ mw) × (N.value limit ≡ whole mw) }
     ensures overrun { IfOk result (λ past. MatchOption past ((abs_ℚ (N.value flow) -ℚ N.value limit) ≤ℚ zero) (λ e. (zero <ℚ N.value e) × (N.value e ≡ abs_ℚ (N.value flow) -ℚ N.value limit))) }
     ensures fits { IfErr result (λ passed. ⊥) }
@@ -55,7 +56,7 @@ fn keeps_excess<N: Exact>(market: &Market, taken: TakenRows<'_>, row: Row, overr
     ensures { (g : List Row) (f : Fraction) → AreTakenRows market.now g taken.entry → N.value overrun ≡ overrun_of market.now row f → MatchBool result (Keeps market.now g row f) (IsBeyond market.now g row f) }
 {
     let _lines = market.lines();
-    match overrun.order(datum(excess_at(market, row))) {
+    match overrun.order(datum(most_excess_at(market, row))) {
         Ordering::Greater => false,
         Ordering::Less | Ordering::Equal => is_taken(market, taken, row),
     }
@@ -174,7 +175,7 @@ fn worst_taken<N: Exact>(
     requires flows { length flows.now ≡ length market.now.buses + length market.now.lines + length market.now.unit_outages }
     ensures worst { (g : List Row) → AreTakenRows market.now g taken.entry → IfOk result (λ worst. MatchOption worst (AllKeep market.now g (carried_at market.now (map N.value flows.now)))
         (IsWorstBy market.now g (carried_at market.now (map N.value flows.now)))) }
-    ensures cause { IfErr result (λ passed. IsScreenRefusal market.now (carried_at market.now (map N.value flows.now)) N.bound (passed_at N.value passed)) }
+    ensures cause { IfErr result (λ passed. IsAnyFlowRefusal market.now (carried_at market.now (map N.value flows.now)) N.bound (passed_at N.value passed)) }
 {
     let mut worst = None;
     for row in rows(market) {
@@ -196,7 +197,7 @@ pub fn worst_row<N: Exact>(
 ) -> Result<Option<Row>, Passed<N>>
     requires { length flows.now ≡ length market.now.buses + length market.now.lines + length market.now.unit_outages }
     ensures worst { IfOk result (λ worst. MatchOption worst (AllKeep market.now taken.now (carried_at market.now (map N.value flows.now))) (IsWorstBy market.now taken.now (carried_at market.now (map N.value flows.now)))) }
-    ensures cause { IfErr result (λ passed. IsScreenRefusal market.now (carried_at market.now (map N.value flows.now)) N.bound (passed_at N.value passed)) }
+    ensures cause { IfErr result (λ passed. IsAnyFlowRefusal market.now (carried_at market.now (map N.value flows.now)) N.bound (passed_at N.value passed)) }
 {
     worst_taken(market, flows, None, TakenRows::Rows(taken))
 }
@@ -211,7 +212,7 @@ pub fn worst_row_by_parts<N: Exact>(
     requires flows { length flows.now ≡ length market.now.buses + length market.now.lines + length market.now.unit_outages }
     requires parts { AreWholeParts market.now (carried_at market.now (map N.value flows.now)) parts.now }
     ensures worst { IfOk result (λ worst. MatchOption worst (AllKeep market.now taken.now (carried_at market.now (map N.value flows.now))) (IsWorstBy market.now taken.now (carried_at market.now (map N.value flows.now)))) }
-    ensures cause { IfErr result (λ passed. IsScreenRefusal market.now (carried_at market.now (map N.value flows.now)) N.bound (passed_at N.value passed)) }
+    ensures cause { IfErr result (λ passed. IsAnyFlowRefusal market.now (carried_at market.now (map N.value flows.now)) N.bound (passed_at N.value passed)) }
 {
     worst_taken(market, flows, Some(parts), TakenRows::Rows(taken))
 }
@@ -226,7 +227,7 @@ pub fn worst<N: Exact>(
     requires taken { (g : List Row) × AreNamesOf market.now g taken.now }
     ensures worst { (g : List Row) → AreNamesOf market.now g taken.now → IfOk result (λ worst. MatchOption worst (AllKeep market.now g (carried_at market.now (map N.value flows.now)))
         (IsWorstNamed market.now g (carried_at market.now (map N.value flows.now)))) }
-    ensures cause { IfErr result (λ passed. IsScreenRefusal market.now (carried_at market.now (map N.value flows.now)) N.bound (passed_at N.value passed)) }
+    ensures cause { IfErr result (λ passed. IsAnyFlowRefusal market.now (carried_at market.now (map N.value flows.now)) N.bound (passed_at N.value passed)) }
 {
     let _lines = market.lines();
     match worst_taken(market, flows, None, TakenRows::Names(taken))? {

@@ -1,5 +1,5 @@
 -- The units in which data are whole numbers, and the most of what is given.
-use Rattle.std.specs.Prelude.{ℕ, ◌*◌, ◌^◌}
+use Rattle.std.specs.Prelude.{ℕ, ◌+◌, ◌*◌, ◌^◌}
 use Rattle.market_data.specs.declared.scales.FactorPlaces.{FactorPlaces}
 use Rattle.market_data.specs.declared.scales.FactorPlaces.TheVariants.{Six, Nine}
 
@@ -57,6 +57,10 @@ share_one = 10 ^ share_places
 abbrev pub most_share : ℕ
 most_share = 10 ^ 9
 
+-- a share times a factor as a datum: of how many parts a pickup factor is a number
+abbrev pub pickup_one : ℕ
+pickup_one = share_one * factor_one
+
 -- decimals of reactances and of ratios: of both a datum is a number of 10^-9
 abbrev pub reactance_places : ℕ
 reactance_places = 9
@@ -102,3 +106,11 @@ most_outages = 500
 -- records of what is picked up of the outputs of lost units
 abbrev pub most_pickups : ℕ
 most_pickups = 5000
+
+-- penalties: one for each limit that the most branches can have
+abbrev pub most_penalties : ℕ
+most_penalties = 2 * most_lines
+
+-- records of reserve: an offer of each unit, and a need
+abbrev pub most_reserves : ℕ
+most_reserves = most_units + 1

@@ -66,6 +66,9 @@ pub const SHARE_ONE: u64 = 1_000_000;
 /// The greatest size of a share that a table may state, as a datum: that of 1000.
 pub const MOST_SHARE: u64 = 1_000_000_000;
 
+/// A share of 1 times a factor of 1 as a datum: of how many parts a pickup factor is a number.
+pub const PICKUP_ONE: u64 = SHARE_ONE * FACTOR_ONE;
+
 /// Decimal places of reactances and of ratios: of both a datum is a number of 10^-9.
 pub const REACTANCE_PLACES: u8 = 9;
 
@@ -98,3 +101,9 @@ pub const MOST_OUTAGES: usize = 500;
 
 /// The most records of what is picked up of the outputs of lost units.
 pub const MOST_PICKUPS: usize = 5000;
+
+/// The most penalties: one for each limit that the most branches can have.
+pub const MOST_PENALTIES: usize = 2 * MOST_LINES;
+
+/// The most records of reserve: an offer of each unit, and a need.
+pub const MOST_RESERVES: usize = MOST_UNITS + 1;

@@ -52,7 +52,7 @@ use Rattle.market_system.proofs.VariableLaws as law
 use Rattle.market_system.proofs.VariableLaws.{mapped, in_mapped}
 use Rattle.market_dict.specs.declared.taking.Taking.{Taking}
 use Rattle.market_dict.specs.declared.taking.Taking.TheVariants as taking
-use Rattle.market_dict.specs.Holding.{HasPutIn, HoldsMarket, HoldsSystem, prices, lows, highs}
+use Rattle.market_dict.specs.Holding.{HasPutIn, HoldsMarket, HoldsSystem, column_prices, lows, highs}
 use Rattle.market_dict.specs.Takings.{limits_of, rooms_of, taken_of, AreTakings, columns_put, rows_put}
 use Rattle.market_dict.proofs.ColumnLists.{columns_limit, columns_room, soft_columns, hard_columns, own_nil}
 use Rattle.market_dict.proofs.PutInLemmas.{start_coefficient, kept_coefficient, added_coefficient, same_put_in}
@@ -438,7 +438,7 @@ holds_same m ts d e holds live sound columns rows coefficients names = record {
 
 -- ---- posed at the market's prices and bounds
 module _ {N : Type 0} (value_of : N → Fraction) (m : Parts) (ts : List Taking) (d : Dictionary) (ps : List N) (bounds : List (Bounds N)) (e : Dictionary) (market : IsMarket m)
-    (holds : HoldsMarket m ts d) (priced : map value_of ps ≡ prices m ts) (low_list : map (λ b. value_of b.low) bounds ≡ lows m ts) (high_list : map (λ b. value_of b.high) bounds ≡ highs m ts)
+    (holds : HoldsMarket m ts d) (priced : map value_of ps ≡ column_prices m ts) (low_list : map (λ b. value_of b.low) bounds ≡ lows m ts) (high_list : map (λ b. value_of b.high) bounds ≡ highs m ts)
     (posing : IsPosing value_of d ps bounds e) where
   posed : HoldsMarket m ts e
   posed = holds_same m ts d e holds posing.ready.live posing.ready.sound posing.columns posing.rows posing.coefficients posing.names
@@ -541,7 +541,7 @@ bounds_ordered {N} value m ts bounds market are low_list high_list k d lt =
 
 -- a working pair of the dictionary that would be posed is one of the market's system
 pub pair_posed : {N : Type 0} (value : N → Fraction) (bound : ℕ) (m : Parts) (ts : List Taking) (d : Dictionary) (ps : List N) (bounds : List (Bounds N)) (p : Passed N) → IsMarket m → HoldsMarket m ts d
-    → map value ps ≡ prices m ts → map (λ b. value b.low) bounds ≡ lows m ts → map (λ b. value b.high) bounds ≡ highs m ts
+    → map value ps ≡ column_prices m ts → map (λ b. value b.low) bounds ≡ lows m ts → map (λ b. value b.high) bounds ≡ highs m ts
     → IsPairPosed value bound d ps bounds p → IsPairOf value bound (system_of m (taken_of ts)) p
 pair_posed value bound m ts d ps bounds p market holds priced low high pair =
     same_pair (system_in pair.0) (system_of m (taken_of ts)) (holds_posed value m ts d ps bounds pair.0 market holds priced low high pair.1).same bound p.op (value p.left) (value p.right) pair.2

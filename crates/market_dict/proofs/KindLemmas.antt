@@ -15,8 +15,8 @@ use Rattle.market_system.specs.declared.variables.Variable.TheVariants as variab
 use Rattle.market_system.specs.MarketSystem.{name, need_name, row_name, row_place, IsVariableOf}
 use Rattle.market_system.proofs.DualLists.{rows_apart}
 use Rattle.market_system.proofs.RowOrder.{row_name-at, row_place-below}
-use Rattle.market_dict.specs.declared.names.Kind.{Kind}
-use Rattle.market_dict.specs.declared.names.Kind.TheVariants as kind
+use Rattle.market_dict.specs.declared.names.DualKind.{DualKind}
+use Rattle.market_dict.specs.declared.names.DualKind.TheVariants as kind
 use Rattle.market_dict.specs.Kinds.{kind_of}
 use Rattle.market_dict.proofs.ReadingLemmas.{dual_of, room_dual_of}
 
@@ -114,12 +114,12 @@ module _ (m : Parts) where
   room_of_kind variable.Need p e = absurd Prim.cc
   room_of_kind (variable.Room u) p e = Prim.cc
 
-  pub no_balance : (v : Variable) (other : Kind) → other ≡ kind_of m v → other ≢ kind.Balance → v ≢ variable.Balance
+  pub no_balance : (v : Variable) (other : DualKind) → other ≡ kind_of m v → other ≢ kind.Balance → v ≢ variable.Balance
   no_balance v other is apart e = apart (is ∙ ap (kind_of m) e)
 
   -- what is no limit has no dual, and what is no room no price of one
   module _ (cost : ℕ → Fraction) where
-    pub no_dual : (v : Variable) (other : Kind) → other ≡ kind_of m v → ((p : ℕ) → other ≢ kind.Limit p) → dual_of m cost v ≡ []
+    pub no_dual : (v : Variable) (other : DualKind) → other ≡ kind_of m v → ((p : ℕ) → other ≢ kind.Limit p) → dual_of m cost v ≡ []
     no_dual (variable.Block j) other is apart = refl
     no_dual variable.Balance other is apart = refl
     no_dual (variable.Limit r) other is apart = absurd (apart (row_place m r) is)
@@ -129,7 +129,7 @@ module _ (m : Parts) where
     no_dual variable.Need other is apart = refl
     no_dual (variable.Room u) other is apart = refl
 
-    pub no_room_dual : (v : Variable) (other : Kind) → other ≡ kind_of m v → ((p : ℕ) → other ≢ kind.Room p) → room_dual_of m cost v ≡ []
+    pub no_room_dual : (v : Variable) (other : DualKind) → other ≡ kind_of m v → ((p : ℕ) → other ≢ kind.Room p) → room_dual_of m cost v ≡ []
     no_room_dual (variable.Block j) other is apart = refl
     no_room_dual variable.Balance other is apart = refl
     no_room_dual (variable.Limit r) other is apart = refl

@@ -8,17 +8,15 @@ use Rattle.fraction_theory.proofs.FieldLaws.{ring_ℚ}
 use Rattle.fraction_theory.proofs.OrderLaws.{by_le1, NonNeg-one}
 use Rattle.fraction_theory.proofs.Ring.{by_ring, at, pnil, pone, pneg, ◌⊕◌}
 use Rattle.fraction_theory.proofs.SignLaws.{part_at_least, part_at_most}
-use Rattle.fraction_theory.proofs.SumLaws.{total-Plain}
 use Rattle.exact_fraction.specs.declared.Op.TheVariants.{Plus}
 use Rattle.exact_fraction.specs.declared.Passed.{Passed}
 use Rattle.market_model.specs.declared.participants.Parts.{Parts}
 use Rattle.market_model.specs.Dispatch.{places, reserve_quantity}
 use Rattle.market_model.specs.NamedSums.{IsRefusal, IsRefusedIn}
-use Rattle.market_model.specs.Reserves.{offer_places, reserve_need}
+use Rattle.market_model.specs.Reserves.{reserve_need}
 use Rattle.market_model.proofs.MorePlaces.{total-places_more}
 use Rattle.market_model.proofs.SumSteps.{plus_at, terms_at}
-use Rattle.market_system.specs.MarketSystem.{most_reserve, reserve_offered}
-use Rattle.market_dict.specs.Refusals.{offered_terms}
+use Rattle.market_system.specs.MarketSystem.{most_reserve, reserve_offered, offered_terms}
 
 module _ (m : Parts) where
   abbrev pub offered_term : ℕ → Term
@@ -33,9 +31,6 @@ module _ (m : Parts) where
   offered_refused k lt sum x bound p before here h =
       let t = terms_at offered_term (length m.reserve.offers) k lt in
       plus_at (offered_terms m) (map offered_term (places k)) t.0 (offered_term k) t.1 bound p sum x before here h
-
-  pub offered_all : total (offered_terms m) ≡ reserve_offered m
-  offered_all = total-Plain (reserve_quantity m) (offer_places m)
 
   -- the most of it: the greater one of what is offered and what is needed
   pub need_most : reserve_offered m ≤ℚ reserve_need m → reserve_need m ≡ most_reserve m

@@ -31,12 +31,12 @@ use Rattle.market_model.specs.Optimality.{Taken}
 use Rattle.market_model.specs.Reserves.{offer_places}
 use Rattle.market_model.proofs.EnergyAlone.{no_offers}
 use Rattle.market_model.proofs.ListSteps.{map-map}
+use Rattle.market_model.proofs.RowMembers.{Contains-from_places}
 use Rattle.market_system.specs.declared.variables.Variable.{Variable}
 use Rattle.market_system.specs.declared.variables.Variable.TheVariants.{Block, Need, Offer, Over, Under}
-use Rattle.market_system.specs.MarketSystem.{block_columns, columns, excess_columns, name, need_name, offer_columns, offer_name, system_over}
+use Rattle.market_system.specs.MarketSystem.{block_columns, columns, excess_columns, name, need_name, offer_columns, offer_name, system_over, offered_terms}
 use Rattle.market_system.proofs.RowOrder.{AreInOrder, increasing-from_pairs}
 use Rattle.market_system.proofs.VariableLaws as law
-use Rattle.market_dict.specs.Refusals.{offered_terms}
 use Rattle.market_dict.proofs.NameLists.{ascending_same}
 
 -- ---- first terms
@@ -149,7 +149,7 @@ module _ (m : Parts) (t : Taken) (ordered : AreInOrder m t) (listed : m.reserve.
   -- an offer counts by as much as it has
   offer_counts : (n : ℕ) → Contains (offer_places m) n → term_value (term_of (Offer n)) ≡ reserve_quantity m n
   offer_counts n c =
-      let lt = law.from_places (length m.reserve.offers) n c in
+      let lt = Contains-from_places (length m.reserve.offers) n c in
       ap₂ ◌*ℚ◌ (law.coefficient-at m t ordered Need (Offer n) listed lt) (law.high-at m t ordered (Offer n) lt) ∙ by_ring ring_ℚ (reserve_quantity m n ∷ []) (pone ⊗ at 0) (at 0) refl
 
   prefix_is : (j : ℕ) → prefix (length (map term_of before) + j) (value_terms s (rows_basic s) (need_name m)) ≡ prefix j (offered_terms m)

@@ -17,7 +17,7 @@ use Rattle.linear_system.specs.Numbers.{Factor, Quantity, is_high, is_low}
 use Rattle.market_model.specs.SumTables.{IsFlowRefusal, factor_of_pickup, flow_in_limits, flow_of_row, limited_row}
 use Rattle.market_model.specs.Valued.{passed_at}
 use Rattle.market_system.specs.Growth.{Growth}
-use Rattle.market_system.specs.MarketSystem.{in_order, row_name, system_of, taken_in_order}
+use Rattle.market_system.specs.MarketSystem.{in_order, row_name, system_of, taken_in_order, offered_terms}
 use Rattle.market_system.specs.MarketNumbers.{ClearingNumber, of_kind, of_system, MarketNumber, factor_of, of_flow as flows_named, is_limit, of_opposite}
 use Rattle.market_system.specs.PairLaw.{RefusalsArePairs}
 use Rattle.market_system.specs.WorkingPairs.{IsRangeOf}
@@ -28,7 +28,7 @@ use Rattle.market_system.proofs.PairCases.{law_of_the_pairs, of_system_pair, row
 use Rattle.market_system.proofs.VariableLaws as law
 use Rattle.market_system.specs.declared.variables.Variable.TheVariants.{Limit}
 use Rattle.market_dict.specs.declared.taking.Taking.{Taking}
-use Rattle.market_dict.specs.Refusals.{IsLeftRefusal, of_high, of_low, IsBoundsRefusal, of_sum, of_pickup, of_bound, of_offered, offered_terms}
+use Rattle.market_dict.specs.Refusals.{IsLeftRefusal, of_high, of_low, IsBoundsRefusal, of_sum, of_pickup, of_bound, of_offered}
 use Rattle.market_dict.specs.Takings.{limits_of, taken_of}
 use Rattle.market_dict.proofs.OfferedPairs.{none_refused, offered_pair}
 

@@ -36,8 +36,8 @@ pub record HoldsSystem (m : Parts) (ts : List Taking) (d : Dictionary) : Type 0 
   pub same : SameSystem (system_in d) (system_of m (taken_of ts))
 
 -- ---- the prices and bounds of a market's variables, in the order in which its dictionary has them: columns and then rows
-abbrev pub prices : Parts → List Taking → List Fraction
-prices m ts = map (objective_price m) (columns_put m ts)
+abbrev pub column_prices : Parts → List Taking → List Fraction
+column_prices m ts = map (objective_price m) (columns_put m ts)
 
 abbrev pub lows : Parts → List Taking → List Fraction
 lows m ts = map (low m) (columns_put m ts ++ rows_put m ts)

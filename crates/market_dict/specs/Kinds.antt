@@ -3,10 +3,10 @@ use Rattle.market_model.specs.declared.participants.Parts.{Parts}
 use Rattle.market_system.specs.declared.variables.Variable.{Variable}
 use Rattle.market_system.specs.declared.variables.Variable.TheVariants as variable
 use Rattle.market_system.specs.MarketSystem.{row_place}
-use Rattle.market_dict.specs.declared.names.Kind.{Kind}
-use Rattle.market_dict.specs.declared.names.Kind.TheVariants as kind
+use Rattle.market_dict.specs.declared.names.DualKind.{DualKind}
+use Rattle.market_dict.specs.declared.names.DualKind.TheVariants as kind
 
-abbrev pub kind_of : Parts → Variable → Kind
+abbrev pub kind_of : Parts → Variable → DualKind
 kind_of m (variable.Block j) = kind.Column
 kind_of m variable.Balance = kind.Balance
 kind_of m (variable.Limit r) = kind.Limit (row_place m r)

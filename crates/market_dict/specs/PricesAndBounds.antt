@@ -7,7 +7,7 @@ use Rattle.limit_screen.specs.Flows.{flows_at}
 use Rattle.market_system.specs.declared.variables.Variable.{Variable}
 use Rattle.market_system.specs.MarketSystem.{low, high}
 use Rattle.simplex_core.specs.declared.bounds.Bounds.{Bounds}
-use Rattle.market_dict.specs.Holding.{prices}
+use Rattle.market_dict.specs.Holding.{column_prices}
 use Rattle.market_dict.specs.declared.posing.PricesAndBounds.{PricesAndBounds}
 use Rattle.market_dict.specs.declared.taking.Taking.{Taking}
 use Rattle.market_dict.specs.Takings.{columns_put, rows_put}
@@ -19,7 +19,7 @@ pub record AreBounds {N : Type 0} (value : N → Fraction) (m : Parts) (vs : Lis
 
 -- the prices and bounds of the market over these limits and rooms, and its flows where nothing is accepted
 pub record ArePricesAndBounds {N : Type 0} (value : N → Fraction) (m : Parts) (ts : List Taking) (t : PricesAndBounds N) : Type 0 where
-  pub prices : map value t.prices ≡ prices m ts
+  pub prices : map value t.prices ≡ column_prices m ts
   pub columns : AreBounds value m (columns_put m ts) t.column_bounds
   pub rows : AreBounds value m (rows_put m ts) t.row_bounds
   pub base_flows : map value t.base_flows.items ≡ flows_at m (empty m)

@@ -1,25 +1,20 @@
 -- Which operations are refused where the prices and bounds of a market's system are made.
-use Rattle.std.specs.Prelude.{ℕ, List, map, Contains}
+use Rattle.std.specs.Prelude.{ℕ, List, Contains}
 use Rattle.fraction_theory.specs.Fraction.{Fraction, neg_ℚ}
-use Rattle.fraction_theory.specs.Sums.{Term, Plain}
 use Rattle.exact_fraction.specs.declared.Op.TheVariants.{Minus}
 use Rattle.exact_fraction.specs.declared.Passed.{Passed}
 use Rattle.market_model.specs.declared.participants.Parts.{Parts}
-use Rattle.market_model.specs.Dispatch.{empty, reserve_quantity}
+use Rattle.market_model.specs.Dispatch.{empty}
 use Rattle.market_model.specs.declared.limits.Row.{Row}
 use Rattle.market_model.specs.LimitRows.{rows, limit, flow}
 use Rattle.market_model.specs.NamedSums.{IsRefusal, IsRefusedIn}
-use Rattle.market_model.specs.Reserves.{offer_places}
 use Rattle.market_model.specs.SumTables.{IsRefusedAmong, FlowSum, PickupSum}
+use Rattle.market_system.specs.MarketSystem.{offered_terms}
 
 -- an operation refused for what the flow of a row, where nothing is accepted, leaves of its limit on either side
 pub data IsLeftRefusal (m : Parts) (bound : ℕ) (r : Row) (p : Passed Fraction) : Type 0 where
   of_high : IsRefusal Minus (limit m r) (flow m (empty m) r) bound p → IsLeftRefusal m bound r p
   of_low : IsRefusal Minus (neg_ℚ (limit m r)) (flow m (empty m) r) bound p → IsLeftRefusal m bound r p
-
--- the reserve that may be accepted in all, offer by offer
-abbrev pub offered_terms : Parts → List Term
-offered_terms m = map (λ n. Plain (reserve_quantity m n)) (offer_places m)
 
 -- an operation refused for prices and bounds: in a sum of what flows where nothing is accepted, in the pickup factor or a bound of one
 -- of these rows, or in the sum of what is offered of reserve

@@ -18,7 +18,7 @@ use std::alloc::Global;
 
 /// What a variable is to duals: a row, and which, or a column.
 #[derive(Clone, Copy, Debug)]
-pub(crate) enum Kind {
+pub(crate) enum DualKind {
     Column,
     Balance,
     /// By its place among the market's limits.
@@ -37,12 +37,13 @@ fn over_name(market: &Market, row: Row) -> usize
     market.blocks().len() + 1 + count(market) + 2 * place_of(market, row)
 }
 
-/// The name of the first offer of reserve. The columns of soft limits are before it.
-pub(crate) fn first_offer_name(market: &Market) -> usize
+/// The name of the first offer of reserve, in a market of so many limits. The columns of soft limits are before it.
+pub(crate) fn first_offer_name(market: &Market, limits: usize) -> usize
+    requires { limits ≡ length (rows market.now) }
     ensures { result ≡ offer_name market.now 0 }
 {
     let _lines = market.lines();
-    market.blocks().len() + 1 + 3 * count(market)
+    market.blocks().len() + 1 + 3 * limits
 }
 
 /// The name of the offer at a place, where the first has this one.
@@ -56,11 +57,12 @@ pub(crate) fn offer_name_behind(market: &Market, first: usize, place: usize) -> 
 }
 
 /// The name of the need of reserve. The offers are before it, and the rooms behind it.
-fn need_name(market: &Market) -> usize
+fn need_name(market: &Market, limits: usize) -> usize
+    requires { limits ≡ length (rows market.now) }
     ensures { result ≡ need_name market.now }
 {
     let _lines = market.lines();
-    first_offer_name(market) + market.reserve().offers.len()
+    first_offer_name(market, limits) + market.reserve().offers.len()
 }
 
 /// The name of a variable.
@@ -76,14 +78,17 @@ pub(crate) fn name_of(market: &Market, variable: Variable) -> u32
         Variable::Limit(row) => (blocks + 1 + place_of(market, row)) as u32,
         Variable::Over(row) => over_name(market, row) as u32,
         Variable::Under(row) => (over_name(market, row) + 1) as u32,
-        Variable::Offer(place) => offer_name_behind(market, first_offer_name(market), place),
-        Variable::Need => need_name(market) as u32,
-        Variable::Room(unit) => (need_name(market) + 1 + unit) as u32,
+        Variable::Offer(place) => {
+            let first = first_offer_name(market, count(market));
+            offer_name_behind(market, first, place)
+        }
+        Variable::Need => need_name(market, count(market)) as u32,
+        Variable::Room(unit) => (need_name(market, count(market)) + 1 + unit) as u32,
     }
 }
 
 /// What the variable of a name is to duals, in a market of so many limits.
-pub(crate) fn kind_of(market: &Market, limits: usize, name: u32) -> Kind
+pub(crate) fn kind_of(market: &Market, limits: usize, name: u32) -> DualKind
     requires { limits ≡ length (rows market.now) }
     ensures { (v : VariableOf) → IsVariableOf market.now (all_of market.now) v → name ≡ name_in market.now v → result ≡ kind_of market.now v }
 {
@@ -91,19 +96,19 @@ pub(crate) fn kind_of(market: &Market, limits: usize, name: u32) -> Kind
     let place = name as usize;
     let balance = market.blocks().len();
     let columns = balance + 1 + limits;
-    let need = columns + 2 * limits + market.reserve().offers.len();
+    let need = need_name(market, limits);
     if place < balance {
-        Kind::Column
+        DualKind::Column
     } else if place == balance {
-        Kind::Balance
+        DualKind::Balance
     } else if place < columns {
-        Kind::Limit(place - balance - 1)
+        DualKind::Limit(place - balance - 1)
     } else if place < need {
-        Kind::Column
+        DualKind::Column
     } else if place == need {
-        Kind::Need
+        DualKind::Need
     } else {
-        Kind::Room(place - need - 1)
+        DualKind::Room(place - need - 1)
     }
 }
 
@@ -115,7 +120,7 @@ pub(crate) fn first_names(alloc: Global, market: &Market) -> Result<List<u32>, M
     for place in 0..market.blocks().len() {
         names.push(name_of(market, Variable::Block(place)))?;
     }
-    let first = first_offer_name(market);
+    let first = first_offer_name(market, count(market));
     for place in 0..market.reserve().offers.len() {
         names.push(offer_name_behind(market, first, place))?;
     }

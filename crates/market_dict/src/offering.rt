@@ -7,12 +7,11 @@ ghost use Rattle.market_model.specs.Reserves.{reserve_units};
 ghost use Rattle.market_model.specs.Valued.{passed_at};
 ghost use Rattle.market_system.specs.declared.variables.Variable.TheVariants as variable;
 ghost use Rattle.market_model.specs.Dispatch.{unit_at};
-ghost use Rattle.market_system.specs.MarketSystem.{reserve_offered, objective_price, offer_columns, low, high};
+ghost use Rattle.market_system.specs.MarketSystem.{reserve_offered, objective_price, offer_columns, low, high, offered_terms};
 ghost use Rattle.market_dict.specs.PricesAndBounds.{AreBounds};
-ghost use Rattle.market_dict.specs.Refusals.{offered_terms};
 
 use exact_fraction::{Exact, Passed, exact_sum};
-use market_model::{Market, datum, need_quantity, offer_price, offer_quantity, room_quantity};
+use market_model::{Market, datum, need_quantity, offer_quantity, offer_value, room_quantity};
 use plain_list::{List, Memory};
 use simplex_core::Bounds;
 use std::cmp::Ordering;
@@ -25,8 +24,7 @@ pub(crate) fn push_offer_prices<N: Exact>(
     ensures { IfOk result (λ _. map N.value prices.new ≡ map N.value prices.old ++ map (objective_price market.now) (offer_columns market.now)) }
 {
     for offer in market.reserve().offers.slice() {
-        let price: N = offer_price(offer);
-        prices.push(price.neg())?;
+        prices.push(offer_value(offer))?;
     }
     Ok(())
 }

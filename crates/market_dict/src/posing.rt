@@ -10,7 +10,7 @@ ghost use Rattle.market_model.specs.Stops.{StopsBy};
 ghost use Rattle.market_model.specs.Valued.{passed_at};
 ghost use Rattle.market_system.specs.MarketSystem.{residual_demand as residual_demand_of, least_added, most_added, objective_price, low, high, block_columns, excess_columns};
 ghost use Rattle.limit_screen.specs.Flows.{flows_at, IsFlowsRefusal};
-ghost use Rattle.market_dict.specs.Holding.{prices as prices_of};
+ghost use Rattle.market_dict.specs.Holding.{column_prices};
 ghost use Rattle.market_dict.specs.PricesAndBounds.{AreBounds, ArePricesAndBounds};
 ghost use Rattle.market_dict.specs.Refusals.{IsBoundsRefusal};
 ghost use Rattle.market_dict.specs.Takings.{IsTaking, columns_put, first_rows, limits_of};
@@ -20,7 +20,7 @@ ghost use Rattle.market_dict.specs.declared.taking.Taking.TheVariants as taking;
 use crate::Taking;
 use crate::offering::{need_bounds, push_offer_bounds, push_offer_prices, room_bounds};
 use exact_fraction::{Exact, Passed, exact_difference};
-use limit_rows::{excess_at, is_soft, limit_at, penalty_at, row_flow};
+use limit_rows::{is_soft, limit_at, most_excess_at, penalty_at, row_flow};
 use limit_screen::{bus_injections, carried_flows, flows_made};
 use market_model::{Market, Row, Stop, balance, block_quantity, block_value, datum, zeros};
 use plain_list::{List, Memory};
@@ -72,7 +72,7 @@ fn block_prices<N: Exact>(alloc: Global, market: &Market) -> Result<List<N>, Mem
 
 /// What a MW of each block and of each offer of reserve is worth.
 fn first_prices<N: Exact>(alloc: Global, market: &Market) -> Result<List<N>, Memory>
-    ensures { IfOk result (λ prices. map N.value prices ≡ prices_of market.now []) }
+    ensures { IfOk result (λ prices. map N.value prices ≡ column_prices market.now []) }
 {
     let mut prices = block_prices(alloc, market)?;
     push_offer_prices(market, &mut prices)?;
@@ -204,7 +204,7 @@ fn take_columns<N: Exact>(
     let penalty: N = datum(penalty_at(market, row));
     let bounds = Bounds {
         low: datum(0),
-        high: datum(excess_at(market, row)),
+        high: datum(most_excess_at(market, row)),
     };
     posing.prices.push(penalty.neg())?;
     posing.prices.push(penalty.neg())?;

@@ -15,7 +15,7 @@ ghost use Rattle.market_dict.specs.Holding.{HoldsMarket, HoldsSystem};
 ghost use Rattle.market_dict.specs.Takings.{taken_of};
 ghost use Rattle.market_dict.specs.declared.taking.Taking.{Taking};
 
-use crate::names::{Kind, first_offer_name, kind_of, name_of, offer_name_behind};
+use crate::names::{DualKind, first_offer_name, kind_of, name_of, offer_name_behind};
 use crate::reserve_prices::{reserve_price, room_prices};
 use exact_fraction::{Exact, Passed, Sign, exact_difference};
 use limit_rows::{count, id};
@@ -54,7 +54,7 @@ pub(crate) fn reserved<N: Exact>(
     ensures { (ts : List Taking) → HoldsSystem market.now ts dict.now → IfOk result (λ values. map N.value values ≡ (choice_dispatch market.now (taken_of ts) (choice_of dict.now)).reserve) }
 {
     let mut values = List::new(alloc);
-    let first = first_offer_name(market);
+    let first = first_offer_name(market, count(market));
     for offer in 0..market.reserve().offers.len() {
         let name = offer_name_behind(market, first, offer);
         values.push(dict.note(name).value)?;
@@ -103,11 +103,11 @@ fn energy_prices<N: Exact>(
     let mut limits = List::new(alloc);
     for rank in 0..costs.len() {
         match kind_of(market, all, dict.ranked(rank)) {
-            Kind::Balance => energy = costs[rank].neg(),
-            Kind::Limit(place) => push_dual(&mut limits, id(market, place), costs[rank])?,
-            Kind::Column => {}
-            Kind::Need => {}
-            Kind::Room(_) => {}
+            DualKind::Balance => energy = costs[rank].neg(),
+            DualKind::Limit(place) => push_dual(&mut limits, id(market, place), costs[rank])?,
+            DualKind::Column => {}
+            DualKind::Need => {}
+            DualKind::Room(_) => {}
         }
     }
     Ok((energy, limits))

@@ -9,7 +9,7 @@ ghost use Rattle.market_dict.specs.Holding.{HoldsMarket};
 ghost use Rattle.market_dict.specs.Takings.{taken_of};
 ghost use Rattle.market_dict.specs.declared.taking.Taking.{Taking};
 
-use crate::names::{Kind, kind_of, name_of};
+use crate::names::{DualKind, kind_of, name_of};
 use exact_fraction::{Exact, Sign};
 use limit_rows::count;
 use linear_dict::Dict;
@@ -70,13 +70,13 @@ pub(crate) fn room_prices<N: Exact>(
     let mut rooms = List::new(alloc);
     for rank in 0..costs.len() {
         match kind_of(market, all, dict.ranked(rank)) {
-            Kind::Room(unit) => {
+            DualKind::Room(unit) => {
                 push_room_dual(&mut rooms, market.units().at(unit).row, costs[rank])?;
             }
-            Kind::Column => {}
-            Kind::Balance => {}
-            Kind::Limit(_) => {}
-            Kind::Need => {}
+            DualKind::Column => {}
+            DualKind::Balance => {}
+            DualKind::Limit(_) => {}
+            DualKind::Need => {}
         }
     }
     Ok(rooms)

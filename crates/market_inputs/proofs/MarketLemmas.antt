@@ -23,8 +23,8 @@ use Rattle.net_case.specs.declared.live_parts.NetUnit.{NetUnit}
 use Rattle.net_paths.specs.Detours.{IsLiveRow}
 use Rattle.factor_tables.specs.Factors.{Entry, factor_at}
 use Rattle.factor_tables.specs.Offsets.{OffsetEntry}
-use Rattle.factor_tables.specs.Penalties.{GivesWay, PenaltyEntry}
-use Rattle.factor_tables.specs.declared.penalty_list.Penalty.{Penalty}
+use Rattle.factor_tables.specs.Penalties.{IsSoftness, PenaltyEntry}
+use Rattle.factor_tables.specs.declared.penalty_list.Softness.{Softness}
 use Rattle.outage_list.specs.declared.unit_listing.UnitOutages.{UnitOutages}
 use Rattle.market_inputs.specs.declared.covering.Covered.{Covered}
 use Rattle.market_inputs.specs.declared.offers.Offered.{Offered}
@@ -72,7 +72,7 @@ live-rows network rows lost i d lt = let o = lost.are.each i d lt in (o.branch, 
 
 -- ---- lines
 -- the penalty of a record, or of nothing
-pub penalty_is : (given : Option Penalty) → IfSome given GivesWay → IsPenalty (unwrap_or given (record { price = pos 0; excess = pos 0 })).price (unwrap_or given (record { price = pos 0; excess = pos 0 })).excess
+pub penalty_is : (given : Option Softness) → IfSome given IsSoftness → IsPenalty (unwrap_or given (record { price = pos 0; excess = pos 0 })).price (unwrap_or given (record { price = pos 0; excess = pos 0 })).excess
 penalty_is None h = no_cost
 penalty_is (Some penalty) h = let above = h.costs in record { costs = Prim.grind (arith, ints, above); exceeds = h.exceeds; priced = λ _. h.costs }
 

@@ -2,7 +2,7 @@
 use Rattle.std.proofs.Common.{◌≡◌, ◌+◌, refl, subst, arith, ℕ, List, [], ◌∷◌, ◌++◌, length, map, Bool, true, false, Result, Ok, Err, Option, Some, None}
 use Rattle.std.specs.Prelude.{◌==◌, IfSome, if◌then◌else◌}
 use Rattle.record_reading.specs.Records.{Record}
-use Rattle.record_reading.specs.Rows.{gather, listed}
+use Rattle.record_reading.specs.Gathering.{gather, listed}
 use Rattle.record_reading.specs.Steps.{and_then, some_of}
 use Rattle.case_text.specs.Matrices.{CaseMatrices}
 use Rattle.case_text.specs.declared.Field.TheVariants as field

@@ -12,8 +12,9 @@ use Rattle.record_reading.specs.Steps.{and_then, or_as}
 use Rattle.record_reading.specs.declared.FrameFault.{FrameFault}
 use Rattle.offer_book.specs.declared.reserve_reading.ReserveFault.{ReserveFault}
 use Rattle.offer_book.specs.declared.reserve_reading.ReserveFault.TheVariants as fault
-use Rattle.offer_book.specs.Reserving.{found_from, most_reserves, nothing_found, reserve_from, reserve_header, reserve_in, reserve_of_table}
+use Rattle.offer_book.specs.Reserving.{found_from, nothing_found, reserve_from, reserve_header, reserve_in, reserve_of_table}
 use Rattle.market_inputs.specs.Tables.{ListsNoReserve}
+use Rattle.market_data.specs.Scales.{most_reserves}
 
 -- what is made of something is listed or not, whatever it is made of
 made-listed : {A : Type 0} (f : Result A ReserveFault) (make : A → Reserve) (listed : Bool) → ((x : A) → (make x).listed ≡ listed) → (r : Reserve) → and_then f (λ x. Ok (make x)) ≡ Ok r → r.listed ≡ listed

@@ -15,8 +15,8 @@ use Rattle.net_case.specs.declared.live_parts.NetBranch.{NetBranch}
 use Rattle.net_case.specs.declared.live_parts.PostRating.{PostRating}
 use Rattle.factor_tables.specs.Factors.{Entry, factor_at}
 use Rattle.factor_tables.specs.Offsets.{OffsetEntry, offset_at}
-use Rattle.factor_tables.specs.Penalties.{PenaltyEntry, penalty_at}
-use Rattle.factor_tables.specs.declared.penalty_list.Penalty.{Penalty}
+use Rattle.factor_tables.specs.Penalties.{PenaltyEntry, softness_at}
+use Rattle.factor_tables.specs.declared.penalty_list.Softness.{Softness}
 use Rattle.outage_list.specs.declared.unit_listing.UnitOutages.{UnitOutages}
 use Rattle.refusal_text.specs.declared.refusals.Refusal.{Refusal}
 use Rattle.market_inputs.specs.declared.covering.Covered.{Covered}
@@ -30,8 +30,8 @@ use Rattle.market_model.specs.Lines.{IsPenalty}
 
 -- ---- lines
 -- the penalty of the record of a branch's limit, after an outage or in the base; one of nothing where it has none
-abbrev pub penalty_for : List PenaltyEntry → ℕ → Bool → Penalty
-penalty_for penalties row post = unwrap_or (penalty_at penalties (row, post)) (record { price = pos 0; excess = pos 0 })
+abbrev pub softness_for : List PenaltyEntry → ℕ → Bool → Softness
+softness_for penalties row post = unwrap_or (softness_at penalties (row, post)) (record { price = pos 0; excess = pos 0 })
 
 -- a live branch with its limits and their penalties, and the offset of its record or 0
 abbrev pub line_of : List OffsetEntry → List PenaltyEntry → NetBranch → Line
@@ -39,10 +39,10 @@ line_of offsets penalties branch = record {
   row = branch.row;
   base = branch.base;
   post = branch.post;
-  base_price = (penalty_for penalties branch.row false).price;
-  base_excess = (penalty_for penalties branch.row false).excess;
-  post_price = (penalty_for penalties branch.row true).price;
-  post_excess = (penalty_for penalties branch.row true).excess;
+  base_price = (softness_for penalties branch.row false).price;
+  base_excess = (softness_for penalties branch.row false).excess;
+  post_price = (softness_for penalties branch.row true).price;
+  post_excess = (softness_for penalties branch.row true).excess;
   offset = unwrap_or (offset_at offsets branch.row) (pos 0);
 }
 
@@ -87,7 +87,7 @@ abbrev pub market_of : FactorPlaces → LiveNetwork → Tables → UnitOutages �
 market_of places network tables lost offered reserve offsets penalties = record (bare_parts network.buses offered.units offered.blocks) {
   lines = map (line_of offsets penalties) network.branches;
   outages = tables.outages;
-  places = places;
+  factor_places = places;
   shift = shift_by tables.shift.entries network.branches network.buses;
   loss = loss_by tables.loss.entries network.branches;
   unit_outages = lost.lost;
@@ -151,7 +151,7 @@ whole_of places network covered limited = record limited {
   outages = covered.tables.outages;
   unit_outages = covered.lost.lost;
   pickups = covered.lost.pickups;
-  places = places;
+  factor_places = places;
 }
 
 -- the parts of the market of a network with its tables

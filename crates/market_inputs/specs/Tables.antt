@@ -3,7 +3,7 @@ use Rattle.std.specs.Prelude.{◌≡◌, ◌≢◌, ℕ, ◌≤◌, nat_lt, ℤ,
 use Rattle.csv_table.specs.Table.{frame_of, table_of}
 use Rattle.record_reading.specs.Steps.{and_then, or_as}
 use Rattle.market_data.specs.Participants.{IsUnit}
-use Rattle.market_data.specs.Scales.{most_outages, most_units}
+use Rattle.market_data.specs.Scales.{most_outages, most_units, most_reserves}
 use Rattle.market_data.specs.declared.scales.FactorPlaces.{FactorPlaces}
 use Rattle.market_model.specs.Market.{AreUnitOutages, HaveRoom}
 use Rattle.market_model.specs.declared.participants.Reserve.{Reserve}
@@ -22,7 +22,7 @@ use Rattle.outage_list.specs.UnitListing.{unit_outages_of}
 use Rattle.outage_list.specs.declared.unit_listing.UnitOutages.{UnitOutages}
 use Rattle.offer_book.specs.Offers.{AreBlocks}
 use Rattle.offer_book.specs.OfferTable.{blocks_of_table}
-use Rattle.offer_book.specs.Reserving.{most_reserves, reserve_header, reserve_of_table}
+use Rattle.offer_book.specs.Reserving.{reserve_header, reserve_of_table}
 use Rattle.refusal_text.specs.declared.refusals.Input.TheVariants as input
 use Rattle.refusal_text.specs.declared.refusals.Refusal.{Refusal}
 use Rattle.refusal_text.specs.declared.refusals.Refusal.TheVariants as refusal

@@ -60,7 +60,7 @@ fn whole_parts(network: Network, covered: Covered, limited: Parts, places: Facto
     parts.outages = tables.outages;
     parts.unit_outages = lost.lost;
     parts.pickups = lost.pickups;
-    parts.places = places;
+    parts.factor_places = places;
     parts
 }
 

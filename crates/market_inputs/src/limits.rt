@@ -5,24 +5,24 @@ ghost use Rattle.factor_tables.specs.Factors.{factor_at};
 ghost use Rattle.market_model.specs.Lines.{IsPenalty};
 ghost use Rattle.refusal_text.specs.declared.refusals.Input.TheVariants as input;
 ghost use Rattle.refusal_text.specs.declared.refusals.Refusal.TheVariants as refusal;
-ghost use Rattle.market_inputs.specs.Clearing.{AreLinesOf, AreListedLines, ArePricedLines, AreSmall, IsTabled, factors_of_line, line_of, penalty_for, named_factors, unless_0};
+ghost use Rattle.market_inputs.specs.Clearing.{AreLinesOf, AreListedLines, ArePricedLines, AreSmall, IsTabled, factors_of_line, line_of, softness_for, named_factors, unless_0};
 ghost use Rattle.market_inputs.specs.Files.{sized};
 ghost use Rattle.market_inputs.specs.Stops.{IsToldAs};
 
 use crate::stops::InputStop;
 use crate::tables::{offset_table, penalty_table};
-use factor_tables::{ByBus, ByOutage, FactorTable, Offsets, Penalties, Penalty, TableKind};
+use factor_tables::{ByBus, ByOutage, FactorTable, Offsets, Penalties, Softness, TableKind};
 use market_model::{Bus, Factor, Line, List, Memory};
 use net_case::{NetBranch, Network};
 use std::alloc::Global;
 
 /// The penalty of a branch's limit, after an outage or in the base; one of nothing where it has no record.
 #[tactic(auto, using(crate::proofs::MarketLemmas::penalty_is))]
-fn penalty_for(penalties: &Penalties, row: u32, post: bool) -> Penalty
+fn softness_for(penalties: &Penalties, row: u32, post: bool) -> Softness
     ensures penalty { IsPenalty result.price result.excess }
-    ensures is { result ≡ penalty_for penalties.now row post }
+    ensures is { result ≡ softness_for penalties.now row post }
 {
-    penalties.penalty(row, post).unwrap_or(Penalty {
+    penalties.softness(row, post).unwrap_or(Softness {
         price: 0,
         excess: 0,
     })
@@ -33,8 +33,8 @@ fn line_of(branch: &NetBranch, offsets: &Offsets, penalties: &Penalties) -> Line
     ensures tabled { IsTabled result }
     ensures is { result ≡ line_of offsets.now penalties.now branch.now }
 {
-    let base = penalty_for(penalties, branch.row, false);
-    let post = penalty_for(penalties, branch.row, true);
+    let base = softness_for(penalties, branch.row, false);
+    let post = softness_for(penalties, branch.row, true);
     Line {
         row: branch.row,
         base: branch.base,

@@ -8,7 +8,7 @@ use Rattle.market_model.specs.declared.limits.Row.{Row}
 use Rattle.market_model.specs.declared.participants.Line.{Line}
 use Rattle.market_model.specs.declared.participants.Parts.{Parts}
 use Rattle.market_model.specs.Dispatch.{line_at}
-use Rattle.market_model.specs.LimitRows.{excess_of, is_outage, penalty_of}
+use Rattle.market_model.specs.LimitRows.{most_excess_of, is_outage, penalty_of}
 use Rattle.market_model.specs.Lines.{hard_line, IsPenalty}
 use Rattle.market_model.specs.Market.{IsLine, IsMarket}
 
@@ -34,9 +34,9 @@ of_line m P each past l = by (cases_lt l (length m.lines))
     by (inr ge) = subst P (sym (get_or_past m.lines l _ ge)) past
 
 -- a row's penalty and excess are such ones
-pub penalties : (m : Parts) → IsMarket m → (r : Row) → IsPenalty (penalty_of (is_outage r.cause) (line_at m r.line)) (excess_of (is_outage r.cause) (line_at m r.line))
+pub penalties : (m : Parts) → IsMarket m → (r : Row) → IsPenalty (penalty_of (is_outage r.cause) (line_at m r.line)) (most_excess_of (is_outage r.cause) (line_at m r.line))
 penalties m market r = by (is_outage r.cause)
   where
-    by : (post : Bool) → IsPenalty (penalty_of post (line_at m r.line)) (excess_of post (line_at m r.line))
+    by : (post : Bool) → IsPenalty (penalty_of post (line_at m r.line)) (most_excess_of post (line_at m r.line))
     by true = of_line m (λ l. IsPenalty l.post_price l.post_excess) (λ l d lt. (market.lines l d lt).post_penalty) no_cost r.line
     by false = of_line m (λ l. IsPenalty l.base_price l.base_excess) (λ l d lt. (market.lines l d lt).base_penalty) no_cost r.line

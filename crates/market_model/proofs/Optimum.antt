@@ -4,12 +4,12 @@ use Rattle.std.proofs.Common.{ap, sym, ◌∙◌, subst, subst₂}
 use mathlib.Core.Path.{ap₂}
 use Rattle.fraction_theory.specs.Fraction.{Fraction, whole, ◌+ℚ◌, ◌-ℚ◌, ◌*ℚ◌, neg_ℚ}
 use Rattle.fraction_theory.specs.Order.{◌≤ℚ◌}
-use Rattle.fraction_theory.specs.Sums.{sum_by, Product}
+use Rattle.fraction_theory.specs.Sums.{sum_by, Plain, total}
 use Rattle.fraction_theory.proofs.Ring.{neg_times, by_ring, by_ring1, at, pnil, pone, pneg, ◌⊕◌, ◌⊗◌}
 use Rattle.fraction_theory.proofs.FieldLaws.{ring_ℚ}
 use Rattle.fraction_theory.proofs.OrderLaws.{by_le1, by_le2, +ℚ-≤ℚ, NonNeg_from, NonNeg-one, not-≤ℚ}
 use Rattle.fraction_theory.proofs.ListSums.{kept, sum_by-filter}
-use Rattle.fraction_theory.proofs.SumLaws.{sum_by-plus, sum_by-same, sum_by-≤, total-append, total-Product}
+use Rattle.fraction_theory.proofs.SumLaws.{sum_by-plus, sum_by-same, sum_by-≤, total-append, total-Product, total-Plain}
 use Rattle.fraction_theory.proofs.Duality.{supports_best}
 use Rattle.market_model.specs.declared.participants.Parts.{Parts}
 use Rattle.market_model.specs.declared.participants.Side.{Side}
@@ -29,6 +29,7 @@ use Rattle.market_model.proofs.Excesses.{hard_costs_nothing}
 use Rattle.market_model.proofs.PlaceSums.{places_all}
 use Rattle.market_model.proofs.MarketSums.{sum_by-minus, sum_by-neg, fixed_part, priced_outputs-by_parts}
 use Rattle.market_model.proofs.ReserveSums.{cost_of_reserve, reserve_cost-by_offers, rooms_taken, energy_made, reserve_made, made-by_parts, whole_rooms, reserve-supported, rooms-supported, reserve-at_least, rooms-at_most}
+use Rattle.market_model.proofs.UnitPrices.{surplus_terms-made}
 
 -- what is bought less what is sold, as a sum over blocks
 abbrev pub value_of_blocks : Parts → Dispatch → Fraction
@@ -184,11 +185,10 @@ unfolding surplus unit_price
 surplus-by_outputs m d x =
     let loads : Fraction = sum_by (λ i. bus_price m d i *ℚ demand m i) (places (length m.buses)) in
     let units : Fraction = sum_by (λ u. unit_price m d u *ℚ output m x u) (places (length m.units)) in
-    total-append (map (λ i. Product (bus_price m d i) (demand m i)) (places (length m.buses))) (map (λ u. Product (neg_ℚ (unit_price m d u)) (output m x u)) (places (length m.units)))
-    ∙ ap₂ ◌+ℚ◌ (total-Product (bus_price m d) (demand m) (places (length m.buses)))
-    (total-Product (λ u. neg_ℚ (unit_price m d u)) (output m x) (places (length m.units))
-    ∙ sum_by-same (λ u. neg_ℚ (unit_price m d u) *ℚ output m x u) (λ u. neg_ℚ (unit_price m d u *ℚ output m x u)) (places (length m.units)) (λ u. neg_times ring_ℚ (unit_price m d u) (output m x u))
-    ∙ sum_by-neg (λ u. unit_price m d u *ℚ output m x u) (places (length m.units)))
+    ap total (surplus_terms-made m x (bus_price m d) d)
+    ∙ total-append (map (λ i. Plain (bus_price m d i *ℚ demand m i)) (places (length m.buses))) (map (λ u. Plain (neg_ℚ (unit_price m d u *ℚ output m x u))) (places (length m.units)))
+    ∙ ap₂ ◌+ℚ◌ (total-Plain (λ i. bus_price m d i *ℚ demand m i) (places (length m.buses)))
+    (total-Plain (λ u. neg_ℚ (unit_price m d u *ℚ output m x u)) (places (length m.units)) ∙ sum_by-neg (λ u. unit_price m d u *ℚ output m x u) (places (length m.units)))
     ∙ by_ring ring_ℚ (loads ∷ units ∷ []) (at 0 ⊕ pneg (at 1)) (pneg (at 1 ⊕ pneg (at 0))) refl
 
 -- in balance the surplus is what the rows net_shadow_price

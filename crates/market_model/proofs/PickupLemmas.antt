@@ -18,7 +18,7 @@ use Rattle.fraction_theory.proofs.SumLaws.{total-append}
 use Rattle.fraction_theory.proofs.FractionLaws.{over_is, plus_is, times_is, neg_is, same_value}
 use Rattle.fraction_theory.proofs.IntegerLaws.{ring_ℤ}
 use Rattle.fraction_theory.proofs.Ring.{at, by_ring, padd, pmul}
-use Rattle.market_data.specs.Scales.{factor_one, most_buses, most_factor, most_lines, most_pickups, most_units, share_one}
+use Rattle.market_data.specs.Scales.{factor_one, most_buses, most_factor, most_lines, most_pickups, most_units, share_one, pickup_one}
 use Rattle.market_data.specs.declared.participants.Bus.{Bus}
 use Rattle.market_model.specs.declared.participants.Block.{Block}
 use Rattle.market_model.specs.declared.participants.Factor.{Factor}
@@ -30,7 +30,7 @@ use Rattle.market_model.specs.Dispatch.{unit_at}
 use Rattle.market_model.specs.Factors.{factor_in, is_pair, IsTable}
 use Rattle.market_model.specs.LimitRows.{lost_unit, pickup_factor, pickups_of, shift_factor, taker_term, taker_terms}
 use Rattle.market_model.specs.Market.{IsMarket, IsTableFactor}
-use Rattle.market_model.specs.PickupTable.{pickup_one, IsPickupTable}
+use Rattle.market_model.specs.PickupTable.{IsPickupTable}
 
 -- ---- shares and factors as whole numbers
 pub share_times : (s h : ℤ) → over (s *ℤ h) pickup_one ≡ over s share_one *ℚ over h factor_one

@@ -11,7 +11,7 @@ use Rattle.market_model.specs.declared.limits.Cause.TheVariants.{Base, Branch, U
 use Rattle.market_model.specs.declared.limits.Row.{Row}
 use Rattle.market_model.specs.declared.participants.Parts.{Parts}
 use Rattle.market_model.specs.Dispatch.{places}
-use Rattle.market_model.specs.LimitRows.{IsCauseOf, bears, causes, lines_of, lost_lines, lost_unit, rows, rows_of}
+use Rattle.market_model.specs.LimitRows.{IsCauseOf, bears, causes, lost_lines, lost_unit, rows, rows_of, lines_among}
 use Rattle.market_model.specs.Market.{IsMarket}
 use Rattle.market_model.proofs.LostLemmas.{lost_inside, place_at}
 
@@ -52,6 +52,9 @@ Contains-from_places n l (k, lt, e) =
     subst (λ (i : ℕ). i < n) (sym (place_at n k l inside) ∙ e) inside
 
 -- ---- the rows are those of the lines that have one under a cause
+abbrev pub lines_of : Parts → Cause → List ℕ
+lines_of m cause = lines_among m cause (places (length m.lines))
+
 abbrev pub row_on : Cause → ℕ → Row
 row_on cause l = record { line = l; cause = cause }
 

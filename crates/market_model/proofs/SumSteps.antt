@@ -7,8 +7,8 @@ use Rattle.std.proofs.lemmas.List.{map-append}
 use Rattle.std.proofs.lemmas.List.Elements.{filter-append}
 use Rattle.fraction_theory.specs.Fraction.{Fraction, whole, neg_ℚ, unsigned_abs-neg, ◌+ℚ◌, ◌-ℚ◌, ◌*ℚ◌}
 use Rattle.fraction_theory.specs.Sums.{Term, Plain, Product, term_value, total, prefix}
-use Rattle.fraction_theory.proofs.FieldLaws.{ring_ℚ}
-use Rattle.fraction_theory.proofs.Ring.{by_ring, at, pmul, pneg, pnil, ◌⊕◌}
+use Rattle.fraction_theory.proofs.FieldLaws.{ring_ℚ, +ℚ_nil}
+use Rattle.fraction_theory.proofs.Ring.{by_ring, at, pmul, pneg, pnil, ◌⊕◌, neg_neg}
 use Rattle.fraction_theory.proofs.SumLaws.{prefix-more}
 use Rattle.exact_fraction.specs.declared.Op.{Op}
 use Rattle.exact_fraction.specs.declared.Op.TheVariants.{Plus, Minus, Times}
@@ -16,7 +16,7 @@ use Rattle.exact_fraction.specs.declared.Passed.{Passed}
 use Rattle.exact_fraction.specs.Passes.{IsPassed, IsTooLarge, IsTooLargeAt, ProductPasses, outcome}
 use Rattle.exact_fraction.proofs.Shares.{passes_at}
 use Rattle.market_model.specs.Dispatch.{places}
-use Rattle.market_model.specs.NamedSums.{SameSize, term_at, IsNextTerm, IsSumStep, IsRefusedIn, IsRefusal, IsShareRefusal}
+use Rattle.market_model.specs.NamedSums.{SameSize, term_at, IsNextTerm, IsSumStep, IsRefusedIn, IsRefusal, IsShareRefusal, two_terms}
 use Rattle.market_model.specs.Valued.{passed_at}
 
 -- what a refused operation of numbers is of their values
@@ -132,6 +132,13 @@ module _ (terms front rest : List Term) (t : Term) (split : terms ≡ front ++ t
           passes = h.passes;
           way = inl (h.same_op, h.same_left, h.same_right);
         })
+
+-- two numbers are added, or one is subtracted from the other
+pub two_refused : (x y l r : Fraction) (bound : ℕ) (p : Passed Fraction) → l ≡ x → r ≡ y → IsRefusal Plus l r bound p → IsRefusedIn (two_terms x y) bound p
+two_refused x y l r bound p left right h = plus_at (two_terms x y) (Plain x ∷ []) [] (Plain y) refl bound p l r (left ∙ sym (+ℚ_nil x)) right h
+
+pub difference_refused : (x y l r : Fraction) (bound : ℕ) (p : Passed Fraction) → l ≡ x → r ≡ y → IsRefusal Minus l r bound p → IsRefusedIn (two_terms x (neg_ℚ y)) bound p
+difference_refused x y l r bound p left right h = minus_at (two_terms x (neg_ℚ y)) (Plain x ∷ []) [] (Plain (neg_ℚ y)) refl bound p l r (left ∙ sym (+ℚ_nil x)) (right ∙ sym (neg_neg ring_ℚ y)) h
 
 -- the places from one on
 range_at : (a n k : ℕ) → k < n → (rest : List ℕ) × (range_with_len a n ≡ range_with_len a k ++ (a + k) ∷ rest)

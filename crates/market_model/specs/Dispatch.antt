@@ -1,8 +1,9 @@
 -- What blocks, units and buses do at a dispatch.
 -- Wood and Wollenberg, Power Generation, Operation and Control: economic dispatch over a network whose demands are fixed.
 -- GS, a demand at a voltage of 1 per unit: MATPOWER User's Manual.
-use Rattle.std.specs.Prelude.{◌≡◌, ℕ, ◌==◌, ◌<◌, pos, List, [], ◌∷◌, ◌++◌, length, map, filter, slice_index_or, replicate, None}
-use Rattle.std.specs.List.{range_with_len}
+use Rattle.std.specs.Prelude.{◌≡◌, ℕ, ◌==◌, ◌<◌, pos, List, [], ◌∷◌, ◌++◌, length, map, filter, slice_index_or, replicate, None, ℤ, Option}
+use Rattle.std.specs.List.{position, range_with_len}
+use Rattle.std.specs.Ordering.{int_eq}
 use Rattle.fraction_theory.specs.Fraction.{Fraction, whole, neg_ℚ}
 use Rattle.fraction_theory.specs.Order.{◌≤ℚ◌}
 use Rattle.fraction_theory.specs.Sums.{Term, Plain, total}
@@ -15,6 +16,7 @@ use Rattle.market_model.specs.Lines.{hard_line}
 use Rattle.market_model.specs.declared.participants.Side.{Side}
 use Rattle.market_model.specs.declared.participants.Side.TheVariants.{Sell, Buy}
 use Rattle.market_model.specs.declared.participants.Parts.{Parts}
+use Rattle.market_model.specs.NamedSums.{two_terms}
 
 abbrev pub zero : Fraction
 zero = whole (pos 0)
@@ -26,6 +28,10 @@ places n = range_with_len 0 n
 -- parts by place; a place past the end stands for a part of zeros
 abbrev pub bus_at : Parts → ℕ → Bus
 bus_at m i = slice_index_or m.buses i (record { number = 0; pd = pos 0; gs = pos 0 })
+
+-- the place of the bus of a number, where there is one
+unfoldable pub place_of_bus : List Bus → ℤ → Option ℕ
+place_of_bus buses number = position (λ bus. int_eq (pos bus.number) number) buses
 
 abbrev pub unit_at : Parts → ℕ → unit.Unit
 unit_at m u = slice_index_or m.units u (record { row = 0; bus = 0; fixed = pos 0; up = pos 0; down = pos 0 })
@@ -134,7 +140,7 @@ output m x u = total (output_terms m x u)
 
 -- a bus's demand
 abbrev pub demand_terms : Parts → ℕ → List Term
-demand_terms m i = Plain (whole (bus_at m i).pd) ∷ Plain (whole (bus_at m i).gs) ∷ []
+demand_terms m i = two_terms (whole (bus_at m i).pd) (whole (bus_at m i).gs)
 
 unfoldable pub demand : Parts → ℕ → Fraction
 demand m i = total (demand_terms m i)

@@ -34,12 +34,16 @@ causes m = Base ∷ (map Branch (lost_lines m) ++ map UnitOutage (places (length
 abbrev pub limit_of : Bool → Line → Option ℤ
 limit_of post line = if post then line.post else line.base
 
+-- whether it has one
+abbrev pub has_limit : Bool → Line → Bool
+has_limit post line = is_some (limit_of post line)
+
 -- what a MW beyond that limit costs, and the most by which its flow may exceed it: both 0 where the limit is hard
 abbrev pub penalty_of : Bool → Line → ℤ
 penalty_of post line = if post then line.post_price else line.base_price
 
-abbrev pub excess_of : Bool → Line → ℤ
-excess_of post line = if post then line.post_excess else line.base_excess
+abbrev pub most_excess_of : Bool → Line → ℤ
+most_excess_of post line = if post then line.post_excess else line.base_excess
 
 -- whether a cause is an outage; limits, penalties and excesses after an outage are the same after each
 abbrev pub is_outage : Cause → Bool
@@ -53,16 +57,17 @@ stated line cause = limit_of (is_outage cause) line
 
 -- whether a line has a limit under a cause; it has none after its own outage
 abbrev pub bears : Parts → Cause → ℕ → Bool
-bears m Base l = is_some (stated (line_at m l) Base)
-bears m (Branch lost) l = not (l == lost) && is_some (stated (line_at m l) (Branch lost))
-bears m (UnitOutage k) l = is_some (stated (line_at m l) (UnitOutage k))
+bears m Base l = has_limit false (line_at m l)
+bears m (Branch lost) l = not (l == lost) && has_limit true (line_at m l)
+bears m (UnitOutage k) l = has_limit true (line_at m l)
 
-abbrev pub lines_of : Parts → Cause → List ℕ
-lines_of m cause = filter (bears m cause) (places (length m.lines))
+-- of some lines, those that have one
+abbrev pub lines_among : Parts → Cause → List ℕ → List ℕ
+lines_among m cause lines = filter (bears m cause) lines
 
 -- the rows that some lines have under a cause
 abbrev pub rows_among : Parts → Cause → List ℕ → List Row
-rows_among m cause lines = map (λ l. record { line = l; cause = cause }) (filter (bears m cause) lines)
+rows_among m cause lines = map (λ l. record { line = l; cause = cause }) (lines_among m cause lines)
 
 -- the rows under a cause, by line
 abbrev pub rows_of : Parts → Cause → List Row
@@ -114,7 +119,7 @@ penalty m r = whole (penalty_of (is_outage r.cause) (line_at m r.line))
 
 -- the most by which its flow may exceed it
 abbrev pub most_excess : Parts → Row → Fraction
-most_excess m r = whole (excess_of (is_outage r.cause) (line_at m r.line))
+most_excess m r = whole (most_excess_of (is_outage r.cause) (line_at m r.line))
 
 -- the greatest size that its flow may have
 abbrev pub most_flow : Parts → Row → Fraction

@@ -81,7 +81,7 @@ pub record IsReserve (units : ℕ) (r : Reserve) : Type 0 where
 
 -- the parts of a market that has nothing but buses, units and blocks, and tables of six places
 abbrev pub bare_parts : List Bus → List unit.Unit → List Block → Parts
-bare_parts buses units blocks = record { buses = buses; units = units; blocks = blocks; lines = []; outages = []; shift = []; loss = []; unit_outages = []; pickups = []; places = Six; reserve = no_reserve }
+bare_parts buses units blocks = record { buses = buses; units = units; blocks = blocks; lines = []; outages = []; shift = []; loss = []; unit_outages = []; pickups = []; factor_places = Six; reserve = no_reserve }
 
 pub record IsMarket (parts : Parts) : Type 0 where
   pub bus_count : length parts.buses ≤ most_buses

@@ -1,5 +1,5 @@
 -- The operations that add up the terms of a sum in their order.
-use Rattle.std.specs.Prelude.{◌≡◌, ℕ, ◌+◌, ◌<◌, pos, List, length, slice_index_or, ◌⊎◌}
+use Rattle.std.specs.Prelude.{◌≡◌, ℕ, ◌+◌, ◌<◌, pos, List, length, slice_index_or, ◌⊎◌, [], ◌∷◌}
 use Rattle.fraction_theory.specs.Fraction.{Fraction, whole, neg_ℚ}
 use Rattle.fraction_theory.specs.Sums.{Term, Plain, Product, term_value, prefix}
 use Rattle.exact_fraction.specs.declared.Op.{Op}
@@ -10,6 +10,10 @@ use Rattle.exact_fraction.specs.Passes.{IsShareRefused, IsTooLarge, Passes, outc
 -- the same number, or its opposite
 abbrev pub SameSize : Fraction → Fraction → Type 0
 SameSize x y = (x ≡ y) ⊎ (x ≡ neg_ℚ y)
+
+-- the terms of a sum of two numbers
+abbrev pub two_terms : Fraction → Fraction → List Term
+two_terms x y = Plain x ∷ Plain y ∷ []
 
 -- the term at a place; one past the end stands for 0
 abbrev pub term_at : List Term → ℕ → Term

@@ -18,7 +18,8 @@ use Rattle.market_model.specs.Dispatch.{Dispatch, IsDispatch, zero, places, bloc
 use Rattle.market_model.specs.declared.limits.Row.{Row}
 use Rattle.market_model.specs.LimitRows.{rows, row_id, limit, loses_unit, most_flow, penalty, is_soft, row_factor, row_pickup, flow}
 use Rattle.market_model.specs.Overrun.{excess, Within}
-use Rattle.market_model.specs.Reserves.{offers_reserve, reserve, reserve_cost_terms, reserve_need, offer_price, reserve_units, room, room_used}
+use Rattle.market_model.specs.Reserves.{offers_reserve, reserve, reserve_cost_terms, reserve_need, offer_price, reserve_units, room, room_used, KeepRooms}
+use Rattle.market_model.specs.NamedSums.{two_terms}
 
 -- the flow f of each of these rows is at most so much on either side
 abbrev pub AreWithin : List Row → (Row → Fraction) → (Row → Fraction) → Type 0
@@ -43,7 +44,7 @@ pub record FeasibleFor (m : Parts) (t : Taken) (x : Dispatch) : Type 0 where
   pub balanced : balance m x ≡ zero
   pub limits : AreWithin t.limits (most_flow m) (flow m x)
   pub need : reserve_need m ≤ℚ reserve m x
-  pub rooms : (u : ℕ) → Contains t.rooms u → room_used m x u ≤ℚ room m u
+  pub rooms : KeepRooms m t.rooms x
 
 -- within all limits and rooms
 abbrev pub Feasible : Parts → Dispatch → Type 0
@@ -162,9 +163,13 @@ congestion m d i = congestion_by m d (λ r. row_factor m r i)
 abbrev pub bus_price : Parts → Duals Fraction → ℕ → Fraction
 bus_price m d i = price_by m d (λ r. row_factor m r i)
 
+-- prices by bus that are those of duals
+abbrev pub ArePricesOf : Parts → Duals Fraction → (ℕ → Fraction) → Type 0
+ArePricesOf m d price = (i : ℕ) → i < length m.buses → price i ≡ bus_price m d i
+
 -- its two parts
 abbrev pub price_terms : Parts → Duals Fraction → ℕ → List Term
-price_terms m d i = Plain d.energy ∷ Plain (congestion m d i) ∷ []
+price_terms m d i = two_terms d.energy (congestion m d i)
 
 -- the own price of a unit, where buses have prices: that of its bus, less what the rows after its loss take, each by its pickup factor
 abbrev pub own_terms : Parts → Duals Fraction → (ℕ → Fraction) → ℕ → List Term
@@ -182,14 +187,14 @@ unit_price m d u = own_price m d (bus_price m d) u
 -- ---- what a MW of a unit is worth
 -- of its energy: its own price, less what that takes of its room
 abbrev pub worth_terms : Parts → Duals Fraction → ℕ → List Term
-worth_terms m d u = Plain (unit_price m d u) ∷ Plain (neg_ℚ (room_price m d u)) ∷ []
+worth_terms m d u = two_terms (unit_price m d u) (neg_ℚ (room_price m d u))
 
 abbrev pub energy_worth : Parts → Duals Fraction → ℕ → Fraction
 energy_worth m d u = unit_price m d u -ℚ room_price m d u
 
 -- of its reserve: the price of reserve, less the same
 abbrev pub reserve_worth_terms : Parts → Duals Fraction → ℕ → List Term
-reserve_worth_terms m d u = Plain d.reserve ∷ Plain (neg_ℚ (room_price m d u)) ∷ []
+reserve_worth_terms m d u = two_terms d.reserve (neg_ℚ (room_price m d u))
 
 abbrev pub reserve_worth : Parts → Duals Fraction → ℕ → Fraction
 reserve_worth m d u = d.reserve -ℚ room_price m d u
@@ -237,10 +242,15 @@ pub record RowSupported (m : Parts) (x : Dispatch) (d : Duals Fraction) (r : Row
   pub up : SideSupported m r (up_of m d r) (flow m x r)
   pub down : SideSupported m r (down_of m d r) (neg_ℚ (flow m x r))
 
--- duals for which a dispatch is best, seen block by block and row by row, and with reserve offer by offer and room by room
-pub record Supports (m : Parts) (x : Dispatch) (d : Duals Fraction) : Type 0 where
+-- Duals for which a dispatch is best, seen block by block and row by row, and with reserve offer by offer and room by room. Of rows those
+-- that count are seen.
+pub record SupportsOver (m : Parts) (Counts : Row → Type 0) (x : Dispatch) (d : Duals Fraction) : Type 0 where
   pub blocks : (j : ℕ) → j < length m.blocks → BlockSupported m x d j
-  pub rows : (r : Row) → Contains (rows m) r → RowSupported m x d r
+  pub rows : (r : Row) → Counts r → RowSupported m x d r
   pub offers : (n : ℕ) → n < length m.reserve.offers → OfferSupported m x d n
   pub need : NeedSupported m x d
   pub rooms : (u : ℕ) → Contains (reserve_units m) u → RoomSupported m x d u
+
+-- all rows of the market
+abbrev pub Supports : Parts → Dispatch → Duals Fraction → Type 0
+Supports m x d = SupportsOver m (λ r. Contains (rows m) r) x d

@@ -34,9 +34,8 @@ pub record Keeps (m : Parts) (taken : List Row) (r : Row) (f : Fraction) : Type 
   pub most : Contains taken r → Within (most_flow m r) f
 
 -- it is beyond that
-pub record IsBeyond (m : Parts) (taken : List Row) (r : Row) (f : Fraction) : Type 0 where
-  pub limit : ¬ (Contains taken r) → limit m r <ℚ abs_ℚ f
-  pub most : Contains taken r → most_flow m r <ℚ abs_ℚ f
+abbrev pub IsBeyond : Parts → List Row → Row → Fraction → Type 0
+IsBeyond m taken r f = ¬ (Keeps m taken r f)
 
 -- Of some rows, with a number e of each, the one at a place counts, none that counts has a greater one, and none before it has the same.
 pub record IsFirstMost (Counts : Row → Type 0) (e : Row → Fraction) (rs : List Row) (place : ℕ) (r : Row) : Type 0 where

@@ -2,13 +2,9 @@
 -- Source: own.
 use Rattle.std.specs.Prelude.{◌≡◌, ℕ, ◌+◌, ◌*◌, ◌<◌, ℤ, pos, List, length, slice_index_or}
 use Rattle.fraction_theory.specs.Fraction.{over}
-use Rattle.market_data.specs.Scales.{factor_one, share_one}
+use Rattle.market_data.specs.Scales.{pickup_one}
 use Rattle.market_model.specs.declared.participants.Parts.{Parts}
 use Rattle.market_model.specs.LimitRows.{pickup_factor}
-
--- how many of what a pickup factor is told in make 1: shares are in 10^-6, and factors in 10^-9
-abbrev pub pickup_one : ℕ
-pickup_one = share_one * factor_one
 
 -- the pickup factors of all lines at the outages of units, as so many of 10^-15, with a row of all lines for each outage
 pub record IsPickupTable (m : Parts) (table : List ℤ) : Type 0 where

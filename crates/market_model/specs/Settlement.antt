@@ -2,7 +2,7 @@
 -- Schweppe and others, Spot Pricing of Electricity: the merchandising surplus. The offsets in rents are own.
 use Rattle.std.specs.Prelude.{ℕ, List, [], ◌∷◌, length, map, ◌++◌}
 use Rattle.fraction_theory.specs.Fraction.{Fraction, neg_ℚ, ◌+ℚ◌, ◌-ℚ◌}
-use Rattle.fraction_theory.specs.Sums.{Term, Plain, Product, term_value, total}
+use Rattle.fraction_theory.specs.Sums.{Term, Product, term_value, total, Plain}
 use Rattle.market_model.specs.declared.answered.Load.{Load}
 use Rattle.market_model.specs.declared.answered.ReservePay.{ReservePay}
 use Rattle.market_model.specs.declared.answered.UnitPay.{UnitPay}
@@ -13,6 +13,7 @@ use Rattle.market_model.specs.Optimality.{bus_price, own_price, up_of, down_of}
 use Rattle.market_model.specs.declared.limits.Row.{Row}
 use Rattle.market_model.specs.LimitRows.{Carried, carried, flow_by, limit, row_offset}
 use Rattle.market_model.specs.Overrun.{excess_by}
+use Rattle.market_model.specs.NamedSums.{two_terms}
 
 -- ---- at prices by bus, and the prices of rows
 -- what a unit is paid for energy: its own price for its output
@@ -37,11 +38,13 @@ load_terms m price i = load_term m price i ∷ []
 abbrev pub unit_terms : Parts → Dispatch → (ℕ → Fraction) → Duals Fraction → ℕ → List Term
 unit_terms m x price d u = unit_term m x price d u ∷ []
 
--- what loads pay by bus, and the opposite of what units are paid by unit
+-- what loads pay, and the opposite of what units are paid, one by one
+abbrev pub paid_terms : List (Load Fraction) → List (UnitPay Fraction) → List Term
+paid_terms loads units = map (λ load. Plain load.pays) loads ++ map (λ unit. Plain (neg_ℚ unit.paid)) units
+
+-- by bus and by unit
 abbrev pub surplus_terms_by : Parts → Dispatch → (ℕ → Fraction) → Duals Fraction → List Term
-surplus_terms_by m x price d =
-    map (load_term m price) (places (length m.buses))
-    ++ map (λ u. Product (neg_ℚ (own_price m d price u)) (output m x u)) (places (length m.units))
+surplus_terms_by m x price d = paid_terms (map (pay_of_load m price) (places (length m.buses))) (map (pay_of_unit m x price d) (places (length m.units)))
 
 -- what an offer of reserve is paid: the price of reserve for what is accepted of it
 abbrev pub reserve_term : Dispatch → Duals Fraction → ℕ → Term
@@ -72,11 +75,11 @@ priced_flow m r f = limit m r +ℚ excess_by m r f
 
 -- what the upper price of a limit is paid for, where flows are paid for at this size and the flow has a fixed offset: the size less the offset
 abbrev pub upper_terms : Fraction → Fraction → List Term
-upper_terms size offset = Plain size ∷ Plain (neg_ℚ offset) ∷ []
+upper_terms size offset = two_terms size (neg_ℚ offset)
 
 -- what its lower price is paid for: the two together
 abbrev pub lower_terms : Fraction → Fraction → List Term
-lower_terms size offset = Plain size ∷ Plain offset ∷ []
+lower_terms size offset = two_terms size offset
 
 -- what a limit earns at its upper and its lower price, each for what it is paid for
 abbrev pub earned_terms : Fraction → Fraction → Fraction → Fraction → List Term

@@ -12,7 +12,7 @@ use Rattle.market_model.specs.Dispatch.{Dispatch, injection, injection_terms, ba
 use Rattle.market_model.specs.Infeasibility.{farkas_terms}
 use Rattle.market_model.specs.LimitRows.{Carried, carried, rows, line_terms, flow_by, flow_terms, lost_unit, offset_terms, factor_terms, pickup_terms, row_offset}
 use Rattle.market_model.specs.NamedSums.{IsRefusedIn}
-use Rattle.market_model.specs.Optimality.{bus_price, congestion_terms, named_rows, own_terms, price_terms, reserve_worth_terms, worth_terms}
+use Rattle.market_model.specs.Optimality.{bus_price, congestion_terms, named_rows, own_terms, price_terms, reserve_worth_terms, worth_terms, welfare_terms}
 use Rattle.market_model.specs.Reserves.{reserve_terms, reserve_units, room_terms}
 use Rattle.market_model.specs.Settlement.{surplus_terms_by, load_terms, lower_terms, priced_flow, rent_terms, reserve_term, unit_terms, upper_terms}
 
@@ -71,9 +71,13 @@ pub data PickupSum (m : Parts) (r : Row) : List Term → Type 0 where
 abbrev pub IsFlowRefusal : Parts → Carried → Row → ℕ → Passed Fraction → Type 0
 IsFlowRefusal m c r bound p = IsRefusedAmong (RowFlowSum m c r) bound p ⊎ IsRefusedAmong (PickupSum m r) bound p
 
--- its factor at a bus, and its pickup factor
+-- its factor at a bus
+pub data BusFactorSum (m : Parts) (r : Row) : List Term → Type 0 where
+  factor_at_bus : (i : ℕ) → i < length m.buses → BusFactorSum m r (factor_terms m r i)
+
+-- that, and its pickup factor
 pub data FactorSum (m : Parts) (r : Row) : List Term → Type 0 where
-  factor_at_bus : (i : ℕ) → i < length m.buses → FactorSum m r (factor_terms m r i)
+  factor_of_bus : (terms : List Term) → BusFactorSum m r terms → FactorSum m r terms
   factor_of_pickup : (terms : List Term) → PickupSum m r terms → FactorSum m r terms
 
 -- an operation refused in the factor of one of these rows
@@ -82,7 +86,7 @@ IsFactorRefusal m g bound p = (r : Row) × Contains g r × IsRefusedAmong (Facto
 
 -- the same of factors at buses alone
 abbrev pub IsBusFactorRefusal : Parts → List Row → ℕ → Passed Fraction → Type 0
-IsBusFactorRefusal m g bound p = (r : Row) × Contains g r × ((i : ℕ) × (i < length m.buses) × IsRefusedIn (factor_terms m r i) bound p)
+IsBusFactorRefusal m g bound p = (r : Row) × Contains g r × IsRefusedAmong (BusFactorSum m r) bound p
 
 -- and of pickup factors alone
 abbrev pub IsPickupRefusal : Parts → List Row → ℕ → Passed Fraction → Type 0
@@ -96,10 +100,14 @@ pub data OutputSum (m : Parts) (x : Dispatch) : List Term → Type 0 where
 pub data RoomSum (m : Parts) (x : Dispatch) : List Term → Type 0 where
   used_of_room : (u : ℕ) → Contains (reserve_units m) u → RoomSum m x (room_terms m x u)
 
--- that, and the reserve that is accepted in all
+-- of a dispatch: the reserve that is accepted in all
+pub data AcceptedSum (m : Parts) (x : Dispatch) : List Term → Type 0 where
+  reserve_of_all : AcceptedSum m x (reserve_terms m x)
+
+-- the two
 pub data ReserveSum (m : Parts) (x : Dispatch) : List Term → Type 0 where
   reserve_in_room : (terms : List Term) → RoomSum m x terms → ReserveSum m x terms
-  reserve_of_all : ReserveSum m x (reserve_terms m x)
+  reserve_accepted : (terms : List Term) → AcceptedSum m x terms → ReserveSum m x terms
 
 -- ---- prices
 -- of duals: what limits take from the price at a bus, and that price
@@ -134,6 +142,10 @@ pub data BoundSum (m : Parts) (d : Duals Fraction) : List Term → Type 0 where
   farkas_bound_of_all : BoundSum m d (farkas_terms m d)
 
 -- ---- money
+-- of a dispatch: its welfare
+pub data WelfareSum (m : Parts) (x : Dispatch) : List Term → Type 0 where
+  welfare_of_all : WelfareSum m x (welfare_terms m x)
+
 -- of payments at prices by bus: what a load pays, what a unit is paid, what is left, the rents of the rows that duals name, and what an offer of reserve is paid
 pub data PaymentSum (m : Parts) (x : Dispatch) (price : ℕ → Fraction) (d : Duals Fraction) : List Term → Type 0 where
   paid_by_load : (i : ℕ) → i < length m.buses → PaymentSum m x price d (load_terms m price i)

@@ -43,12 +43,12 @@ impl Market {
     ghost use Rattle.std.specs.Prelude.{◌≡◌, ◌<◌, pos, ◌≤ℤ◌, length, true, is_some};
     ghost use Rattle.fraction_theory.specs.Fraction.{over};
     ghost use Rattle.market_data.specs.Participants.{IsDatum};
+    ghost use Rattle.market_data.specs.Scales.{pickup_one};
     ghost use Rattle.market_model.specs.Changes.{with_price, with_quantity, with_demand, with_limit, with_need};
     ghost use Rattle.market_model.specs.Dispatch.{unit_at, block_at, line_at};
     ghost use Rattle.market_model.specs.Factors.{factor_in};
     ghost use Rattle.market_model.specs.LimitRows.{limit_of, lost_lines, pickup_factor, place_of_line};
     ghost use Rattle.market_model.specs.Market.{IsMarket};
-    ghost use Rattle.market_model.specs.PickupTable.{pickup_one};
     ghost use Rattle.market_model.specs.Stairs.{stair_in, offered, room_of};
 
     /// The live buses, in the order in which they were given.
@@ -124,10 +124,10 @@ impl Market {
     }
 
     /// How many decimal places a factor in the tables may have.
-    pub fn places(&self) -> FactorPlaces
-        ensures { result ≡ self.now.places }
+    pub fn factor_places(&self) -> FactorPlaces
+        ensures { result ≡ self.now.factor_places }
     {
-        self.parts.places
+        self.parts.factor_places
     }
 
     /// The place of the line of a branch row; the number of lines where none has it.

@@ -15,7 +15,7 @@ mod putting;
 mod reserving;
 mod stops;
 
-pub use amounts::{datum, zeros};
+pub use amounts::{datum, with_part, zeros};
 pub use answered::{
     Answer, Dual, Duals, Farkas, Load, Money, Outcome, Price, Rent, ReservePay, RoomDual, RowId,
     UnitPay,
@@ -30,7 +30,7 @@ pub use participants::{
 pub use plain_list::{List, Memory};
 pub use putting::{balance, injections, output};
 pub use reserving::{
-    need_quantity, offer_price, offer_quantity, offers_reserve, reserve_in_all, room_quantity,
-    room_used,
+    is_offered, need_quantity, offer_price, offer_quantity, offer_value, offers_reserve,
+    reserve_in_all, room_quantity, room_used,
 };
 pub use stops::Stop;

@@ -1,6 +1,7 @@
 //! Blocks, and what a market is made of.
 
 ghost use Rattle.std.specs.Prelude.{◌≡◌};
+ghost use Rattle.market_model.specs.LimitRows.{limit_of};
 ghost use Rattle.market_model.specs.Lines.{hard_line};
 ghost use Rattle.market_model.specs.Market.{bare_parts};
 ghost use Rattle.market_model.specs.Reserves.{no_reserve};
@@ -63,6 +64,13 @@ impl Line {
             post_excess: 0,
             offset,
         }
+    }
+
+    /// Its limit after an outage, or else in the base, in 10^-9 MW, where it has one.
+    pub fn limit(&self, post: bool) -> Option<i64>
+        ensures { result ≡ limit_of post self.now }
+    {
+        if post { self.post } else { self.base }
     }
 }
 
@@ -152,7 +160,7 @@ pub struct Parts {
     /// What others pick up then.
     pub pickups: List<Pickup>,
     /// How many decimal places a factor in the tables may have.
-    pub places: FactorPlaces,
+    pub factor_places: FactorPlaces,
     pub reserve: Reserve,
 }
 
@@ -171,7 +179,7 @@ impl Parts {
             loss: List::new(alloc),
             unit_outages: List::new(alloc),
             pickups: List::new(alloc),
-            places: FactorPlaces::Six,
+            factor_places: FactorPlaces::Six,
             reserve: Reserve::none(alloc),
         }
     }

@@ -2,12 +2,12 @@
 
 ghost use Rattle.std.specs.Prelude.{◌≡◌, ◌*◌, ◌<◌, ◌≤◌, unsigned_abs, length, IfOk};
 ghost use Rattle.fraction_theory.specs.Fraction.{over, ◌*ℚ◌};
-ghost use Rattle.market_data.specs.Scales.{most_factor, share_one};
+ghost use Rattle.market_data.specs.Scales.{most_factor, share_one, pickup_one};
 ghost use Rattle.market_model.specs.Dispatch.{unit_at};
 ghost use Rattle.market_model.specs.Factors.{factor_in, IsTable};
 ghost use Rattle.market_model.specs.LimitRows.{lost_unit, pickup_factor, pickups_of, share_value, shift_factor};
 ghost use Rattle.market_model.specs.Market.{IsMarket, IsPickup};
-ghost use Rattle.market_model.specs.PickupTable.{pickup_one, IsPickupTable};
+ghost use Rattle.market_model.specs.PickupTable.{IsPickupTable};
 
 use crate::{Parts, Pickup};
 use market_data::SHARE_ONE;

@@ -1,47 +1,27 @@
 //! What buses put into the network at a dispatch, and what units put out.
 
-ghost use Rattle.std.specs.Prelude.{◌≡◌, ◌<◌, ◌++◌, true, length, map, IfOk, IfErr, if◌then◌else◌};
-ghost use Rattle.fraction_theory.specs.Fraction.{whole, ◌+ℚ◌, ◌-ℚ◌};
+ghost use Rattle.std.specs.Prelude.{◌≡◌, ◌<◌, ◌++◌, length, map, IfOk, IfErr};
+ghost use Rattle.fraction_theory.specs.Fraction.{whole, ◌-ℚ◌};
 ghost use Rattle.fraction_theory.specs.Sums.{total};
-ghost use Rattle.exact_fraction.specs.declared.Op.TheVariants as Op;
 ghost use Rattle.market_data.specs.Participants.{IsBus, IsDatum};
-ghost use Rattle.market_model.specs.Dispatch.{Dispatch, balance, balance_terms, zero, signed_by_side, unit_at, units_at, blocks_at, fixed_term, block_term, injection, injection_terms, output as output_of, output_terms};
-ghost use Rattle.market_model.specs.NamedSums.{IsRefusedIn, IsRefusal};
+ghost use Rattle.market_model.specs.Dispatch.{Dispatch, balance, balance_terms, unit_at, units_at, blocks_at, fixed_term, block_term, injection, injection_terms, output as output_of, output_terms};
+ghost use Rattle.market_model.specs.NamedSums.{IsRefusedIn};
 ghost use Rattle.market_model.specs.PutIn.{dispatch_of, AreInjections, IsDemandRefusal};
 ghost use Rattle.market_model.specs.SumTables.{IsRefusedAmong, InjectionSum};
 ghost use Rattle.market_model.specs.Valued.{passed_at};
 
-use crate::amounts::datum;
+use crate::amounts::{datum, with_part};
 use crate::blocks::by_side;
-use crate::{Block, Bus, Market, Unit};
+use crate::{Bus, Market, Unit};
 use exact_fraction::{Exact, Passed, exact_difference, exact_sum};
 
-/// A sum with the fixed part of a unit, where that counts.
+/// The fixed part of a unit as a number.
 #[tactic(auto, using(market_data::proofs::Data::datum_read))]
-fn with_unit<N: Exact>(sum: N, unit: &Unit, belongs: bool) -> Result<N, Passed<N>>
+fn fixed_of<N: Exact>(unit: &Unit) -> N
     requires { IsDatum unit.now.fixed }
-    ensures sum { IfOk result (λ more. N.value more ≡ N.value sum +ℚ (if belongs then whole unit.now.fixed else zero)) }
-    ensures belongs { IfErr result (λ _. belongs ≡ true) }
-    ensures cause { IfErr result (λ passed. IsRefusal Op.Plus (N.value sum) (whole unit.now.fixed) N.bound (passed_at N.value passed)) }
+    ensures { N.value result ≡ whole unit.now.fixed }
 {
-    if belongs {
-        exact_sum(sum, datum(unit.fixed))
-    } else {
-        Ok(sum)
-    }
-}
-
-/// A sum with what a block raises it by, where that counts.
-fn with_block<N: Exact>(sum: N, block: &Block, belongs: bool, mw: N) -> Result<N, Passed<N>>
-    ensures sum { IfOk result (λ more. N.value more ≡ N.value sum +ℚ (if belongs then signed_by_side block.now.side (N.value mw) else zero)) }
-    ensures belongs { IfErr result (λ _. belongs ≡ true) }
-    ensures cause { IfErr result (λ passed. IsRefusal Op.Plus (N.value sum) (signed_by_side block.now.side (N.value mw)) N.bound (passed_at N.value passed)) }
-{
-    if belongs {
-        exact_sum(sum, by_side(block.side, mw))
-    } else {
-        Ok(sum)
-    }
+    datum(unit.fixed)
 }
 
 /// What the fixed parts of the units at a bus come to.
@@ -51,7 +31,7 @@ fn fixed_at<N: Exact>(market: &Market, bus: usize) -> Result<N, Passed<N>>
 {
     let mut mw: N = datum(0);
     for (at, unit) in market.units().slice().iter().enumerate() {
-        mw = with_unit(mw, unit, unit.bus == bus)?;
+        mw = with_part(mw, fixed_of(unit), unit.bus == bus)?;
     }
     Ok(mw)
 }
@@ -71,7 +51,7 @@ fn raised_at<N: Exact>(
     let mut mw = fixed;
     for (at, block) in market.blocks().slice().iter().enumerate() {
         let belongs = market.units().at(block.unit).bus == bus;
-        mw = with_block(mw, block, belongs, dispatch[at])?;
+        mw = with_part(mw, by_side(block.side, dispatch[at]), belongs)?;
     }
     Ok(mw)
 }
@@ -142,7 +122,7 @@ pub fn output<N: Exact>(market: &Market, unit: usize, dispatch: &[N]) -> Result<
 {
     let mut mw: N = fixed_part(market, unit);
     for (at, block) in market.blocks().slice().iter().enumerate() {
-        mw = with_block(mw, block, block.unit == unit, dispatch[at])?;
+        mw = with_part(mw, by_side(block.side, dispatch[at]), block.unit == unit)?;
     }
     Ok(mw)
 }

@@ -1,17 +1,16 @@
 //! What is needed and offered of reserve, what is accepted of it, and what units have and use of their rooms, as numbers.
 
-ghost use Rattle.std.specs.Prelude.{◌≡◌, ◌<◌, ℤ, pos, ◌≤ℤ◌, List, true, length, map, IfOk, IfErr, if◌then◌else◌};
-ghost use Rattle.fraction_theory.specs.Fraction.{Fraction, whole, ◌+ℚ◌};
+ghost use Rattle.std.specs.Prelude.{◌≡◌, ◌<◌, ℤ, pos, ◌≤ℤ◌, List, true, length, map, IfOk, IfErr};
+ghost use Rattle.fraction_theory.specs.Fraction.{Fraction, whole, neg_ℚ};
 ghost use Rattle.fraction_theory.specs.Sums.{total};
-ghost use Rattle.exact_fraction.specs.declared.Op.TheVariants.{Plus};
 ghost use Rattle.market_data.specs.Participants.{IsDatum};
-ghost use Rattle.market_model.specs.Dispatch.{zero, block_term, blocks_of, dispatch_with};
-ghost use Rattle.market_model.specs.NamedSums.{IsRefusal, IsRefusedIn};
+ghost use Rattle.market_model.specs.Dispatch.{block_term, blocks_of, dispatch_with};
+ghost use Rattle.market_model.specs.NamedSums.{IsRefusedIn};
 ghost use Rattle.market_model.specs.PutIn.{dispatch_of};
 ghost use Rattle.market_model.specs.Reserves.{offers_among, offers_reserve as offers_reserve_of, reserve as reserve_of, reserve_terms, room, room_terms, room_used as room_used_of};
 ghost use Rattle.market_model.specs.Valued.{passed_at};
 
-use crate::amounts::datum;
+use crate::amounts::{datum, with_part};
 use crate::blocks::by_side;
 use crate::{Market, Parts, Reserve, ReserveOffer};
 use exact_fraction::{Exact, Passed, exact_sum};
@@ -43,6 +42,15 @@ pub fn offer_price<N: Exact>(offer: &ReserveOffer) -> N
     datum(offer.price)
 }
 
+/// What accepting a MW of it is worth, in 10^-6 per MWh: the opposite of its price.
+pub fn offer_value<N: Exact>(offer: &ReserveOffer) -> N
+    requires { IsDatum offer.now.price }
+    ensures { N.value result ≡ neg_ℚ (whole offer.now.price) }
+{
+    let price: N = offer_price(offer);
+    price.neg()
+}
+
 /// The room of the unit at a place, in 10^-9 MW: by how much it may raise its fixed part in all.
 #[tactic(auto, using(market_data::proofs::Data::datum_read))]
 pub fn room_quantity<N: Exact>(market: &Market, unit: usize) -> N
@@ -54,7 +62,7 @@ pub fn room_quantity<N: Exact>(market: &Market, unit: usize) -> N
 }
 
 /// Whether one of these offers is of a unit.
-fn is_offered(offers: &[ReserveOffer], unit: usize) -> bool
+pub fn is_offered(offers: &[ReserveOffer], unit: usize) -> bool
     ensures { result ≡ offers_among offers.now unit }
 {
     for offer in offers {
@@ -82,19 +90,6 @@ pub fn reserve_in_all<N: Exact>(reserve: &[N]) -> Result<N, Passed<N>>
         sum = exact_sum(sum, *mw)?;
     }
     Ok(sum)
-}
-
-/// A sum with one number more, where that counts.
-fn with_part<N: Exact>(sum: N, part: N, counts: bool) -> Result<N, Passed<N>>
-    ensures sum { IfOk result (λ more. N.value more ≡ N.value sum +ℚ (if counts then N.value part else zero)) }
-    ensures counts { IfErr result (λ _. counts ≡ true) }
-    ensures cause { IfErr result (λ passed. IsRefusal Plus (N.value sum) (N.value part) N.bound (passed_at N.value passed)) }
-{
-    if counts {
-        exact_sum(sum, part)
-    } else {
-        Ok(sum)
-    }
 }
 
 /// By how much the blocks of a unit raise its output, whatever reserve is accepted beside.

@@ -30,8 +30,8 @@ use Rattle.market_model.specs.Optimality.{BlockSupported, Feasible, Gains, IsOne
 use Rattle.market_model.specs.Reserves.{offer_places, reserve, reserve_need, offer_price, reserve_units, room, room_used}
 use Rattle.market_model.specs.RightAnswers.{IsRight, answer_of, dispatch_in}
 use Rattle.market_system.proofs.LawsOfSolving.{law_of_the_answer}
-use Rattle.market_system.proofs.VariableLaws.{in_places}
 use Rattle.market_model.specs.Overrun.{Within}
+use Rattle.market_model.proofs.RowMembers.{Contains-places}
 
 -- ---- tests of numbers, and of two things at once
 both : {s t : Bool} {P Q : Type 0} → (s ≡ true → P) → (t ≡ true → Q) → (s && t) ≡ true → P × Q
@@ -78,7 +78,7 @@ each_of : {X : Type 0} (test : X → Bool) (P : X → Type 0) → ((x : X) → t
 each_of test P means xs e x c = All-contains P xs x (all_of test P means xs e) c
 
 each_place : (test : ℕ → Bool) (P : ℕ → Type 0) → ((j : ℕ) → test j ≡ true → P j) → (n : ℕ) → list_all test (places n) ≡ true → (j : ℕ) → j < n → P j
-each_place test P means n e j lt = each_of test P means (places n) e j (in_places n j lt)
+each_place test P means n e j lt = each_of test P means (places n) e j (Contains-places n j lt)
 
 abbrev same_list : {X : Type 0} → (X → X → Bool) → List X → List X → Bool
 same_list test [] [] = true

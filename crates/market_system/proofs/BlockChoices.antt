@@ -24,8 +24,9 @@ use Rattle.market_model.specs.Reserves.{no_reserve}
 use Rattle.market_model.proofs.EnergyAlone.{no_places}
 use Rattle.market_system.specs.MarketSystem.{name, offer_name, variable_of, balance_name, block_sign, residual_demand, system_of, choice_dispatch, IsVariableOf}
 use Rattle.market_model.proofs.MarketSums.{balance-by_empty}
+use Rattle.market_model.proofs.RowMembers.{Contains-from_places}
 use Rattle.market_system.proofs.SystemLaws.{nothing, none_ordered, balance_row, activity_is, signed-times, variable_in, variable_below, block_or_balance, is_system, raised, from_rows, objective_is, alone, balance_is, balance_choice, balance_others, balance_choice_is, block_choice, block_choice_is, block_choice_high, block_is_basic, the_block_is_basic, balance_not_basic}
-use Rattle.market_system.proofs.VariableLaws.{from_places, column_in, variable_at, low-at, high-at}
+use Rattle.market_system.proofs.VariableLaws.{column_in, variable_at, low-at, high-at}
 use Rattle.market_system.specs.declared.variables.Variable.{Variable}
 use Rattle.market_system.specs.declared.variables.Variable.TheVariants.{Block, Balance, Limit, Over, Under, Offer, Need, Room}
 use Rattle.linear_system.proofs.Multipliers.{by_columns, by_columns-column, by_columns-row, by_columns-meets}
@@ -112,7 +113,7 @@ module _ (m : Parts) (energy : m.reserve ≡ no_reserve) (p : ℕ) (inside : p <
       ∙ sum_by-plus (λ j. block_sign m j *ℚ (e -ℚ price m j) *ℚ v j) (λ j. neg_ℚ e *ℚ (block_sign m j *ℚ v j)) blocks
       ∙ ap₂ ◌+ℚ◌
       (sum_by-members (λ j. block_sign m j *ℚ (e -ℚ price m j) *ℚ v j) f blocks
-      (λ j c. ap (λ t. t *ℚ v j) (sym (left-at (Block j) (from_places (length m.blocks) j c)))))
+      (λ j c. ap (λ t. t *ℚ v j) (sym (left-at (Block j) (Contains-from_places (length m.blocks) j c)))))
       (sum_by-times (neg_ℚ e) (λ j. block_sign m j *ℚ v j) blocks
       ∙ ap (λ t. neg_ℚ e *ℚ t) (sym (from_rows m v meets))
       ∙ ap (λ t. t *ℚ v (balance_name m)) (sym (left-at Balance tt))
@@ -187,7 +188,7 @@ module _ (m : Parts) (energy : m.reserve ≡ no_reserve) (market : IsMarket m) (
   pub balance_choice_dispatch : ((j : ℕ) → j < length m.blocks → accepted x j ≡ (if high j then quantity m j else zero)) → choice_dispatch m nothing (balance_choice m high) ≡ x
   balance_choice_dispatch each =
       dispatch_is m energy market x count bare balanced (balance_choice m high) (balance_choice_is m energy high)
-      (λ w c. let lt = from_places (length m.blocks) w (subst (λ (ws : List ℕ). Contains ws w) (balance_others m energy high) c) in at_place (balance_choice m high) (λ v. refl) w lt (each w lt))
+      (λ w c. let lt = Contains-from_places (length m.blocks) w (subst (λ (ws : List ℕ). Contains ws w) (balance_others m energy high) c) in at_place (balance_choice m high) (λ v. refl) w lt (each w lt))
 
   pub balance_choice_energy : neg_ℚ (reduced (system_of m nothing) (balance_choice m high) (balance_name m)) ≡ zero
   unfolding reduced

@@ -2,24 +2,20 @@
 use Rattle.std.specs.Prelude.{◌≡◌, ◌≢◌, ◌+◌, ◌≤◌, List, [], ◌∷◌, ◌++◌, length, AllPairs, Contains, ◌⊎◌}
 use Rattle.std.proofs.Common.{suc, arith, ap, sym, ◌∙◌, subst, inl, inr, append_assoc, length-append}
 use Rattle.std.proofs.lemmas.List.{append-nil}
-use Rattle.fraction_theory.proofs.OrderLaws.{<ℚ-not-≤ℚ}
 use Rattle.fraction_theory.proofs.ListSums.{Contains-head, Contains-cons, Contains-cases}
 use Rattle.market_model.specs.declared.participants.Parts.{Parts}
 use Rattle.market_model.specs.Dispatch.{Dispatch}
 use Rattle.market_model.specs.declared.limits.Row.{Row}
-use Rattle.market_model.specs.LimitRows.{rows, flow, most_flow}
+use Rattle.market_model.specs.LimitRows.{rows, flow}
 use Rattle.market_model.specs.Optimality.{Taken, FeasibleFor}
 use Rattle.market_system.specs.Growth.{Broken, IsBestOver, GrowsBy, Growth}
 use Rattle.market_system.specs.SolvedLaws.{AreRows}
 use Rattle.market_system.proofs.RowOrder.{pairs-append}
 use Rattle.market_model.specs.Overrun.{IsBeyond}
-use Rattle.fraction_theory.specs.Signs.{abs_ℚ}
-use Rattle.fraction_theory.proofs.SignLaws.{abs_within}
 
 -- a row whose flow at a feasible dispatch is beyond what it may be is not in the list
 pub beyond_is_new : (m : Parts) (t : Taken) (x : Dispatch) (r : Row) → FeasibleFor m t x → IsBeyond m t.limits r (flow m x r) → ¬ (Contains t.limits r)
-beyond_is_new m t x r f beyond c =
-    let w = f.limits r c in <ℚ-not-≤ℚ (most_flow m r) (abs_ℚ (flow m x r)) (beyond.most c) (abs_within (flow m x r) (most_flow m r) w.above w.below)
+beyond_is_new m t x r f beyond c = beyond (record { limit = λ new. absurd (new c); most = λ _. f.limits r c })
 
 -- nothing more is grown
 pub growth_none : (m : Parts) (g : List Row) → Growth m g g

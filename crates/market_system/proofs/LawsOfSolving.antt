@@ -7,7 +7,7 @@ use Rattle.market_system.proofs.GrowthLaws.{beyond_is_new, growth_none, growth_m
 use Rattle.market_system.proofs.MarketPoints.{is_system_of, points_are}
 use Rattle.market_system.proofs.SolvedMarkets.{solved_best, solved_block, solved_proper, solved_supports}
 use Rattle.market_system.proofs.StuckMarkets.{stuck_bound, stuck_bound_alone, stuck_shows, stuck_proper, stuck_of_choice}
-use Rattle.market_system.proofs.VariableLaws.{from_places}
+use Rattle.market_model.proofs.RowMembers.{Contains-from_places}
 
 pub law_of_the_system : LawOfTheSystem
 law_of_the_system m t market = is_system_of m (rows_apart m (names_apart m market)) t
@@ -22,7 +22,7 @@ law_of_the_solved m t h market are choice solved =
       best = solved_best m names market t h choice are solved;
       proper = solved_proper m names market t h choice are solved;
       supported = solved_supports m names market t h choice are solved;
-      blocks = λ j c. solved_block m names market t h choice are solved j (from_places (length m.blocks) j c);
+      blocks = λ j c. solved_block m names market t h choice are solved j (Contains-from_places (length m.blocks) j c);
     }
 
 pub law_of_the_stuck : LawOfTheStuck

@@ -34,16 +34,18 @@ use Rattle.market_model.proofs.MarketSums.{block_bus-in, fixed_part, injection-b
 use Rattle.market_model.proofs.PlaceSums.{gather_times, places_all}
 use Rattle.market_model.proofs.RoomLemmas.{listed-inside}
 use Rattle.market_model.proofs.RowLaws.{along, law_of_the_flows, unit_factor-parts}
+use Rattle.market_model.proofs.RowMembers.{Contains-from_places}
+use Rattle.market_model.proofs.ReserveSums.{reserve-by_offers}
 use Rattle.market_system.specs.declared.variables.Variable.{Variable}
 use Rattle.market_system.specs.declared.variables.Variable.TheVariants.{Block, Balance, Limit, Over, Under, Offer, Need, Room}
 use Rattle.market_system.specs.MarketSystem.{balance_name, row_name, over_name, under_name, offer_name, need_name, room_name, taken_in_order, at_unit, block_sign, residual_demand, block_coefficient, least_added, most_added, most_reserve, name, variable_of, system_of, point_dispatch, IsVariableOf}
 use Rattle.market_system.specs.SolvedLaws.{AreRows, AreTaken, PointsAreDispatches}
 use Rattle.market_system.proofs.RowSums.{sum_by-in_order}
 use Rattle.market_system.proofs.SoftRows.{excess-parts, kept_between, kept_where, kept_within, most_excess_least, part_most, spread_over, spread_under, spread_within}
-use Rattle.market_system.proofs.RoomBounds.{reserve-by_offers, reserve-at_most_kept, room_used-by_columns, room_used-at_least}
+use Rattle.market_system.proofs.RoomBounds.{reserve-at_most_kept, room_used-by_columns, room_used-at_least}
 use Rattle.market_system.proofs.RowOrder.{RowsApart, AreInOrder, in_order-in, in_order-from, rooms_in_order-in, rooms_in_order-from}
 use Rattle.market_system.proofs.SystemLaws.{signed-times}
-use Rattle.market_system.proofs.VariableLaws.{row_listed, column_listed, excess_listed, balance_in as balance_among, limit_in, need_in as need_among, room_in as room_among, from_places, by_variable, variable_in, variable_at, soft, over_in, under_in, column_in, offer_in as offer_column, sum-variables, taken-in_order, is_system_over, coefficient-at, price-at, low-at, high-at, activity-balance, activity-limit, activity-need, activity-room, objective-at}
+use Rattle.market_system.proofs.VariableLaws.{row_listed, column_listed, excess_listed, balance_in as balance_among, limit_in, need_in as need_among, room_in as room_among, by_variable, variable_in, variable_at, soft, over_in, under_in, column_in, offer_in as offer_column, sum-variables, taken-in_order, is_system_over, coefficient-at, price-at, low-at, high-at, activity-balance, activity-limit, activity-need, activity-room, objective-at}
 
 -- ---- what blocks add to the flow of a row
 -- an output by that of nothing accepted
@@ -335,17 +337,17 @@ module _ (m : Parts) (apart : RowsApart m) (g : Taken) where
     -- a sum over the blocks, and one over the offers
     of_blocks : (f v : ℕ → Fraction) (x : Dispatch) → ((j : ℕ) → j < length m.blocks → v j ≡ accepted x j)
         → sum_by (λ j. f j *ℚ v j) (places (length m.blocks)) ≡ sum_by (λ j. f j *ℚ accepted x j) (places (length m.blocks))
-    of_blocks f v x same = sum_by-members (λ j. f j *ℚ v j) (λ j. f j *ℚ accepted x j) (places (length m.blocks)) (λ j c. ap (λ t. f j *ℚ t) (same j (from_places (length m.blocks) j c)))
+    of_blocks f v x same = sum_by-members (λ j. f j *ℚ v j) (λ j. f j *ℚ accepted x j) (places (length m.blocks)) (λ j c. ap (λ t. f j *ℚ t) (same j (Contains-from_places (length m.blocks) j c)))
 
     of_offers : (f v : ℕ → Fraction) (x : Dispatch) → ((n : ℕ) → n < length m.reserve.offers → v (offer_name m n) ≡ reserved x n)
         → sum_by (λ n. f n *ℚ v (offer_name m n)) (offer_places m) ≡ sum_by (λ n. f n *ℚ reserved x n) (offer_places m)
     of_offers f v x same =
-        sum_by-members (λ n. f n *ℚ v (offer_name m n)) (λ n. f n *ℚ reserved x n) (offer_places m) (λ n c. ap (λ t. f n *ℚ t) (same n (from_places (length m.reserve.offers) n c)))
+        sum_by-members (λ n. f n *ℚ v (offer_name m n)) (λ n. f n *ℚ reserved x n) (offer_places m) (λ n c. ap (λ t. f n *ℚ t) (same n (Contains-from_places (length m.reserve.offers) n c)))
 
     -- the reserve in all is that of the offers' columns
     all_offers : (v : ℕ → Fraction) (x : Dispatch) → ((n : ℕ) → n < length m.reserve.offers → v (offer_name m n) ≡ reserved x n) → sum_by (λ n. v (offer_name m n)) (offer_places m) ≡ reserve m x
     all_offers v x same =
-        sum_by-members (λ n. v (offer_name m n)) (reserved x) (offer_places m) (λ n c. same n (from_places (length m.reserve.offers) n c)) ∙ sym (reserve-by_offers m x)
+        sum_by-members (λ n. v (offer_name m n)) (reserved x) (offer_places m) (λ n c. same n (Contains-from_places (length m.reserve.offers) n c)) ∙ sym (reserve-by_offers m x)
 
     pub point-balance : (x : Dispatch) → point_of x (balance_name m) ≡ balance m x +ℚ residual_demand m
     point-balance x =
@@ -594,8 +596,8 @@ module _ (m : Parts) (apart : RowsApart m) (g : Taken) where
         point_meets x,
         point_within x f,
         point_welfare are.limits x,
-        λ j c. point-block x j (from_places (length m.blocks) j c),
-        λ n c. point-offer x n (from_places (length m.reserve.offers) n c),
+        λ j c. point-block x j (Contains-from_places (length m.blocks) j c),
+        λ n c. point-offer x n (Contains-from_places (length m.reserve.offers) n c),
       );
       dispatch = λ v meets within. (dispatch_feasible v meets are.limits.rows are.rooms within, dispatch_welfare v meets are.limits within);
     }

@@ -37,11 +37,12 @@ use Rattle.market_model.specs.LimitRows.{rows, row_id, loses_unit, lost_unit, ro
 use Rattle.market_model.specs.Optimality.{Taken, bus_price, block_value, energy_worth, congestion_terms, names_row, named_rows, own_price, own_terms, price_terms, net_shadow_price, penalty_terms, unit_price, value_terms as block_terms, welfare_terms}
 use Rattle.market_model.specs.Reserves.{no_reserve, reserved_term}
 use Rattle.market_model.specs.Settlement.{surplus_terms}
-use Rattle.market_model.specs.SumTables.{injection_at, balance_from_bus, balance_of_all, flow_of_line, limited_line, limited_row, output_of_lost, limited_unit, FlowSum, flow_in_balance, flow_in_limits, output_of_unit, BusPriceSum, own_price_of_unit, PriceSum, price_of_bus, price_of_unit, congestion_at, price_at, ReserveSum, reserve_of_all, reserve_in_room, used_of_room, WorthSum, energy_of_unit, reserve_of_unit, farkas_bound_of_all, left_of_all, paid_by_load, paid_to_unit, rent_of_row, paid_for_reserve, SettledSum, paid_output, paid_price, demand_of_bus, payment, paid_row}
+use Rattle.market_model.specs.SumTables.{injection_at, balance_from_bus, balance_of_all, flow_of_line, limited_line, limited_row, output_of_lost, limited_unit, FlowSum, flow_in_balance, flow_in_limits, output_of_unit, BusPriceSum, own_price_of_unit, PriceSum, price_of_bus, price_of_unit, congestion_at, price_at, ReserveSum, reserve_of_all, reserve_in_room, used_of_room, WorthSum, energy_of_unit, reserve_of_unit, farkas_bound_of_all, left_of_all, paid_by_load, paid_to_unit, rent_of_row, paid_for_reserve, SettledSum, paid_output, paid_price, demand_of_bus, payment, paid_row, reserve_accepted, welfare_of_all}
 use Rattle.market_model.proofs.EnergyAlone.{no_offers, no_places, not_listed, no_units, no_unit, no_need, worth_is_price, welfare_alone}
 use Rattle.market_model.proofs.FarkasLaw.{farkas_terms-bare}
 use Rattle.market_model.proofs.RowLaws.{no_rows, no_row, bus_price-bare, congestion-bare, unit_price-bare}
-use Rattle.market_model.proofs.RowMembers.{lost_unit-in}
+use Rattle.market_model.proofs.RowMembers.{lost_unit-in, Contains-from_places}
+use Rattle.market_model.proofs.UnitPrices.{surplus_terms-made}
 use Rattle.market_system.specs.MarketSystem.{balance_name, need_name, in_order, is_among, rooms_in_order, taken_in_order, system_over, system_of, point_dispatch, choice_dispatch, choice_duals}
 use Rattle.market_system.specs.MarketNumbers.{ClearingNumber, of_kind, of_solving, of_money, is_turned, MarketNumber, IsRightChoice, IsInjecting, IsFarkasOf}
 use Rattle.market_system.specs.MarketNumbers.{NamedSum, offset_of, factor_of, of_flow, of_reserve, output_of, of_price, of_worth, of_welfare, of_settlement, of_farkas_price, of_farkas_worth, farkas_bound_of}
@@ -49,7 +50,6 @@ use Rattle.market_system.specs.MarketNumbers.{of_system, of_sum, is_fixed, is_up
 use Rattle.market_system.specs.ModestMarkets.{IsModest, LawOfModestMarkets, modest_mw, modest_price}
 use Rattle.market_system.specs.Growth.{GrowsBy}
 use Rattle.market_system.proofs.SystemLaws.{nothing, variable_in}
-use Rattle.market_system.proofs.VariableLaws.{from_places}
 use Rattle.market_system.proofs.ModestNumbers.{IsWholeWithin, whole_within, nil_within, wider, neg_within, plus_within, times_within, same_within, number_fits, TermsWithin, append_within, map_within, prefix_within}
 use Rattle.market_system.proofs.ModestChoices.{entry_within, energy_within}
 use Rattle.market_system.proofs.ModestMarkets.{most_injection, most_balance, most_value, most_output, most_of, signed_within, load_within, shunt_within, fixed_within, up_within, down_within, quantity_within, price_within, block_value_within, injection_within, balance_within, output_terms_within, output_within, demand_within, empty_small, empty_balance_within, dispatch_small, system_within, output_count, output_each}
@@ -166,7 +166,7 @@ module _ (m : Parts) (market : IsMarket m) (lines : m.lines ≡ []) (energy : m.
         (prefix_within 4001 most_balance k (Product d.energy (balance m (empty m)) ∷ map weighed (places (length m.blocks)))
         (Prim.omega (arith, length-map (places (length m.blocks)) weighed, length-range_with_len 0 (length m.blocks), market.block_count)) (
           times_within 1 most_balance d.energy (balance m (empty m)) (farkas_energy_within d f) (empty_balance_within m market modest),
-          map_within most_balance weighed (places (length m.blocks)) (λ j c. let lt = from_places (length m.blocks) j c in
+          map_within most_balance weighed (places (length m.blocks)) (λ j c. let lt = Contains-from_places (length m.blocks) j c in
               wider modest_mw most_balance (part_above (block_weight m d j) *ℚ quantity m j) (Prim.omega arith)
               (times_within 1 modest_mw (part_above (block_weight m d j)) (quantity m j)
               (part_above_within 1 (block_weight m d j) (signed_within 1 (block_at m j).side (energy_worth m d (block_at m j).unit) (worth_within 1 d (block_at m j).unit (farkas_energy_within d f))))
@@ -200,7 +200,7 @@ module _ (m : Parts) (market : IsMarket m) (lines : m.lines ≡ []) (energy : m.
 
     -- nothing of reserve counts
     reserve_sum_within : (x : Dispatch) (k : ℕ) (terms : List Term) → ReserveSum m x terms → IsWholeWithin most_value (prefix k terms)
-    reserve_sum_within x k terms reserve_of_all = subst (λ (ns : List ℕ). IsWholeWithin most_value (prefix k (map (reserved_term x) ns))) (sym (no_places m energy))
+    reserve_sum_within x k terms (reserve_accepted same reserve_of_all) = subst (λ (ns : List ℕ). IsWholeWithin most_value (prefix k (map (reserved_term x) ns))) (sym (no_places m energy))
         (wider (0 * 1) most_value (prefix k []) (Prim.omega arith) (prefix_within 0 1 k [] (Prim.omega arith) tt))
     reserve_sum_within x k terms (reserve_in_room same (used_of_room u c)) = absurd (no_unit m energy u c)
 
@@ -219,7 +219,7 @@ module _ (m : Parts) (market : IsMarket m) (lines : m.lines ≡ []) (energy : m.
     sum_within _ terms k (output_of same best (output_of_unit u lt)) = wider most_output most_value (prefix k terms) (Prim.omega arith) (output_terms_within m market modest (choice_dispatch m g h) (best_small best) u k lt)
     sum_within _ terms k (of_price same best price) = price_sum_within modest_price (4000 * modest_price) k (choice_duals m g h) terms price (Prim.omega arith) price_is_modest
     sum_within _ terms k (of_worth same best worth) = absurd (no_worth (choice_duals m g h) terms worth)
-    sum_within _ _ k (of_welfare best) = tt
+    sum_within _ terms k (of_welfare same best part) = tt
     sum_within _ terms k (of_settlement same best part) = tt
     sum_within _ terms k (of_farkas_price d same f price) = price_sum_within 1 4000 k d terms price (Prim.omega arith) (farkas_energy_within d f)
     sum_within _ terms k (of_farkas_worth d same f worth) = absurd (no_worth d terms worth)
@@ -277,29 +277,29 @@ module _ (m : Parts) (market : IsMarket m) (lines : m.lines ≡ []) (energy : m.
     -- the first terms of the welfare, and of what is settled
     welfare_each : IsRightChoice m g h → TermsWithin (modest_price * most_output) (block_terms m (choice_dispatch m g h))
     welfare_each best = map_within (modest_price * most_output) (λ j. Product (block_value m j) (accepted (choice_dispatch m g h) j)) (places (length m.blocks))
-        (λ j c. let lt = from_places (length m.blocks) j c in
+        (λ j c. let lt = Contains-from_places (length m.blocks) j c in
         times_within modest_price most_output (block_value m j) (accepted (choice_dispatch m g h) j) (block_value_within m market modest j lt)
         (wider modest_mw most_output (accepted (choice_dispatch m g h) j) (Prim.omega arith) (best_small best j lt)))
 
-    surplus_each : IsRightChoice m g h → TermsWithin (modest_price * most_output) (surplus_terms m (choice_dispatch m g h) (choice_duals m g h))
+    abbrev paying : ℕ → Term
+    paying i = Plain (bus_price m (choice_duals m g h) i *ℚ demand m i)
+
+    abbrev paid : ℕ → Term
+    paid u = Plain (neg_ℚ (own_price m (choice_duals m g h) (bus_price m (choice_duals m g h)) u *ℚ output m (choice_dispatch m g h) u))
+
+    surplus_each : IsRightChoice m g h → TermsWithin (modest_price * most_output) (map paying (places (length m.buses)) ++ map paid (places (length m.units)))
     surplus_each best = append_within (modest_price * most_output) (map paying (places (length m.buses))) (map paid (places (length m.units)))
         (map_within (modest_price * most_output) paying (places (length m.buses)) (λ i c.
-        times_within modest_price most_output (bus_price m d i) (demand m i) (bus_price_within modest_price d i price_is_modest) (demand_within m market modest i (from_places (length m.buses) i c))))
+        times_within modest_price most_output (bus_price m d i) (demand m i) (bus_price_within modest_price d i price_is_modest) (demand_within m market modest i (Contains-from_places (length m.buses) i c))))
         (map_within (modest_price * most_output) paid (places (length m.units)) (λ u c.
-        times_within modest_price most_output (neg_ℚ (own_price m d (bus_price m d) u)) (output m x u) (neg_within modest_price (own_price m d (bus_price m d) u) (own_price_within modest_price d u price_is_modest))
-        (output_within m market modest x (best_small best) u (from_places (length m.units) u c))))
+        neg_within (modest_price * most_output) (own_price m d (bus_price m d) u *ℚ output m x u) (times_within modest_price most_output (own_price m d (bus_price m d) u) (output m x u) (own_price_within modest_price d u price_is_modest)
+        (output_within m market modest x (best_small best) u (Contains-from_places (length m.units) u c)))))
       where
         x : Dispatch
         x = choice_dispatch m g h
 
         d : Duals Fraction
         d = choice_duals m g h
-
-        paying : ℕ → Term
-        paying i = Product (bus_price m d i) (demand m i)
-
-        paid : ℕ → Term
-        paid u = Product (neg_ℚ (own_price m d (bus_price m d) u)) (output m x u)
 
     abbrev Fits : List Term → Type 0
     Fits terms = (k : ℕ) → IsWholeWithin most (prefix k terms)
@@ -315,19 +315,19 @@ module _ (m : Parts) (market : IsMarket m) (lines : m.lines ≡ []) (energy : m.
         (welfare_each best) (Prim.omega arith))
 
     surplus_fits : IsRightChoice m g h → Fits (surplus_terms m (choice_dispatch m g h) (choice_duals m g h))
-    surplus_fits best =
-        sums_within (surplus_terms m (choice_dispatch m g h) (choice_duals m g h)) (modest_price * most_output)
+    surplus_fits best = subst Fits (sym (surplus_terms-made m (choice_dispatch m g h) (bus_price m (choice_duals m g h)) (choice_duals m g h)))
+        (sums_within (map paying (places (length m.buses)) ++ map paid (places (length m.units))) (modest_price * most_output)
         (Prim.omega (
           arith,
           market.bus_count,
           market.unit_count,
-          length-append (map (λ i. Product (bus_price m (choice_duals m g h) i) (demand m i)) (places (length m.buses))) (map (λ u. Product (neg_ℚ (own_price m (choice_duals m g h) (bus_price m (choice_duals m g h)) u)) (output m (choice_dispatch m g h) u)) (places (length m.units))),
-          length-map (places (length m.buses)) (λ i. Product (bus_price m (choice_duals m g h) i) (demand m i)),
-          length-map (places (length m.units)) (λ u. Product (neg_ℚ (own_price m (choice_duals m g h) (bus_price m (choice_duals m g h)) u)) (output m (choice_dispatch m g h) u)),
+          length-append (map paying (places (length m.buses))) (map paid (places (length m.units))),
+          length-map (places (length m.buses)) paying,
+          length-map (places (length m.units)) paid,
           length-range_with_len 0 (length m.buses),
           length-range_with_len 0 (length m.units),
         ))
-        (surplus_each best) (Prim.omega arith)
+        (surplus_each best) (Prim.omega arith))
 
     no_named : (d : Duals Fraction) (r : Row) → Contains (named_rows m d) r → ⊥
     no_named d r c = no_row m r bare (Contains-from_filter (λ (s : Row). names_row d.limits (row_id m s)) (rows m) r c).0
@@ -363,7 +363,7 @@ module _ (m : Parts) (market : IsMarket m) (lines : m.lines ≡ []) (energy : m.
     named_fits _ terms (output_of same best part) = tt
     named_fits _ terms (of_price same best price) = tt
     named_fits _ terms (of_worth same best worth) = tt
-    named_fits _ _ (of_welfare best) = welfare_fits best
+    named_fits _ terms (of_welfare same best welfare_of_all) = welfare_fits best
     named_fits _ terms (of_settlement same best part) = settled_fits best terms part
     named_fits _ terms (of_farkas_price d same f price) = tt
     named_fits _ terms (of_farkas_worth d same f worth) = tt

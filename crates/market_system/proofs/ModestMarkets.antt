@@ -24,12 +24,13 @@ use Rattle.market_model.specs.Optimality.{price, block_value}
 use Rattle.market_model.specs.Reserves.{no_reserve}
 use Rattle.market_model.proofs.EnergyAlone.{no_offers, not_listed}
 use Rattle.market_model.proofs.WholeDispatch.{from_whole-≤ℚ}
+use Rattle.market_model.proofs.RowMembers.{Contains-from_places}
 use Rattle.market_system.specs.MarketSystem.{residual_demand, low, high, system_of, choice_dispatch, IsVariableOf}
 use Rattle.market_system.specs.declared.variables.Variable.{Variable}
 use Rattle.market_system.specs.declared.variables.Variable.TheVariants.{Block, Balance, Limit, Over, Under, Offer, Need, Room}
 use Rattle.market_system.specs.ModestMarkets.{IsModest, IsModestBus, IsModestUnit, IsModestBlock, modest_mw, modest_price}
 use Rattle.market_system.proofs.SystemLaws.{nothing, none_ordered, columns_are, column_below, variables_are, variable_in, the_row, is_system}
-use Rattle.market_system.proofs.VariableLaws.{from_places, by_variable, coefficient-at, price-at, low-at, high-at}
+use Rattle.market_system.proofs.VariableLaws.{by_variable, coefficient-at, price-at, low-at, high-at}
 use Rattle.market_system.proofs.ModestNumbers.{IsWholeWithin, whole_within, nil_within, wider, neg_within, times_within, TermsWithin, append_within, map_within, prefix_within, length-filter_le}
 use Rattle.market_system.proofs.ModestChoices.{block_sign_within, entry_within, column_within}
 
@@ -74,7 +75,7 @@ terms_of_some : (f : ℕ → Term) (p : ℕ → Bool) (n : ℕ) → length (map 
 terms_of_some f p n = Prim.omega (arith, length-map (filter p (places n)) f, length-filter_le p (places n), length-range_with_len 0 n)
 
 some_below : (p : ℕ → Bool) (n j : ℕ) → Contains (filter p (places n)) j → j < n
-some_below p n j c = let r = Contains-from_filter p (places n) j c in from_places n j r.0
+some_below p n j c = let r = Contains-from_filter p (places n) j c in Contains-from_places n j r.0
 
 module _ (m : Parts) (market : IsMarket m) (modest : IsModest m) where
   pub load_within : (i : ℕ) → i < length m.buses → IsWholeWithin modest_mw (whole (bus_at m i).pd)
@@ -135,7 +136,7 @@ module _ (m : Parts) (market : IsMarket m) (modest : IsModest m) where
     balance_each : TermsWithin most_injection (balance_terms m x)
     unfolding injection
     balance_each = map_within most_injection (λ i. Plain (injection m x i)) (places (length m.buses))
-        (λ i c. let lt = from_places (length m.buses) i c in total_within 5002 modest_mw (injection_terms m x i) (injection_count i) (injection_each i lt))
+        (λ i c. let lt = Contains-from_places (length m.buses) i c in total_within 5002 modest_mw (injection_terms m x i) (injection_count i) (injection_each i lt))
 
     pub balance_within : (k : ℕ) → IsWholeWithin most_balance (prefix k (balance_terms m x))
     balance_within k = prefix_within 1000 most_injection k (balance_terms m x) (Prim.omega (arith, terms_of_places (λ i. Plain (injection m x i)) (length m.buses), market.bus_count)) balance_each

@@ -8,7 +8,7 @@ use Rattle.fraction_theory.specs.Fraction.{Fraction, whole, neg_ℚ, ◌+ℚ◌,
 use Rattle.fraction_theory.specs.Sums.{Term, Plain, Product, term_value, prefix, total}
 use Rattle.fraction_theory.proofs.Ring.{by_ring, by_ring1, at, pnil, pone, pneg, ◌⊕◌, ◌⊗◌}
 use Rattle.fraction_theory.proofs.FieldLaws.{ring_ℚ}
-use Rattle.fraction_theory.specs.Signs.{sign_of, where_above, part_above}
+use Rattle.fraction_theory.specs.Signs.{sign_of, where_above}
 use Rattle.fraction_theory.specs.declared.Sign.{Sign}
 use Rattle.fraction_theory.specs.declared.Sign.TheVariants.{Below, Zero, Above}
 use Rattle.fraction_theory.proofs.SumLaws.{prefix-more, prefix-all}
@@ -37,14 +37,14 @@ use Rattle.market_model.specs.declared.limits.Cause.TheVariants.{Base, Branch, U
 use Rattle.market_model.specs.LimitRows.{IsCauseOf, carried, rows, loses_unit, lost_output, lost_unit, most_flow, picked_up_terms, pickup_factor, pickup_terms, pickups_of, row_pickup, shift_factor, share_value, taker_terms, line_offset, line_terms, line_flow, flow_terms, terms_under, row_factor, factor_terms, flow}
 use Rattle.market_model.specs.Market.{IsMarket, IsPickup}
 use Rattle.market_model.specs.NamedSums.{SameSize, term_at, IsNextTerm, IsSumStep, IsRefusedIn, IsRefusal}
-use Rattle.market_model.specs.Optimality.{Taken, net_shadow_price, up_of, down_of, bus_price, own_terms, unit_price, room_price, room_price_in, worth_terms, energy_worth, reserve_worth_terms, reserve_worth, welfare_terms}
+use Rattle.market_model.specs.Optimality.{Taken, net_shadow_price, up_of, down_of, bus_price, own_terms, unit_price, room_price, room_price_in, worth_terms, energy_worth, reserve_worth_terms, reserve_worth}
 use Rattle.market_model.specs.Reserves.{offers_among, offers_reserve, offer_places, offers_of, reserve_need, reserve_units, reserved_term, room}
 use Rattle.market_model.specs.Infeasibility.{block_most, block_weight, offer_most, offer_weight, limit_terms, reserve_left_terms, nothing_terms, farkas_terms}
-use Rattle.market_model.specs.SumTables.{injection_at, balance_from_bus, balance_of_all, flow_of_line, flow_of_row, output_of_lost, limited_line, limited_unit, limited_row, FlowSum, flow_in_balance, flow_in_limits, offset_of_row, pickup_of_row, factor_at_bus, factor_of_pickup, output_of_unit, BusPriceSum, own_price_of_unit, PickupSum, PriceSum, price_of_bus, price_of_unit, congestion_at, price_at, ReserveSum, reserve_of_all, reserve_in_room, used_of_room, WorthSum, energy_of_unit, reserve_of_unit, farkas_bound_of_all}
+use Rattle.market_model.specs.SumTables.{injection_at, balance_from_bus, balance_of_all, flow_of_line, flow_of_row, output_of_lost, limited_line, limited_unit, limited_row, FlowSum, flow_in_balance, flow_in_limits, offset_of_row, pickup_of_row, factor_at_bus, factor_of_pickup, output_of_unit, BusPriceSum, own_price_of_unit, PickupSum, PriceSum, price_of_bus, price_of_unit, congestion_at, price_at, ReserveSum, reserve_of_all, reserve_in_room, used_of_room, WorthSum, energy_of_unit, reserve_of_unit, farkas_bound_of_all, factor_of_bus, reserve_accepted}
 use Rattle.market_model.proofs.MarketSums.{block_unit-in, unit_bus-in}
 use Rattle.market_model.proofs.ReserveSums.{offer_unit-in}
 use Rattle.market_model.proofs.RoomLemmas.{listed-inside, offers-listed}
-use Rattle.market_model.proofs.RowMembers.{at_places}
+use Rattle.market_model.proofs.RowMembers.{at_places, Contains-from_places}
 use Rattle.market_system.specs.Growth.{Growth}
 use Rattle.market_system.specs.MarketNumbers.{ClearingNumber, of_kind, of_money, of_solving, is_turned, IsInjecting, IsFarkasOf, NamedSum, offset_of, factor_of, of_flow, of_reserve, output_of, of_price, of_worth, of_welfare, of_settlement, of_farkas_price, of_farkas_worth, farkas_bound_of, MarketNumber, of_system, of_sum, is_most_flow, is_line_offset, is_shift, is_loss, is_share, is_up, is_need, is_up_dual, is_down_dual, is_farkas_energy, is_farkas_up, is_farkas_down, is_farkas_reserve, is_farkas_room, of_opposite}
 use Rattle.market_system.specs.MarketSystem.{IsVariableOf, high, name, system_of, taken_in_order, choice_dispatch, choice_duals}
@@ -53,7 +53,7 @@ use Rattle.market_system.specs.declared.variables.Variable.TheVariants.{Block, O
 use Rattle.market_system.specs.PairLaw.{LawOfThePairs}
 use Rattle.market_system.proofs.DualLists.{rows_apart}
 use Rattle.market_system.proofs.RowOrder.{AreInOrder}
-use Rattle.market_system.proofs.VariableLaws.{from_places, high-at, taken-in_order, variable_in}
+use Rattle.market_system.proofs.VariableLaws.{high-at, taken-in_order, variable_in}
 use Rattle.market_system.specs.WorkingPairs.{IsRangeOf}
 
 -- ---- numbers of any sort that count with either sign
@@ -400,7 +400,7 @@ module _ (m : Parts) (taken : List Row) (g : Taken) (reached : Growth m taken g.
 
   -- ---- reserve
   reserves_scaled : (x : Dispatch) (terms : List Term) → ReserveSum m x terms → AreScaled Quantity terms
-  reserves_scaled x terms reserve_of_all = scaled_map Quantity (reserved_term x) (offer_places m) (λ n c. tt)
+  reserves_scaled x terms (reserve_accepted same reserve_of_all) = scaled_map Quantity (reserved_term x) (offer_places m) (λ n c. tt)
   reserves_scaled x terms (reserve_in_room same (used_of_room u k)) =
       scaled_append Quantity (map (block_term m x) (blocks_of m u)) (map (reserved_term x) (offers_of m u))
       (scaled_map Quantity (block_term m x) (blocks_of m u) (λ j c. tt))
@@ -418,7 +418,7 @@ module _ (m : Parts) (taken : List Row) (g : Taken) (reached : Growth m taken g.
     bus_prices_scaled : (i : ℕ) → i < length m.buses → (terms : List Term) → BusPriceSum m d i terms → AreScaled kind terms
     unfolding row_factor
     bus_prices_scaled i lt terms congestion_at = scaled_map kind (λ r. Product (neg_ℚ (net_shadow_price m d r)) (row_factor m r i)) (rows m)
-        (λ r c. inr (opposite_net r c, whole_sum Factor (factor_terms m r i) (factor_of r _ c (factor_at_bus i lt))))
+        (λ r c. inr (opposite_net r c, whole_sum Factor (factor_terms m r i) (factor_of r _ c (factor_of_bus _ (factor_at_bus i lt)))))
     bus_prices_scaled i lt terms price_at = (tt, (tt, tt))
 
     prices_scaled : (terms : List Term) → PriceSum m d terms → AreScaled kind terms
@@ -514,13 +514,13 @@ module _ (m : Parts) (taken : List Row) (g : Taken) (reached : Growth m taken g.
     bound_scaled =
         scaled_append Quantity (nothing_terms m d ++ map (block_most m d) (places (length m.blocks))) (map (offer_most m d) (offer_places m))
         (scaled_append Quantity (nothing_terms m d) (map (block_most m d) (places (length m.blocks))) nothing_scaled
-        (scaled_map Quantity (block_most m d) (places (length m.blocks)) (λ j c. block_scaled j (from_places (length m.blocks) j c))))
-        (scaled_map Quantity (offer_most m d) (offer_places m) (λ n c. offer_scaled n (from_places (length m.reserve.offers) n c)))
+        (scaled_map Quantity (block_most m d) (places (length m.blocks)) (λ j c. block_scaled j (Contains-from_places (length m.blocks) j c))))
+        (scaled_map Quantity (offer_most m d) (offer_places m) (λ n c. offer_scaled n (Contains-from_places (length m.reserve.offers) n c)))
 
   -- ---- every named sum
   by_sum : IsMarket m → (kind : Option Kind) (terms : List Term) → NamedSum m g h kind terms → IsRefusedIn terms bound p → IsRangeOf m taken bound p
   by_sum market _ terms (offset_of r same c offset_of_row) = let s = at_places m market r c in by_steps Quantity terms (offset_of r terms c offset_of_row) (under_scaled Quantity (line_offset m) (λ l inside. is_line_offset l inside) r.line r.cause s.0 s.1)
-  by_sum market _ terms (factor_of r same c (factor_at_bus i lt)) = let s = at_places m market r c in by_steps Factor terms (factor_of r terms c (factor_at_bus i lt)) (under_scaled Factor (λ k. shift_factor m k i) (λ k inside. is_shift k i inside lt) r.line r.cause s.0 s.1)
+  by_sum market _ terms (factor_of r same c (factor_of_bus also (factor_at_bus i lt))) = let s = at_places m market r c in by_steps Factor terms (factor_of r terms c (factor_of_bus terms (factor_at_bus i lt))) (under_scaled Factor (λ k. shift_factor m k i) (λ k inside. is_shift k i inside lt) r.line r.cause s.0 s.1)
   by_sum market _ terms (factor_of r same c (factor_of_pickup also part)) = by_steps Factor terms (factor_of r terms c (factor_of_pickup terms part)) (pickup_scaled market r c terms part)
   by_sum market _ terms (of_flow x same injecting flow) = by_steps Quantity terms (of_flow x terms injecting flow) (flows_scaled market x injecting terms flow)
   by_sum market _ terms (of_reserve x same injecting part) = by_steps Quantity terms (of_reserve x terms injecting part) (reserves_scaled x terms part)
@@ -528,7 +528,7 @@ module _ (m : Parts) (taken : List Row) (g : Taken) (reached : Growth m taken g.
       by_steps Quantity terms (output_of terms best (output_of_unit u lt)) (tt, scaled_map Quantity (block_term m (choice_dispatch m g h)) (blocks_of m u) (λ j c. tt))
   by_sum market _ terms (of_price same best price) = by_steps Price terms (of_price terms best price) (prices_scaled Price (choice_duals m g h) is_up_dual is_down_dual terms price)
   by_sum market _ terms (of_worth same best worth) = by_steps Price terms (of_worth terms best worth) (worths_scaled Price (choice_duals m g h) terms worth)
-  by_sum market _ _ (of_welfare best) = by_settled (welfare_terms m (choice_dispatch m g h)) (of_welfare best)
+  by_sum market _ terms (of_welfare same best part) = by_settled terms (of_welfare terms best part)
   by_sum market _ terms (of_settlement same best part) = by_settled terms (of_settlement terms best part)
   by_sum market _ terms (of_farkas_price d same f price) =
       by_steps Factor terms (of_farkas_price d terms f price) (prices_scaled Factor d (λ r c. is_farkas_up d r f c) (λ r c. is_farkas_down d r f c) terms price)

@@ -27,6 +27,7 @@ use Rattle.market_model.specs.Dispatch.{Dispatch, injection, balance, accepted, 
 use Rattle.market_model.specs.Optimality.{Feasible, Supports, BlockSupported, welfare_terms}
 use Rattle.market_model.proofs.RowLaws.{no_rows, supported_bare, supports_bare, feasible_bare}
 use Rattle.market_model.specs.NamedSums.{term_at}
+use Rattle.market_model.specs.SumTables.{welfare_of_all}
 use Rattle.linear_system.specs.Choices.{Choice}
 use Rattle.market_system.specs.MarketNumbers.{IsRightChoice, NamedSum, of_welfare}
 use Rattle.market_system.specs.MarketSystem.{choice_dispatch, choice_duals}
@@ -179,7 +180,7 @@ sum_is_large = inl (Prim.omega arith)
 
 -- the welfare is a sum of money at that choice
 welfare_named : NamedSum big_buses nothing chosen None (welfare_terms big_buses all_sold)
-welfare_named = subst (λ (y : Dispatch). NamedSum big_buses nothing chosen None (welfare_terms big_buses y)) all_are_sold (of_welfare chosen-best)
+welfare_named = subst (λ (y : Dispatch). NamedSum big_buses nothing chosen None (welfare_terms big_buses y)) all_are_sold (of_welfare _ chosen-best welfare_of_all)
 
 pub big_buses-range : IsRangeOf big_buses [] (2 ^ 127 - 1) too_large
 big_buses-range =

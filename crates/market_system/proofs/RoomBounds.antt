@@ -1,7 +1,7 @@
 -- Reserve and rooms as sums over blocks and offers, and between which bounds these are: the blocks of a unit raise its output by no more than it
 -- has room for on either side.
 use Rattle.std.specs.Prelude.{◌≡◌, ℕ, ◌<◌, ◌==◌, ◌&&◌, Bool, true, false, pos, [], ◌∷◌, length, map, filter, if◌then◌else◌, refl}
-use Rattle.std.proofs.Common.{ap, ap₂, sym, ◌∙◌, subst}
+use Rattle.std.proofs.Common.{ap, ap₂, sym, ◌∙◌, subst, subst₂}
 use Rattle.fraction_theory.specs.Fraction.{Fraction, whole, neg_ℚ, ◌+ℚ◌, ◌-ℚ◌, ◌*ℚ◌}
 use Rattle.fraction_theory.specs.Order.{◌≤ℚ◌}
 use Rattle.fraction_theory.specs.Signs.{part_above}
@@ -22,14 +22,19 @@ use Rattle.market_model.specs.Reserves.{offer_places, offers_of, reserve, reserv
 use Rattle.market_model.specs.Stairs.{is_on_stair, offered, same_side, stair_in}
 use Rattle.market_model.proofs.MarketSums.{sum_by-neg}
 use Rattle.market_model.proofs.PlaceSums.{places_all, sum_by-places, sum_by-whole}
+use Rattle.market_model.proofs.ReserveSums.{reserve-by_offers}
 use Rattle.market_system.specs.MarketSystem.{at_unit, block_sign, most_reserve, reserve_offered}
 use Rattle.market_system.proofs.SystemLaws.{signed-times}
 
 -- ---- sums
--- what is accepted of reserve in all
-pub reserve-by_offers : (m : Parts) (x : Dispatch) → reserve m x ≡ sum_by (reserved x) (offer_places m)
-unfolding reserve
-reserve-by_offers m x = total-Plain (reserved x) (offer_places m)
+-- what is offered of reserve in all
+pub offered-by_offers : (m : Parts) → reserve_offered m ≡ sum_by (reserve_quantity m) (offer_places m)
+offered-by_offers m = total-Plain (reserve_quantity m) (offer_places m)
+
+-- the need's row may keep that
+pub offered_most : (m : Parts) → reserve_offered m ≤ℚ most_reserve m
+offered_most m = by_le1 (reserve_need m ∷ reserve_offered m ∷ part_above (reserve_offered m -ℚ reserve_need m) ∷ []) (at 1) (at 0 ⊕ at 2) pone (at 1 ⊕ pneg (at 0)) (at 2) NonNeg-one
+    (part_least (reserve_offered m -ℚ reserve_need m)).1 refl
 
 -- what blocks with these MW raise the output of a unit by, and what its offers with these MW take of its room
 abbrev pub raised_of : Parts → ℕ → (ℕ → Fraction) → Fraction
@@ -140,12 +145,9 @@ module _ (m : Parts) where
     -- no more reserve is accepted than is offered
     pub reserve-at_most : reserve m x ≤ℚ reserve_offered m
     reserve-at_most =
-        subst (λ a. a ≤ℚ reserve_offered m) (sym (reserve-by_offers m x))
+        subst₂ ◌≤ℚ◌ (sym (reserve-by_offers m x)) (sym (offered-by_offers m))
         (sum_by-≤ (reserved x) (reserve_quantity m) (offer_places m) (places_all (λ n. reserved x n ≤ℚ reserve_quantity m n) (length m.reserve.offers) is.reserve_within))
 
     -- so it is at most what the need's row is to keep
     pub reserve-at_most_kept : reserve m x ≤ℚ most_reserve m
-    reserve-at_most_kept =
-        ≤ℚ_trans (reserve m x) (reserve_offered m) (most_reserve m) reserve-at_most
-        (by_le1 (reserve_offered m ∷ reserve_need m ∷ part_above (reserve_offered m -ℚ reserve_need m) ∷ []) (at 0) (at 1 ⊕ at 2) pone (at 0 ⊕ pneg (at 1)) (at 2) NonNeg-one
-        (part_least (reserve_offered m -ℚ reserve_need m)).1 refl)
+    reserve-at_most_kept = ≤ℚ_trans (reserve m x) (reserve_offered m) (most_reserve m) reserve-at_most (offered_most m)

@@ -35,7 +35,7 @@ use Rattle.market_model.proofs.RoomLemmas.{listed-inside}
 use Rattle.market_model.proofs.RowLaws.{unit_price-by_factors}
 use Rattle.market_system.specs.declared.variables.Variable.TheVariants.{Block, Balance, Limit, Over, Under, Offer, Need, Room}
 use Rattle.market_system.specs.Growth.{BestFor}
-use Rattle.market_system.specs.MarketSystem.{low, balance_name, row_name, over_name, under_name, offer_name, need_name, room_name, at_row, at_unit, is_in, in_order, is_among, rooms_in_order, taken_in_order, block_sign, block_coefficient, most_reserve, reserve_offered, system_of, choice_dispatch, duals_by_cost, choice_duals}
+use Rattle.market_system.specs.MarketSystem.{low, balance_name, row_name, over_name, under_name, offer_name, need_name, room_name, at_row, at_unit, is_in, in_order, is_among, rooms_in_order, taken_in_order, block_sign, block_coefficient, system_of, choice_dispatch, duals_by_cost, choice_duals}
 use Rattle.market_system.specs.SolvedLaws.{AreTaken, SupportsFor, state_at}
 use Rattle.market_system.proofs.Clamps.{all_reach, room_low-blocks, room_low-offers, where_low, raised-low, raised-least, block_clamped-full, block_clamped-empty, offer_clamped-full, offer_clamped-empty, buys_fit}
 use Rattle.market_system.proofs.RowOrder.{RowsApart, AreInOrder, same_row-itself, same_row-not, is_in-in, is_in-from, is_among-from, in_order-in, in_order-filter, ordered-distinct}
@@ -43,8 +43,10 @@ use Rattle.market_system.proofs.DualLists.{NamesApart, rows_apart, takes_room, r
 use Rattle.market_system.proofs.MarketPoints.{point_of, point_meets, point_within, point_welfare, dispatch_at-accepted, dispatch_at-reserved, dispatch_reserve, dispatch_room, dispatch_welfare, dispatch_flow, dispatch_feasible, added_within, over_between, under_between}
 use Rattle.market_system.proofs.RowSums.{sum_by-alone}
 use Rattle.market_system.proofs.SoftRows.{kept_most, kept_nil, side_stands, side_unpriced}
-use Rattle.market_system.proofs.VariableLaws.{in_places, from_places, taken-in_order, is_system_over, column_in, offer_in, column_listed, excess_listed, variable_in, over_in, under_in, sum-rows, sum-variables, coefficient-at, price-at, low-at, high-at}
+use Rattle.market_system.proofs.VariableLaws.{from_places, taken-in_order, is_system_over, column_in, offer_in, column_listed, excess_listed, variable_in, over_in, under_in, sum-rows, sum-variables, coefficient-at, price-at, low-at, high-at}
+use Rattle.market_system.proofs.RoomBounds.{offered-by_offers, offered_most}
 use Rattle.market_model.specs.Overrun.{Within}
+use Rattle.market_model.proofs.RowMembers.{Contains-places, Contains-from_places}
 
 -- ---- differences by their sign
 less_below : (x y : Fraction) → x <ℚ y → (x -ℚ y) <ℚ nil
@@ -66,18 +68,13 @@ part_positive x l = elim (≤ℚ-or-<ℚ x nil) [
   | inr above ↦ above
 ]
 
--- the need's row may keep all that is offered
-pub offered_most : (m : Parts) → reserve_offered m ≤ℚ most_reserve m
-offered_most m = by_le1 (reserve_need m ∷ reserve_offered m ∷ part_above (reserve_offered m -ℚ reserve_need m) ∷ []) (at 1) (at 0 ⊕ at 2) pone (at 1 ⊕ pneg (at 0)) (at 2) NonNeg-one
-    (part_least (reserve_offered m -ℚ reserve_need m)).1 refl
-
 -- where other rows' limits are kept, duals that support a dispatch so far support it over all rows
 pub supports_by : (m : Parts) (g : List Row) (x : Dispatch) (d : Duals Fraction) → SupportsFor m g x d → ((r : Row) → Contains (rows m) r → ¬ (Contains g r) → Within (limit m r) (flow m x r)) → Supports m x d
 supports_by m g x d s kept = record { blocks = s.blocks; rows = λ r c. by r c (is_in g r) refl; offers = s.offers; need = s.need; rooms = s.rooms }
   where
     by : (r : Row) → Contains (rows m) r → (b : Bool) → is_in g r ≡ b → RowSupported m x d r
-    by r c true e = s.rows r c (inl (is_in-from g r e))
-    by r c false e = s.rows r c (inr (kept r c (λ k. let wrong : false ≡ true = sym e ∙ is_in-in g r k in absurd cc)))
+    by r c true e = s.rows r (c, inl (is_in-from g r e))
+    by r c false e = s.rows r (c, inr (kept r c (λ k. let wrong : false ≡ true = sym e ∙ is_in-in g r k in absurd cc)))
 
 -- ---- prices of duals that are made of costs by name
 module _ (m : Parts) (names : NamesApart m) (cost_of : ℕ → Fraction) (t : Taken) where
@@ -361,10 +358,10 @@ module _ (m : Parts) (names : NamesApart m) (market : IsMarket m) (t : Taken) wh
 
       -- ---- rooms and the need
       in_blocks_of : (u j : ℕ) → Contains (blocks_of m u) j → j < length m.blocks
-      in_blocks_of u j c = from_places (length m.blocks) j (Contains-from_filter (λ i. (block_at m i).unit == u) (places (length m.blocks)) j c).0
+      in_blocks_of u j c = Contains-from_places (length m.blocks) j (Contains-from_filter (λ i. (block_at m i).unit == u) (places (length m.blocks)) j c).0
 
       in_offers_of : (u n : ℕ) → Contains (offers_of m u) n → n < length m.reserve.offers
-      in_offers_of u n c = from_places (length m.reserve.offers) n (Contains-from_filter (λ i. (offer_at m i).unit == u) (offer_places m) n c).0
+      in_offers_of u n c = Contains-from_places (length m.reserve.offers) n (Contains-from_filter (λ i. (offer_at m i).unit == u) (offer_places m) n c).0
 
       room_value : (u : ℕ) → Contains (rooms_in_order m t.rooms) u → room_used m dispatch u ≡ value s h (room_name m u)
       room_value u c = dispatch_room m apart t market (value s h) solved.best.meets u c
@@ -379,7 +376,7 @@ module _ (m : Parts) (names : NamesApart m) (market : IsMarket m) (t : Taken) wh
       need_price = neg_ℚ (reduced s h (need_name m))
 
       is_taken : (u : ℕ) → u < length m.units → takes_room m t.rooms u ≡ true → Contains (rooms_in_order m t.rooms) u
-      is_taken u lt e = subst (λ ws. Contains ws u) (sym (rooms_in_order-places m t.rooms)) (Contains-filter (takes_room m t.rooms) (places (length m.units)) u (in_places (length m.units) u lt) e)
+      is_taken u lt e = subst (λ ws. Contains ws u) (sym (rooms_in_order-places m t.rooms)) (Contains-filter (takes_room m t.rooms) (places (length m.units)) u (Contains-places (length m.units) u lt) e)
 
       low_room : (u : ℕ) → u < length m.units → room_cost u <ℚ nil → Contains (rooms_in_order m t.rooms) u × (value s h (room_name m u) ≡ neg_ℚ (whole (unit_at m u).down))
       low_room u lt = by (takes_room m t.rooms u) refl
@@ -434,15 +431,15 @@ module _ (m : Parts) (names : NamesApart m) (market : IsMarket m) (t : Taken) wh
 
           low_by : room_cost (block_at m j).unit <ℚ nil → accepted dispatch j ≡ where_low (block_at m j).side (quantity m j)
           low_by l = low_blocks (block_at m j).unit (block_unit-in m market j lt) l j
-              (Contains-filter (λ i. (block_at m i).unit == (block_at m j).unit) (places (length m.blocks)) j (in_places (length m.blocks) j lt) (same_itself (block_at m j).unit))
+              (Contains-filter (λ i. (block_at m i).unit == (block_at m j).unit) (places (length m.blocks)) j (Contains-places (length m.blocks) j lt) (same_itself (block_at m j).unit))
 
       -- where a MW on the need costs more than 0, all that is offered is accepted
       all_reserved : m.reserve.listed ≡ true → need_price <ℚ nil → (n : ℕ) → n < length m.reserve.offers → reserved dispatch n ≡ reserve_quantity m n
       all_reserved e l n lt =
-          all_reach (reserved dispatch) (reserve_quantity m) (offer_places m) (λ i c. offer_most i (from_places (length m.reserve.offers) i c))
-          (subst (λ y. reserve_offered m ≤ℚ y)
+          all_reach (reserved dispatch) (reserve_quantity m) (offer_places m) (λ i c. offer_most i (Contains-from_places (length m.reserve.offers) i c))
+          (subst₂ ◌≤ℚ◌ (offered-by_offers m)
           (sym (stands_high (need_name m) (variable_in m over_all Need e) (opposite_below (reduced s h (need_name m)) l) ∙ high-at m over_all ordered Need e) ∙ sym (need_value e) ∙ reserve-by_offers m dispatch)
-          (offered_most m)) n (in_places (length m.reserve.offers) n lt)
+          (offered_most m)) n (Contains-places (length m.reserve.offers) n lt)
 
       offer_supported : (n : ℕ) → n < length m.reserve.offers → OfferSupported m dispatch duals n
       offer_supported n lt = record {
@@ -472,7 +469,7 @@ module _ (m : Parts) (names : NamesApart m) (market : IsMarket m) (t : Taken) wh
 
           low_by : room_cost (offer_at m n).unit <ℚ nil → reserved dispatch n ≡ nil
           low_by l = low_offers (offer_at m n).unit (offer_unit-in m market n lt) l n
-              (Contains-filter (λ i. (offer_at m i).unit == (offer_at m n).unit) (offer_places m) n (in_places (length m.reserve.offers) n lt) (same_itself (offer_at m n).unit))
+              (Contains-filter (λ i. (offer_at m i).unit == (offer_at m n).unit) (offer_places m) n (Contains-places (length m.reserve.offers) n lt) (same_itself (offer_at m n).unit))
 
       -- ---- so are the need and the rooms
       need_supported : NeedSupported m dispatch duals
@@ -593,7 +590,7 @@ module _ (m : Parts) (names : NamesApart m) (market : IsMarket m) (t : Taken) wh
 
       -- the duals support it where other rows' limits are kept, and are proper
       pub solved_supports : SupportsFor m t.limits dispatch duals
-      solved_supports = record { blocks = block_supported; rows = row_supported; offers = offer_supported; need = need_supported; rooms = room_supported }
+      solved_supports = record { blocks = block_supported; rows = λ r c. row_supported r c.0 c.1; offers = offer_supported; need = need_supported; rooms = room_supported }
 
       pub solved_proper : ProperDuals m duals
       solved_proper = proper-made m names (reduced s h) t market

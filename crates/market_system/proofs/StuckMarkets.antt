@@ -1,13 +1,13 @@
 -- A basic variable of a market's system that is stuck beyond a bound: its duals, up to the one sign and with prices of reserve below 0 taken as 0,
 -- show that no dispatch of the market is feasible, and their bound is at most what the variable lacks, and in a market of energy alone just that.
-use Rattle.std.specs.Prelude.{◌≡◌, ◌⊎◌, ◌&&◌, ℕ, ◌<◌, pos, Bool, true, false, not, [], ◌∷◌, length, filter, if◌then◌else◌, Contains, refl}
+use Rattle.std.specs.Prelude.{◌≡◌, ◌⊎◌, ◌&&◌, ℕ, ◌<◌, pos, Bool, true, false, not, [], ◌∷◌, length, filter, if◌then◌else◌, Contains, refl, List, map}
 use Rattle.std.proofs.Common.{ap, ap₂, sym, ◌∙◌, subst, subst₂, inl, inr}
 use Rattle.fraction_theory.specs.Fraction.{Fraction, whole, neg_ℚ, ◌+ℚ◌, ◌-ℚ◌, ◌*ℚ◌}
 use Rattle.fraction_theory.specs.Order.{NonNeg, ◌≤ℚ◌}
 use Rattle.fraction_theory.specs.Signs.{sign_of, part_above, where_above}
 use Rattle.fraction_theory.specs.declared.Sign.{Sign}
 use Rattle.fraction_theory.specs.declared.Sign.TheVariants.{Below, Zero, Above}
-use Rattle.fraction_theory.specs.Sums.{sum_by}
+use Rattle.fraction_theory.specs.Sums.{sum_by, Plain, total}
 use Rattle.fraction_theory.proofs.Ring.{by_ring, by_ring1, at, pnil, pone, pneg, ◌⊕◌, ◌⊗◌}
 use Rattle.fraction_theory.proofs.FieldLaws.{ring_ℚ}
 use Rattle.fraction_theory.proofs.OrderLaws.{≤ℚ_refl, ≤ℚ_trans, ≤ℚ-<ℚ_trans, ≤ℚ-or-<ℚ, ≤ℚ_of_same, ≤ℚ_antisym, <ℚ-≤ℚ, +ℚ-≤ℚ, *ℚ-≤ℚ, *ℚ-≤ℚ_neg, NonNeg_from, NonNeg-plus, le_to, by_le1, by_le2, NonNeg-one, whole-≤ℚ}
@@ -42,15 +42,17 @@ use Rattle.market_model.proofs.RoomLemmas.{listed-inside, listed-offers}
 use Rattle.market_system.specs.MarketSystem.{name, balance_name, row_name, over_name, under_name, offer_name, need_name, room_name, is_in, in_order, is_among, rooms_in_order, taken_in_order, residual_demand, most_reserve, reserve_offered, block_sign, block_coefficient, system_of, duals_by_cost, IsVariableOf}
 use Rattle.market_system.proofs.Clamps.{lack, lack-nil, lack-below, where_low, block_more, offer_more, sum_more, buys_fit}
 use Rattle.market_model.specs.NamedSums.{SameSize}
+use Rattle.market_model.proofs.RowMembers.{Contains-from_places}
 use Rattle.market_system.specs.MarketNumbers.{IsFarkasOf}
 use Rattle.market_system.proofs.RowOrder.{RowsApart, in_order-filter, is_in-in, is_among-in, is_among-from, rooms_in_order-from, rooms_in_order-filter}
 use Rattle.market_system.proofs.DualLists.{NamesApart, rows_apart, takes_room, rooms_in_order-places, room_price-made, one_is_nil, up_by, down_by, up_sign, down_sign, up_is_part, down_is_part, up-made, down-made, net_price-made, prices_only-made, proper-made}
 use Rattle.market_system.proofs.MarketPoints.{is_system_of, both_parts, low-block, high-block, low-balance, high-balance, low-row, high-row, low-over, low-under, high-over, high-under, low-offer, high-offer, low-need, high-need, low-room, high-room, over_column, under_column, over_variable, under_variable, block_in, balance_in, row_in, offer_in, need_in, room_in}
-use Rattle.market_system.proofs.SolvedMarkets.{at_room, offer_listed_by, offered_most, rows-at, rows-offer, rows-over, rows-under, signed_minus, weight-made}
+use Rattle.market_system.proofs.SolvedMarkets.{at_room, offer_listed_by, rows-at, rows-offer, rows-over, rows-under, signed_minus, weight-made}
 use Rattle.market_system.proofs.SoftRows.{hard_stands, most_excess_least}
-use Rattle.market_system.proofs.VariableLaws.{by_variable, from_places, column_in, offer_in as offer_column, soft, sum-columns, sum-rows}
+use Rattle.market_system.proofs.VariableLaws.{by_variable, column_in, offer_in as offer_column, soft, sum-columns, sum-rows}
 use Rattle.market_system.specs.declared.variables.Variable.{Variable}
 use Rattle.market_system.specs.declared.variables.Variable.TheVariants.{Block, Balance, Limit, Over, Under, Offer, Need, Room}
+use Rattle.market_system.proofs.RoomBounds.{offered-by_offers, offered_most}
 
 -- ---- the most that a factor makes of a number between two bounds
 module _ (k low high c : Fraction) (above_low : low ≤ℚ c) (below_high : c ≤ℚ high) (most : (t : Fraction) → low ≤ℚ t → t ≤ℚ high → (k *ℚ t) ≤ℚ (k *ℚ c)) where
@@ -263,7 +265,7 @@ module _ (m : Parts) (names : NamesApart m) (market : IsMarket m) (g : Taken) (h
   low_part j = lack (room_cost (block_at m j).unit) *ℚ where_low (block_at m j).side (quantity m j)
 
   blocks_at_most : blocks_most m stuck_duals ≤ℚ (sum_by (λ w. turned w *ℚ at_corner w) (places (length m.blocks)) +ℚ sum_by low_part (places (length m.blocks)))
-  blocks_at_most = sum_more (λ j. part_above (block_weight m stuck_duals j) *ℚ quantity m j) (λ w. turned w *ℚ at_corner w) low_part (places (length m.blocks)) (λ j c. each j (from_places (length m.blocks) j c))
+  blocks_at_most = sum_more (λ j. part_above (block_weight m stuck_duals j) *ℚ quantity m j) (λ w. turned w *ℚ at_corner w) low_part (places (length m.blocks)) (λ j c. each j (Contains-from_places (length m.blocks) j c))
     where
       each : (j : ℕ) → j < length m.blocks → (part_above (block_weight m stuck_duals j) *ℚ quantity m j) ≤ℚ (turned j *ℚ at_corner j +ℚ low_part j)
       each j lt =
@@ -274,9 +276,9 @@ module _ (m : Parts) (names : NamesApart m) (market : IsMarket m) (g : Taken) (h
 
   offers_at_most : offers_most m stuck_duals ≤ℚ (sum_by (λ n. turned (offer_name m n) *ℚ at_corner (offer_name m n)) (offer_places m) +ℚ lack need_price *ℚ reserve_offered m)
   offers_at_most =
-      subst (λ t. offers_most m stuck_duals ≤ℚ (sum_by (λ n. turned (offer_name m n) *ℚ at_corner (offer_name m n)) (offer_places m) +ℚ t)) (sum_by-times (lack need_price) (reserve_quantity m) (offer_places m))
+      subst (λ t. offers_most m stuck_duals ≤ℚ (sum_by (λ n. turned (offer_name m n) *ℚ at_corner (offer_name m n)) (offer_places m) +ℚ t)) (sum_by-times (lack need_price) (reserve_quantity m) (offer_places m) ∙ ap (λ t. lack need_price *ℚ t) (sym (offered-by_offers m)))
       (sum_more (λ n. part_above (offer_weight m stuck_duals n) *ℚ reserve_quantity m n) (λ n. turned (offer_name m n) *ℚ at_corner (offer_name m n)) (λ n. lack need_price *ℚ reserve_quantity m n) (offer_places m)
-      (λ n c. each n (from_places (length m.reserve.offers) n c)))
+      (λ n c. each n (Contains-from_places (length m.reserve.offers) n c)))
     where
       each : (n : ℕ) → n < length m.reserve.offers
           → (part_above (offer_weight m stuck_duals n) *ℚ reserve_quantity m n) ≤ℚ (turned (offer_name m n) *ℚ at_corner (offer_name m n) +ℚ lack need_price *ℚ reserve_quantity m n)
@@ -354,7 +356,7 @@ module _ (m : Parts) (names : NamesApart m) (market : IsMarket m) (g : Taken) (h
           (by_le1 (part_above need_price ∷ reserve_need m ∷ lack need_price ∷ reserve_offered m ∷ most_reserve m ∷ []) (pneg (at 0 ⊗ at 1) ⊕ at 2 ⊗ at 3) (pneg (at 0 ⊗ at 1) ⊕ at 2 ⊗ at 4) (at 2) (at 3) (at 4)
           (NonNeg_from (lack need_price) (part_least (neg_ℚ need_price)).0) (offered_most m) refl)
       by false e =
-          let none : reserve_offered m ≡ nil = ap (sum_by (reserve_quantity m)) (no_places m (market.reserve.unlisted e)) in
+          let none : reserve_offered m ≡ nil = ap (λ (ns : List ℕ). total (map (λ n. Plain (reserve_quantity m n)) ns)) (no_places m (market.reserve.unlisted e)) in
           ≤ℚ_of_same _ _
           (ap (λ t. neg_ℚ (nil *ℚ reserve_need m) +ℚ lack need_price *ℚ t) none ∙ by_ring ring_ℚ (reserve_need m ∷ lack need_price ∷ []) (pneg (pnil ⊗ at 0) ⊕ at 1 ⊗ pnil) pnil refl)
 
@@ -505,7 +507,7 @@ module _ (m : Parts) (names : NamesApart m) (market : IsMarket m) (g : Taken) (h
       same_cost u = room_price_is u ∙ ap part_above (no_cost u) ∙ part_at_most nil (≤ℚ_refl nil) ∙ sym (no_cost u)
 
       blocks_same : blocks_most m stuck_duals ≡ sum_by made (places (length m.blocks))
-      blocks_same = sum_by-members (λ j. part_above (block_weight m stuck_duals j) *ℚ quantity m j) made (places (length m.blocks)) (λ j c. each j (from_places (length m.blocks) j c))
+      blocks_same = sum_by-members (λ j. part_above (block_weight m stuck_duals j) *ℚ quantity m j) made (places (length m.blocks)) (λ j c. each j (Contains-from_places (length m.blocks) j c))
         where
           each : (j : ℕ) → j < length m.blocks → part_above (block_weight m stuck_duals j) *ℚ quantity m j ≡ turned j *ℚ at_corner j
           each j lt =

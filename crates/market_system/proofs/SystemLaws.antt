@@ -27,7 +27,8 @@ use Rattle.market_system.specs.declared.variables.Variable.TheVariants.{Balance}
 use Rattle.market_system.specs.MarketSystem.{balance_name, need_name, offer_name, block_sign, system_of}
 use Rattle.market_model.proofs.EnergyAlone.{no_places, not_listed}
 use Rattle.market_model.proofs.MorePlaces.{places_more}
-use Rattle.market_system.proofs.VariableLaws.{row_listed, balance_in, in_places, from_places, reserve_names, variables_are as listed, columns_are as columns_listed, rows_are as rows_listed, is_system_over, activity-balance, objective-at}
+use Rattle.market_model.proofs.RowMembers.{Contains-places, Contains-from_places}
+use Rattle.market_system.proofs.VariableLaws.{row_listed, balance_in, reserve_names, variables_are as listed, columns_are as columns_listed, rows_are as rows_listed, is_system_over, activity-balance, objective-at}
 use Rattle.market_system.proofs.RowOrder.{AreInOrder}
 
 all_kept : {T : Type 0} (xs : List T) → filter (λ x. true) xs ≡ xs
@@ -107,16 +108,16 @@ module _ (m : Parts) (energy : m.reserve ≡ no_reserve) where
       ∙ append-nil (places (length m.blocks))
 
   pub column_below : (j : ℕ) → Contains (system_of m nothing).columns j → j < length m.blocks
-  column_below j c = from_places (length m.blocks) j (subst (λ (ws : List ℕ). Contains ws j) columns_are c)
+  column_below j c = Contains-from_places (length m.blocks) j (subst (λ (ws : List ℕ). Contains ws j) columns_are c)
 
   pub variables_are : (system_of m nothing).variables ≡ places (length m.blocks + 1)
   variables_are = alone ∙ sym (places_more (length m.blocks))
 
   pub variable_in : (w : ℕ) → w < length m.blocks + 1 → Contains (system_of m nothing).variables w
-  variable_in w h = subst (λ (ws : List ℕ). Contains ws w) (sym variables_are) (in_places (length m.blocks + 1) w h)
+  variable_in w h = subst (λ (ws : List ℕ). Contains ws w) (sym variables_are) (Contains-places (length m.blocks + 1) w h)
 
   pub variable_below : (w : ℕ) → Contains (system_of m nothing).variables w → w < length m.blocks + 1
-  variable_below w c = from_places (length m.blocks + 1) w (subst (λ (ws : List ℕ). Contains ws w) variables_are c)
+  variable_below w c = Contains-from_places (length m.blocks + 1) w (subst (λ (ws : List ℕ). Contains ws w) variables_are c)
 
   pub rows_are : (system_of m nothing).rows ≡ balance_name m ∷ []
   rows_are = rows_listed m nothing ∙ ap (λ (ws : List ℕ). (balance_name m ∷ []) ++ ws) no_reserve_names
@@ -142,7 +143,7 @@ module _ (m : Parts) (energy : m.reserve ≡ no_reserve) where
         ap (filter (λ w. not (w == balance_name m))) alone
         ∙ filter-append (λ w. not (w == balance_name m)) (places (length m.blocks)) (balance_name m ∷ [])
         ∙ ap₂ ◌++◌
-        (filter-members (λ w. not (w == balance_name m)) (λ w. true) (places (length m.blocks)) (λ w c. ap not (not_balance m w (from_places (length m.blocks) w c)))
+        (filter-members (λ w. not (w == balance_name m)) (λ w. true) (places (length m.blocks)) (λ w c. ap not (not_balance m w (Contains-from_places (length m.blocks) w c)))
         ∙ all_kept (places (length m.blocks)))
         (ap (λ (b : Bool). cond (not b) (balance_name m ∷ []) []) (balance_is m (balance_name m) refl))
         ∙ append-nil (places (length m.blocks))
@@ -151,7 +152,7 @@ module _ (m : Parts) (energy : m.reserve ≡ no_reserve) where
     balance_is_basic = is_basic (system_of m nothing) (balance_choice m high) (balance_name m) (variable_in (balance_name m) (Prim.omega arith)) (balance_is m (balance_name m) refl)
 
     pub block_is_other : (j : ℕ) → j < length m.blocks → Contains (others (system_of m nothing) (balance_choice m high)) j
-    block_is_other j h = subst (λ (ws : List ℕ). Contains ws j) (sym balance_others) (in_places (length m.blocks) j h)
+    block_is_other j h = subst (λ (ws : List ℕ). Contains ws j) (sym balance_others) (Contains-places (length m.blocks) j h)
 
     the_basic : (b : ℕ) → Contains (basics (system_of m nothing) (balance_choice m high)) b → b ≡ balance_name m
     the_basic b c =

@@ -24,6 +24,7 @@ use Rattle.market_model.specs.LimitRows.{rows, penalty, is_soft}
 use Rattle.market_model.specs.Optimality.{Taken, block_value}
 use Rattle.market_model.specs.Reserves.{offer_places, offers_reserve, offer_price, reserve_units}
 use Rattle.market_model.proofs.ListSteps.{map-map}
+use Rattle.market_model.proofs.RowMembers.{Contains-places, Contains-from_places}
 use Rattle.market_system.specs.declared.variables.Variable.{Variable}
 use Rattle.market_system.specs.declared.variables.Variable.TheVariants.{Block, Balance, Limit, Over, Under, Offer, Need, Room}
 use Rattle.market_system.specs.MarketSystem.{balance_name, row_name, over_name, under_name, offer_name, need_name, room_name, is_among, rooms_in_order, taken_in_order, at_row, at_unit, same_row, block_sign, block_coefficient, name, coefficient, objective_price, low, high, block_columns, excess_columns, offer_columns, columns, energy_rows, reserve_rows, row_variables, variables, named, variable_of, system_over, IsVariableOf}
@@ -31,16 +32,6 @@ use Rattle.market_system.proofs.RowOrder.{AreInOrder, RowsApart, in_order-ordere
 use Rattle.market_system.proofs.RowSums.{sum_by-alone}
 
 -- ---- members of lists
--- the places below a number are its members
-pub in_places : (n j : ℕ) → j < n → Contains (places n) j
-in_places n j h = let from_0 : 0 + j ≡ j = Prim.omega arith in (j, Prim.omega (arith, length-range_with_len 0 n), get_or-range_with_len 0 n j j h ∙ from_0)
-
-pub from_places : (n j : ℕ) → Contains (places n) j → j < n
-from_places n j c =
-    let below : c.0 < n = Prim.omega (arith, c.1, length-range_with_len 0 n) in
-    let is : 0 + c.0 ≡ j = sym (get_or-range_with_len 0 n c.0 j below) ∙ c.2 in
-    Prim.omega (arith, below, is)
-
 pub places_ascend : (n : ℕ) → IsStrictlyIncreasing (places n)
 places_ascend n k h =
     let below : k + 1 < n = Prim.omega (arith, h, length-range_with_len 0 n) in
@@ -222,13 +213,13 @@ module _ (m : Parts) (t : Taken) where
 
   -- what holds of each block, of both columns of each soft row, of each offer, or of the balance, each row, the need and each room, holds of the lists
   pub by_block : (P : Variable → Type 0) → ((j : ℕ) → j < length m.blocks → P (Block j)) → (v : Variable) → Contains (block_columns m) v → P v
-  by_block P each v c = let k = mapped Block (places (length m.blocks)) v c in subst P k.2 (each k.0 (from_places (length m.blocks) k.0 k.1))
+  by_block P each v c = let k = mapped Block (places (length m.blocks)) v c in subst P k.2 (each k.0 (Contains-from_places (length m.blocks) k.0 k.1))
 
   pub by_excess : (P : Variable → Type 0) → ((r : Row) → Contains t.limits r → is_soft m r ≡ true → P (Over r) × P (Under r)) → (v : Variable) → Contains (excess_columns m t.limits) v → P v
   by_excess P each = by_pair P soft (λ r c. let k = Contains-from_filter (is_soft m) t.limits r c in each r k.0 k.1)
 
   pub by_offer : (P : Variable → Type 0) → ((n : ℕ) → n < length m.reserve.offers → P (Offer n)) → (v : Variable) → Contains (offer_columns m) v → P v
-  by_offer P each v c = let k = mapped Offer (offer_places m) v c in subst P k.2 (each k.0 (from_places (length m.reserve.offers) k.0 k.1))
+  by_offer P each v c = let k = mapped Offer (offer_places m) v c in subst P k.2 (each k.0 (Contains-from_places (length m.reserve.offers) k.0 k.1))
 
   pub by_column : (P : Variable → Type 0) → ((j : ℕ) → j < length m.blocks → P (Block j)) → ((r : Row) → Contains t.limits r → is_soft m r ≡ true → P (Over r) × P (Under r))
       → ((n : ℕ) → n < length m.reserve.offers → P (Offer n)) → (v : Variable) → Contains (columns m t) v → P v
@@ -316,7 +307,7 @@ module _ (m : Parts) (t : Taken) where
 
   pub block_listed : (j : ℕ) → j < length m.blocks → Contains (columns m t) (Block j)
   block_listed j h = Contains-append_left from_blocks (offer_columns m) (Block j)
-      (Contains-append_left (block_columns m) (excess_columns m t.limits) (Block j) (in_mapped Block (places (length m.blocks)) j (in_places (length m.blocks) j h)))
+      (Contains-append_left (block_columns m) (excess_columns m t.limits) (Block j) (in_mapped Block (places (length m.blocks)) j (Contains-places (length m.blocks) j h)))
 
   pub excess_listed : (r : Row) → Contains t.limits r → is_soft m r ≡ true → Contains (columns m t) (Over r) × Contains (columns m t) (Under r)
   excess_listed r c e = let both = in_pairs soft r (Contains-filter (is_soft m) t.limits r c e) in (among (Over r) both.0, among (Under r) both.1)
@@ -325,7 +316,7 @@ module _ (m : Parts) (t : Taken) where
       among v d = Contains-append_left from_blocks (offer_columns m) v (Contains-append_right (block_columns m) (excess_columns m t.limits) v d)
 
   pub offer_listed : (n : ℕ) → n < length m.reserve.offers → Contains (columns m t) (Offer n)
-  offer_listed n h = Contains-append_right from_blocks (offer_columns m) (Offer n) (in_mapped Offer (offer_places m) n (in_places (length m.reserve.offers) n h))
+  offer_listed n h = Contains-append_right from_blocks (offer_columns m) (Offer n) (in_mapped Offer (offer_places m) n (Contains-places (length m.reserve.offers) n h))
 
   pub balance_in : Contains (row_variables m t) Balance
   balance_in = Contains-append_left (energy_rows t) (reserve_rows m t) Balance (Contains-head Balance (map Limit t.limits))
@@ -430,9 +421,9 @@ module _ (m : Parts) (t : Taken) where
       → sum_by f s.columns ≡ (sum_by g (places (length m.blocks)) +ℚ sum_by k soft) +ℚ sum_by o (offer_places m)
   sum-columns-at f g k o same pair offer = sum-columns f ∙ ap₂ ◌+ℚ◌
       (ap₂ ◌+ℚ◌
-      (sum_by-members f g (places (length m.blocks)) (λ j c. same j (from_places (length m.blocks) j c)))
+      (sum_by-members f g (places (length m.blocks)) (λ j c. same j (Contains-from_places (length m.blocks) j c)))
       (sum_by-members (λ r. f (over_name m r) +ℚ f (under_name m r)) k soft (λ r c. let d = Contains-from_filter (is_soft m) t.limits r c in pair r d.0 d.1)))
-      (sum_by-members (λ n. f (offer_name m n)) o (offer_places m) (λ n c. offer n (from_places (length m.reserve.offers) n c)))
+      (sum_by-members (λ n. f (offer_name m n)) o (offer_places m) (λ n c. offer n (Contains-from_places (length m.reserve.offers) n c)))
 
   pub sum-rows : (f : ℕ → Fraction) → sum_by f s.rows
       ≡ (f (balance_name m) +ℚ sum_by (λ r. f (row_name m r)) t.limits) +ℚ (kept m.reserve.listed (f (need_name m)) +ℚ sum_by (λ u. f (room_name m u)) t.rooms)

@@ -1,20 +1,21 @@
 -- Which limit rows a clear may have taken: rows are taken one by one, each because a best dispatch of the rows before it
 -- breaks it.
 -- Source: own; the method is that of taking violated limits alone (Wood and Wollenberg, security-constrained dispatch).
-use Rattle.std.specs.Prelude.{◌≡◌, ℕ, List, [], ◌∷◌, ◌++◌, ◌⊎◌}
+use Rattle.std.specs.Prelude.{◌≡◌, ℕ, List, [], ◌∷◌, ◌++◌}
 use Rattle.std.specs.List.{Contains}
-use Rattle.fraction_theory.specs.Fraction.{Fraction, neg_ℚ}
-use Rattle.fraction_theory.specs.Order.{◌≤ℚ◌, ◌<ℚ◌}
+use Rattle.fraction_theory.specs.Fraction.{Fraction}
+use Rattle.fraction_theory.specs.Order.{◌≤ℚ◌}
 use Rattle.market_model.specs.declared.answered.Duals.{Duals}
 use Rattle.market_model.specs.declared.participants.Parts.{Parts}
 use Rattle.market_model.specs.Dispatch.{Dispatch, zero}
 use Rattle.market_model.specs.Optimality.{Taken, FeasibleFor, welfare_for, up_of, down_of}
 use Rattle.market_model.specs.declared.limits.Row.{Row}
 use Rattle.market_model.specs.LimitRows.{rows, flow, limit}
+use Rattle.market_model.specs.Overrun.{Within}
 
 -- the flow passes the limit on one side
 abbrev pub Broken : Parts → Dispatch → Row → Type 0
-Broken m x r = (limit m r <ℚ flow m x r) ⊎ (flow m x r <ℚ neg_ℚ (limit m r))
+Broken m x r = ¬ (Within (limit m r) (flow m x r))
 
 -- feasible for these rows and rooms, and of the greatest welfare of all dispatches that are
 pub record BestFor (m : Parts) (t : Taken) (x : Dispatch) : Type 0 where
@@ -30,14 +31,10 @@ abbrev pub GrowsBy : Parts → List Row → List Row → Type 0
 GrowsBy m old [] = Unit {0}
 GrowsBy m old (r ∷ more) = ((x : Dispatch) × IsBestOver m old x × Broken m x r) × Contains (rows m) r × (¬ (Contains old r)) × GrowsBy m (old ++ r ∷ []) more
 
--- the old rows, with more behind them
+-- the old rows, with more behind them: rows that a clear may stand on, after the old ones were taken before it
 abbrev pub Growth : Parts → List Row → List Row → Type 0
 Growth m old new = (more : List Row) × (new ≡ old ++ more) × GrowsBy m old more
 
 -- rows that were not taken have no price in these duals
 abbrev pub PricesOnly : Parts → List Row → Duals Fraction → Type 0
 PricesOnly m taken d = (r : Row) → Contains (rows m) r → ¬ (Contains taken r) → (up_of m d r ≡ zero) × (down_of m d r ≡ zero)
-
--- the rows that a clear may stand on, after those taken before it
-abbrev pub Reached : Parts → List Row → List Row → Type 0
-Reached m taken g = Growth m taken g

@@ -15,13 +15,13 @@ use Rattle.market_model.specs.declared.answered.Duals.{Duals}
 use Rattle.market_model.specs.Dispatch.{Dispatch, zero, bus_at, unit_at, empty}
 use Rattle.market_model.specs.declared.limits.Row.{Row}
 use Rattle.market_model.specs.LimitRows.{rows, limit, most_flow, shift_factor, loss_factor, share_value, line_offset}
-use Rattle.market_model.specs.Optimality.{Taken, Feasible, Supports, up_of, down_of, net_shadow_price, room_price, bus_price, welfare_terms}
+use Rattle.market_model.specs.Optimality.{Taken, Feasible, Supports, up_of, down_of, net_shadow_price, room_price, bus_price}
 use Rattle.market_model.specs.Reserves.{reserve_need, reserve_units}
 use Rattle.market_model.specs.Infeasibility.{ShowsInfeasible}
 use Rattle.market_system.specs.MarketSystem.{balance_name, need_name, room_name, row_name, system_of, choice_dispatch, choice_duals}
 use Rattle.market_system.specs.Growth.{BestFor, PricesOnly}
 use Rattle.market_model.specs.NamedSums.{SameSize}
-use Rattle.market_model.specs.SumTables.{FlowSum, OffsetSum, FactorSum, OutputSum, PriceSum, BoundSum, ReserveSum, SettledSum, WorthSum}
+use Rattle.market_model.specs.SumTables.{FlowSum, OffsetSum, FactorSum, OutputSum, PriceSum, BoundSum, ReserveSum, SettledSum, WorthSum, WelfareSum}
 
 -- the choice's dispatch is feasible, and its duals support it
 pub record IsRightChoice (m : Parts) (g : Taken) (h : Choice) : Type 0 where
@@ -62,7 +62,7 @@ pub data NamedSum (m : Parts) (g : Taken) (h : Choice) : Option Kind → List Te
   output_of : (terms : List Term) → IsRightChoice m g h → OutputSum m (choice_dispatch m g h) terms → NamedSum m g h (Some Quantity) terms
   of_price : (terms : List Term) → IsRightChoice m g h → PriceSum m (choice_duals m g h) terms → NamedSum m g h (Some Price) terms
   of_worth : (terms : List Term) → IsRightChoice m g h → WorthSum m (choice_duals m g h) terms → NamedSum m g h (Some Price) terms
-  of_welfare : IsRightChoice m g h → NamedSum m g h None (welfare_terms m (choice_dispatch m g h))
+  of_welfare : (terms : List Term) → IsRightChoice m g h → WelfareSum m (choice_dispatch m g h) terms → NamedSum m g h None terms
   of_settlement : (terms : List Term) → IsRightChoice m g h
       → SettledSum m (choice_dispatch m g h) (bus_price m (choice_duals m g h)) (choice_duals m g h) terms → NamedSum m g h None terms
   -- at duals that show that nothing is feasible: prices, and the bound

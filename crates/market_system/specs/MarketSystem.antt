@@ -8,7 +8,7 @@ use Rattle.std.specs.Prelude.{◌≡◌, ℕ, ◌+◌, ◌*◌, ◌<◌, pos, Bo
 use Rattle.std.specs.List.{flat_map, position_or_len}
 use Rattle.fraction_theory.specs.Fraction.{Fraction, whole, neg_ℚ, ◌+ℚ◌, ◌-ℚ◌}
 use Rattle.fraction_theory.specs.Signs.{part_above, sign_of}
-use Rattle.fraction_theory.specs.Sums.{sum_by}
+use Rattle.fraction_theory.specs.Sums.{Term, Plain, total}
 use Rattle.fraction_theory.specs.declared.Sign.{Sign}
 use Rattle.fraction_theory.specs.declared.Sign.TheVariants.{Below, Zero, Above}
 use Rattle.linear_system.specs.Systems.{System}
@@ -113,10 +113,14 @@ least_added m r = neg_ℚ (limit m r) -ℚ flow m (empty m) r
 abbrev pub most_added : Parts → Row → Fraction
 most_added m r = limit m r -ℚ flow m (empty m) r
 
--- the reserve that may be accepted in all, and the most that the need's row is to keep: that, or the need where it is more
-abbrev pub reserve_offered : Parts → Fraction
-reserve_offered m = sum_by (reserve_quantity m) (offer_places m)
+-- the reserve that may be accepted in all, offer by offer
+abbrev pub offered_terms : Parts → List Term
+offered_terms m = map (λ n. Plain (reserve_quantity m n)) (offer_places m)
 
+abbrev pub reserve_offered : Parts → Fraction
+reserve_offered m = total (offered_terms m)
+
+-- the most that the need's row is to keep: that, or the need where it is more
 abbrev pub most_reserve : Parts → Fraction
 most_reserve m = reserve_need m +ℚ part_above (reserve_offered m -ℚ reserve_need m)
 

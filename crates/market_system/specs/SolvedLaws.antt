@@ -1,6 +1,6 @@
 -- What solving a market's system over some of its limit rows says of the market.
 -- Sources: linear programs with bounded variables (Chvátal, Linear Programming); Farkas; Schweppe and others, Spot Pricing of Electricity.
-use Rattle.std.specs.Prelude.{◌≡◌, ◌≢◌, ◌⊎◌, ℕ, ◌<◌, ◌≤◌, Bool, false, not, List, [], ◌∷◌, ◌++◌, length, map, AllPairs, Contains}
+use Rattle.std.specs.Prelude.{◌≡◌, ◌≢◌, ◌⊎◌, ℕ, ◌≤◌, Bool, false, not, List, [], ◌∷◌, ◌++◌, length, AllPairs, Contains}
 use Rattle.fraction_theory.specs.Fraction.{Fraction, ◌+ℚ◌}
 use Rattle.fraction_theory.specs.Order.{◌≤ℚ◌}
 use Rattle.linear_system.specs.Systems.{System, IsSystem, MeetsRows, InBounds, objective}
@@ -15,7 +15,7 @@ use Rattle.market_model.specs.Infeasibility.{IsFarkas, farkas_bound}
 use Rattle.market_model.specs.declared.limits.Row.{Row}
 use Rattle.market_model.specs.LimitRows.{rows, limit, flow}
 use Rattle.market_model.specs.Market.{IsMarket}
-use Rattle.market_model.specs.Optimality.{Taken, FeasibleFor, Feasible, BlockSupported, RowSupported, OfferSupported, NeedSupported, RoomSupported, Supports, ProperDuals, block_value, unit_price, welfare_for}
+use Rattle.market_model.specs.Optimality.{Taken, FeasibleFor, Feasible, Supports, ProperDuals, block_value, unit_price, welfare_for, SupportsOver}
 use Rattle.market_model.specs.Reserves.{offer_places, reserve_units}
 use Rattle.market_model.specs.RightAnswers.{IsRight, answer_of}
 use Rattle.market_system.specs.Growth.{Broken, BestFor, IsBestOver, Growth}
@@ -56,12 +56,8 @@ abbrev pub state_at : System → Choice → State
 state_at s h = record { choice = h; value = value s h; reduced = reduced s h }
 
 -- duals that support a dispatch over the blocks and all of reserve, and over each row that is in the list or whose flow keeps its limit
-pub record SupportsFor (m : Parts) (g : List Row) (x : Dispatch) (d : Duals Fraction) : Type 0 where
-  pub blocks : (j : ℕ) → j < length m.blocks → BlockSupported m x d j
-  pub rows : (r : Row) → Contains (rows m) r → Contains g r ⊎ Within (limit m r) (flow m x r) → RowSupported m x d r
-  pub offers : (n : ℕ) → n < length m.reserve.offers → OfferSupported m x d n
-  pub need : NeedSupported m x d
-  pub rooms : (u : ℕ) → Contains (reserve_units m) u → RoomSupported m x d u
+abbrev pub SupportsFor : Parts → List Row → Dispatch → Duals Fraction → Type 0
+SupportsFor m g x d = SupportsOver m (λ r. Contains (rows m) r × (Contains g r ⊎ Within (limit m r) (flow m x r))) x d
 
 -- The choice's dispatch is best for the rows and rooms. Its duals are proper, and support it as far as other rows' limits are kept; the
 -- reduced price of a block whose unit's room is not taken is its value, with what it raises at its unit's price.

@@ -15,7 +15,7 @@ use Rattle.market_model.specs.declared.limits.Row.{Row}
 use Rattle.market_model.specs.Optimality.{Taken}
 use Rattle.market_system.specs.MarketSystem.{system_of}
 use Rattle.market_system.specs.MarketNumbers.{ClearingNumber, MarketNumber, NamedSum}
-use Rattle.market_system.specs.Growth.{Reached}
+use Rattle.market_system.specs.Growth.{Growth}
 use Rattle.market_model.specs.NamedSums.{IsSumStep}
 
 -- the sides of an operation that adds up the welfare, or what a settlement adds up
@@ -41,7 +41,7 @@ pub record IsWorkingPair (m : Parts) (g : Taken) (bound : ℕ) (op : Op) (left r
 -- a working pair of the market over rows that a clear may stand on, after those taken before it, and over any rooms
 pub record IsRangeOf (m : Parts) (taken : List Row) (bound : ℕ) (p : Passed Fraction) : Type 0 where
   pub over : Taken
-  pub reached : Reached m taken over.limits
+  pub reached : Growth m taken over.limits
   pub pair : IsWorkingPair m over bound p.op p.left p.right
 
 -- no working pair of the market over rows that such a clear may stand on passes the bound
@@ -50,4 +50,4 @@ NoPairPasses m taken bound = (p : Passed Fraction) → ¬ (IsRangeOf m taken bou
 
 -- no number that such a clear may have to write down, at whatever choice over such rows and rooms, is too large
 abbrev pub AllNumbersFit : Parts → List Row → ℕ → Type 0
-AllNumbersFit m taken bound = (g : Taken) (h : Choice) (x : Fraction) → Reached m taken g.limits → IsChoice (system_of m g) h → ClearingNumber m g h x → ¬ (IsTooLarge bound x)
+AllNumbersFit m taken bound = (g : Taken) (h : Choice) (x : Fraction) → Growth m taken g.limits → IsChoice (system_of m g) h → ClearingNumber m g h x → ¬ (IsTooLarge bound x)

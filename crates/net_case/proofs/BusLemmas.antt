@@ -24,10 +24,10 @@ use Rattle.market_data.specs.declared.participants.Bus.{Bus}
 use Rattle.net_case.specs.declared.bus_rows.BusRow.{BusRow}
 use Rattle.net_case.specs.declared.bus_rows.BusRows.{BusRows}
 use Rattle.net_case.specs.BusReading.{IsBusRow, AreRead, Keeps}
-use Rattle.record_reading.specs.Rows.{listed}
+use Rattle.record_reading.specs.Gathering.{listed}
 use Rattle.net_case.specs.Networks.{AreBusRows, IsBusNumber, ArePlaces, most_bus_number}
 use Rattle.net_case.specs.NetworkReading.{live_buses, next_place, places_from, reference_of, reference_after, place_of_number, named_place}
-use Rattle.record_reading.proofs.RowLemmas.{All-listed}
+use Rattle.record_reading.proofs.GatherLemmas.{All-listed}
 
 live_buses-push : (done : List BusRow) (b : BusRow) → live_buses (done ++ b ∷ []) ≡ live_buses done ++ listed b.live
 live_buses-push done b = filter_map-append (λ r. r.live) done (b ∷ []) ∙ ap (λ t. live_buses done ++ t) (by b.live refl)

@@ -9,7 +9,7 @@ use Rattle.market_data.specs.declared.participants.Unit as unit
 use Rattle.market_data.specs.declared.participants.UnitList.{UnitList}
 use Rattle.record_reading.specs.Records.{Record}
 use Rattle.record_reading.specs.Steps.{and_then, some_of}
-use Rattle.record_reading.specs.Rows.{read_rows, gather, listed}
+use Rattle.record_reading.specs.Gathering.{read_records, gather, listed}
 use Rattle.fraction_theory.specs.declared.Sign.{Sign}
 use Rattle.fraction_theory.specs.declared.Sign.TheVariants as sign
 use Rattle.scaled_decimal.specs.Reading.{units_of, sign_in}
@@ -119,7 +119,7 @@ referenced rows (Some place) = Ok (record { rows = rows; reference = place })
 referenced rows None = Err fault.NoReference
 
 unfoldable pub bus_rows : List Record → Result ReadBuses NetFault
-bus_rows matrix = and_then (read_rows bus_row [] 1 matrix) (λ rows. referenced rows (reference_of rows))
+bus_rows matrix = and_then (read_records bus_row [] 1 matrix) (λ rows. referenced rows (reference_of rows))
 
 abbrev pub live_buses : List BusRow → List Bus
 live_buses rows = filter_map (λ b. b.live) rows

@@ -3,7 +3,7 @@
 ghost use Rattle.std.specs.Prelude.{◌≡◌, ◌≢◌, ℕ, ◌≤◌, ◌<◌, [], length, map, All, IfOk, IfSome, Err, Ok};
 ghost use Rattle.market_data.specs.Participants.{IsDatum};
 ghost use Rattle.market_data.specs.Scales.{most_lines};
-ghost use Rattle.record_reading.specs.Rows.{gather};
+ghost use Rattle.record_reading.specs.Gathering.{gather};
 ghost use Rattle.net_case.specs.Networks.{IsNetBranch, IsLimit, AreRows, ArePlaces};
 ghost use Rattle.net_case.specs.NetworkReading.{row_at, cell_in, is_infinite, is_below_all, rated_limit, limit_in, shifted_in, post_column, limits_in, branch_where, branch_row, branch_count, branches_in};
 

@@ -3,7 +3,7 @@
 ghost use Rattle.std.specs.Prelude.{◌≡◌, ◌≢◌, ◌+◌, ◌≤◌, ◌==◌, [], ◌∷◌, ◌++◌, length, IfOk, IfErr, MatchResult, None, Err};
 ghost use Rattle.std.specs.Map.{lookup};
 ghost use Rattle.market_data.specs.Participants.{IsBus};
-ghost use Rattle.record_reading.specs.Rows.{listed};
+ghost use Rattle.record_reading.specs.Gathering.{listed};
 ghost use Rattle.net_case.specs.NetworkReading.{row_at, counted_in, demands_in, row_of_type, next_place, reference_after, bus_row_after, bus_rows, place_of_number, named_place};
 ghost use Rattle.net_case.specs.Networks.{IsBusNumber};
 ghost use Rattle.net_case.specs.BusReading.{IsBusRow, AreRead, AreLive, HoldBusRows};

@@ -2,7 +2,7 @@
 
 ghost use Rattle.std.specs.Prelude.{◌≡◌, ◌≢◌, ℕ, ◌≤◌, ◌<◌, [], length, map, All, IfOk, IfSome, Err};
 ghost use Rattle.market_data.specs.Scales.{most_units};
-ghost use Rattle.record_reading.specs.Rows.{gather};
+ghost use Rattle.record_reading.specs.Gathering.{gather};
 ghost use Rattle.net_case.specs.Networks.{IsNetUnit, AreRows, ArePlaces};
 ghost use Rattle.net_case.specs.NetworkReading.{row_at, bounds_in, unit_where, unit_row};
 

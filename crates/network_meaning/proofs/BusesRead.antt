@@ -14,7 +14,7 @@ use Rattle.std.proofs.Math.ListN.{get_or-append}
 use Rattle.market_data.specs.Scales.{mw_places}
 use Rattle.market_data.specs.declared.participants.Bus.{Bus}
 use Rattle.record_reading.specs.Records.{Record}
-use Rattle.record_reading.specs.Rows.{gather, listed}
+use Rattle.record_reading.specs.Gathering.{gather, listed}
 use Rattle.record_reading.specs.Steps.{and_then, some_of}
 use Rattle.record_reading.proofs.StepLemmas.{then-ok, some-ok, ok-same}
 use Rattle.case_text.specs.declared.Field.TheVariants as field

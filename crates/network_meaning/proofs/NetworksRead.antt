@@ -6,7 +6,7 @@ use Rattle.std.proofs.lemmas.Grind.{common_steps}
 use Rattle.market_data.specs.Scales.{most_buses, most_lines, most_units}
 use Rattle.market_data.specs.declared.participants.Bus.{Bus}
 use Rattle.record_reading.specs.Records.{Record}
-use Rattle.record_reading.specs.Rows.{gather, read_rows}
+use Rattle.record_reading.specs.Gathering.{gather, read_records}
 use Rattle.record_reading.specs.Steps.{and_then}
 use Rattle.record_reading.proofs.StepLemmas.{then-ok, ok-same}
 use Rattle.case_text.specs.Matrices.{CaseMatrices}
@@ -61,7 +61,7 @@ referenced-read rows (Some place) buses e =
 buses-read : (matrix : List Record) (buses : ReadBuses) → bus_rows matrix ≡ Ok buses → BusesRead matrix buses
 unfolding bus_rows
 buses-read matrix buses e =
-    let t = then-ok (read_rows bus_row [] 1 matrix) (λ rows. referenced rows (reference_of rows)) buses e in
+    let t = then-ok (read_records bus_row [] 1 matrix) (λ rows. referenced rows (reference_of rows)) buses e in
     let all = rows-read matrix [] 1 t.0 (λ i j d lt within. absurd (omega (arith, within))) t.1 in
     let fine = are-fine matrix all.says all.are in
     let r = referenced-read t.0 (reference_of t.0) buses t.2 in

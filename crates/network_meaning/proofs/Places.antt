@@ -12,7 +12,7 @@ use Rattle.std.proofs.lemmas.List.Kept.{AllPairs-cons}
 use Rattle.std.proofs.lemmas.Option.{slice_get_within, get_or_from_slice_get, slice_get-get_or, slice_get-map}
 use Rattle.market_data.specs.declared.participants.Bus.{Bus}
 use Rattle.record_reading.specs.Records.{Record}
-use Rattle.record_reading.specs.Rows.{listed}
+use Rattle.record_reading.specs.Gathering.{listed}
 use Rattle.net_case.specs.declared.bus_rows.BusRow as read
 use Rattle.net_case.specs.NetworkReading.{Places, places_from, reference_of, live_buses, next_place}
 use Rattle.network_meaning.specs.BusRows.{BusRow, IsBus, IsBusRow, numbers, AreApart, in_service, IsReference, IsPlace, IsPlaced}

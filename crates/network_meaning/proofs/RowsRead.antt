@@ -3,7 +3,7 @@ use Rattle.std.proofs.Common.{◌≡◌, ℕ, ◌+◌, List, [], ◌∷◌, ◌+
 use Rattle.std.specs.List.{AllZip, filter_map, enumerate_from}
 use Rattle.std.proofs.lemmas.List.{append_assoc, append-nil}
 use Rattle.record_reading.specs.Records.{Record}
-use Rattle.record_reading.specs.Rows.{gather, listed}
+use Rattle.record_reading.specs.Gathering.{gather, listed}
 use Rattle.record_reading.proofs.StepLemmas.{then-ok, ok-same}
 use Rattle.network_meaning.specs.Units.{AreGiven}
 

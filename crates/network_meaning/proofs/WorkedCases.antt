@@ -2,7 +2,7 @@
 use Rattle.std.proofs.Common.{◌≡◌, [], ◌∷◌, refl, sym, ◌∙◌, Ok, Err, codes}
 use Rattle.scaled_decimal.specs.declared.DecimalFault.TheVariants.{NotFinite, TooFine}
 use Rattle.scaled_decimal.specs.Reading.{units_of, units_in, whole_number, decimal_in, sign_in}
-use Rattle.record_reading.specs.Rows.{gather}
+use Rattle.record_reading.specs.Gathering.{gather}
 use Rattle.record_reading.specs.declared.Why.TheVariants as why
 use Rattle.case_text.specs.Matrices.{CaseMatrices}
 use Rattle.case_text.specs.declared.Field.TheVariants as field

@@ -17,7 +17,7 @@ use Rattle.market_model.specs.declared.participants.Parts.{Parts}
 use Rattle.market_model.specs.declared.participants.Side.{Side}
 use Rattle.market_model.specs.declared.participants.Side.TheVariants.{Sell, Buy}
 use Rattle.market_model.specs.Changes.{with_price, with_quantity, with_demand, with_limit, with_need}
-use Rattle.market_model.specs.Dispatch.{places, unit_at, block_at}
+use Rattle.market_model.specs.Dispatch.{places, unit_at, block_at, place_of_bus}
 use Rattle.market_model.specs.Market.{IsMarket}
 use Rattle.market_model.specs.Stairs.{same_side, is_on_stair, stair_in}
 use Rattle.market_model.proofs.ChangeLemmas.{offered-set, on_stair}
@@ -26,7 +26,7 @@ use Rattle.offer_book.specs.declared.edit_parts.Edit.TheVariants as edit
 use Rattle.offer_book.specs.declared.edit_parts.EditFault.TheVariants as fault
 use Rattle.offer_book.specs.OfferTable.{follows}
 use Rattle.offer_book.specs.Edits.{is_block_of, blocks_of_side, place_of_block, price_of_block, place_of_bus, place_of_limit, rival, rival_of, judge_quantity, step_of}
-use Rattle.offer_book.specs.EditLaws.{InOrder, prices, HasOfferCurves, LawOfOfferCurves, LawOfEditedCurves}
+use Rattle.offer_book.specs.EditLaws.{InOrder, HasOfferCurves, LawOfOfferCurves, LawOfEditedCurves, block_prices}
 use Rattle.offer_book.proofs.CurveLemmas.{follows_order, order-set, filter-set_off, filter-set_on, map-filter-set, filter-places}
 use Rattle.offer_book.proofs.EditedMarkets.{IsNamed, named, block_inside, quantity_kept, stepped}
 
@@ -85,7 +85,7 @@ unfolding stair_in
 stair-set_on place side blocks j b d inside e f = filter-set_on (is_on_stair place side) blocks j b d inside e f
 
 stair-prices : (place : ℕ) (side : Side) (blocks : List Block) (j : ℕ) (b d : Block) → is_on_stair place side b ≡ is_on_stair place side (get_or blocks j d) → b.price ≡ (get_or blocks j d).price
-    → prices (stair_in place side (slice_set blocks j b)) ≡ prices (stair_in place side blocks)
+    → block_prices (stair_in place side (slice_set blocks j b)) ≡ block_prices (stair_in place side blocks)
 unfolding stair_in
 stair-prices place side blocks j b d e f = map-filter-set (is_on_stair place side) (λ (x : Block). x.price) blocks j b d e f
 
@@ -141,11 +141,11 @@ module _ (m : Parts) (market : IsMarket m) where
         ∙ filter-places (is_on_stair place side) (is_block_of m row side) m.blocks (record { unit = 0; side = Sell; quantity = pos 0; price = pos 0 }) (length m.blocks) (Prim.omega arith) agree
 
     -- the price of the block of a number
-    nth_price : (number : ℤ) → pos 1 ≤ℤ number → price_of_block m row side number ≡ slice_get (prices (stair_in place side m.blocks)) (unsigned_abs number - 1)
+    nth_price : (number : ℤ) → pos 1 ≤ℤ number → price_of_block m row side number ≡ slice_get (block_prices (stair_in place side m.blocks)) (unsigned_abs number - 1)
     unfolding place_of_block
     nth_price number least =
         by (lt_z number (pos 1)) refl
-        ∙ sym (ap (λ bs. slice_get (prices bs) (unsigned_abs number - 1)) curve_is
+        ∙ sym (ap (λ bs. slice_get (block_prices bs) (unsigned_abs number - 1)) curve_is
         ∙ slice_get-map (λ (b : Block). b.price) (map (block_at m) (blocks_of_side m row side)) (unsigned_abs number - 1)
         ∙ ap (option_map (λ (b : Block). b.price)) (slice_get-map (block_at m) (blocks_of_side m row side) (unsigned_abs number - 1))
         ∙ twice (slice_get (blocks_of_side m row side) (unsigned_abs number - 1)))
@@ -189,7 +189,7 @@ module _ (m : Parts) (market : IsMarket m) where
     side_is = same_sides (block_at m j).side side tells.1
 
     abbrev old : List ℤ
-    old = prices (stair_in (block_at m j).unit side m.blocks)
+    old = block_prices (stair_in (block_at m j).unit side m.blocks)
 
     before : (i : ℕ) (d : ℤ) → suc i ≡ unsigned_abs number - 1 → i < length old → InOrder side (get_or old i d) price
     before i d e within =
@@ -215,26 +215,26 @@ module _ (m : Parts) (market : IsMarket m) where
         let steps : j ≡ name.nth.steps = let is = name.nth.is in Prim.omega (arith, is) in
         before_is row side (block_at m j).unit owner tells.0 j (Prim.omega (arith, inside)) ∙ ap (λ (i : ℕ). length (filter (is_block_of m row side) (places i))) steps ∙ sym name.nth.count
 
-    own_order : is_on_stair (block_at m j).unit side (block_at m j) ≡ true → AllPairs (InOrder side) (prices (stair_in (block_at m j).unit side (slice_set m.blocks j new)))
+    own_order : is_on_stair (block_at m j).unit side (block_at m j) ≡ true → AllPairs (InOrder side) (block_prices (stair_in (block_at m j).unit side (slice_set m.blocks j new)))
     own_order on =
         let stair : stair_in (block_at m j).unit side (slice_set m.blocks j new) ≡ slice_set (stair_in (block_at m j).unit side m.blocks) (unsigned_abs number - 1) new =
         stair-set_on (block_at m j).unit side m.blocks j new none inside on on ∙ ap (λ (k : ℕ). slice_set (stair_in (block_at m j).unit side m.blocks) k new) number_is in
-        let put : prices (stair_in (block_at m j).unit side (slice_set m.blocks j new)) ≡ slice_set old (unsigned_abs number - 1) price =
-        ap prices stair ∙ map-set (λ (b : Block). b.price) (stair_in (block_at m j).unit side m.blocks) (unsigned_abs number - 1) new in
+        let put : block_prices (stair_in (block_at m j).unit side (slice_set m.blocks j new)) ≡ slice_set old (unsigned_abs number - 1) price =
+        ap block_prices stair ∙ map-set (λ (b : Block). b.price) (stair_in (block_at m j).unit side m.blocks) (unsigned_abs number - 1) new in
         subst (AllPairs (InOrder side)) (sym put) (order-set side old (unsigned_abs number - 1) price (curves (block_at m j).unit side owner).monotone before after)
 
-    price_order : (other : ℕ) (s : Side) → other < length m.units → AllPairs (InOrder s) (prices (stair_in other s (slice_set m.blocks j new)))
+    price_order : (other : ℕ) (s : Side) → other < length m.units → AllPairs (InOrder s) (block_prices (stair_in other s (slice_set m.blocks j new)))
     price_order other s h = by (is_on_stair other s (block_at m j)) refl
       where
-        by : (t : Bool) → is_on_stair other s (block_at m j) ≡ t → AllPairs (InOrder s) (prices (stair_in other s (slice_set m.blocks j new)))
+        by : (t : Bool) → is_on_stair other s (block_at m j) ≡ t → AllPairs (InOrder s) (block_prices (stair_in other s (slice_set m.blocks j new)))
         by true on =
             let of = on_stair other s (block_at m j) on in
             let side_same : side ≡ s = sym side_is ∙ of.1 in
-            let own : AllPairs (InOrder side) (prices (stair_in (block_at m j).unit side (slice_set m.blocks j new))) =
+            let own : AllPairs (InOrder side) (block_prices (stair_in (block_at m j).unit side (slice_set m.blocks j new))) =
             own_order (subst (λ (r : Side). is_on_stair (block_at m j).unit r (block_at m j) ≡ true) (sym side_same) (subst (λ (p : ℕ). is_on_stair p s (block_at m j) ≡ true) (sym of.0) on)) in
-            subst (λ (r : Side). AllPairs (InOrder r) (prices (stair_in other r (slice_set m.blocks j new)))) side_same
-            (subst (λ (p : ℕ). AllPairs (InOrder side) (prices (stair_in p side (slice_set m.blocks j new)))) of.0 own)
-        by false off = subst (λ bs. AllPairs (InOrder s) (prices bs)) (sym (stair-set_off other s m.blocks j new none off off)) (curves other s h).monotone
+            subst (λ (r : Side). AllPairs (InOrder r) (block_prices (stair_in other r (slice_set m.blocks j new)))) side_same
+            (subst (λ (p : ℕ). AllPairs (InOrder side) (block_prices (stair_in p side (slice_set m.blocks j new)))) of.0 own)
+        by false off = subst (λ bs. AllPairs (InOrder s) (block_prices bs)) (sym (stair-set_off other s m.blocks j new none off off)) (curves other s h).monotone
 
     price_curves : HasOfferCurves (with_price m j price)
     price_curves = λ other s h. record {
@@ -271,7 +271,7 @@ module _ (m : Parts) (market : IsMarket m) where
           → HasOfferCurves (if is_some (option_map_or (judge_quantity m mw) o (Some fault.NoBlock)) then m else option_map_or (λ j. with_quantity m j mw) o m)
       by None e = curves
       by (Some j) e = judged j (quantity_kept m market j mw (block_inside m row side number j e))
-  edit_curves curves (edit.Demand number mw) = by (place_of_bus m number)
+  edit_curves curves (edit.Demand number mw) = by (place_of_bus m.buses number)
     where
       by : (o : Option ℕ) → HasOfferCurves (if is_some (if is_some o then None else Some fault.NoBus) then m else option_map_or (λ i. with_demand m i mw) o m)
       by None = curves

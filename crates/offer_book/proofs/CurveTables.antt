@@ -8,7 +8,7 @@ use Rattle.std.proofs.lemmas.List.Elements.{filter-append}
 use Rattle.std.proofs.lemmas.List.Quantifiers.{all_pairs_push}
 use Rattle.record_reading.specs.Records.{Record}
 use Rattle.record_reading.specs.Steps.{and_then}
-use Rattle.record_reading.specs.Rows.{listed, gather}
+use Rattle.record_reading.specs.Gathering.{listed, gather}
 use Rattle.record_reading.proofs.StepLemmas.{ok-same, some-ok, then-ok}
 use Rattle.csv_table.specs.Table.{framed}
 use Rattle.market_data.specs.declared.participants.Unit as unit
@@ -21,13 +21,13 @@ use Rattle.market_model.proofs.ChangeLemmas.{on_stair}
 use Rattle.offer_book.specs.declared.offer_table.Offer.{Offer}
 use Rattle.offer_book.specs.declared.offer_table.OfferFault.TheVariants as fault
 use Rattle.offer_book.specs.OfferTable.{header, offer_in, row_in, block_after, block_where, block_in, unit_of_place, follows, last_price, blocks_of_table}
-use Rattle.offer_book.specs.EditLaws.{InOrder, prices, LawOfOfferTables}
+use Rattle.offer_book.specs.EditLaws.{InOrder, block_prices, LawOfOfferTables}
 use Rattle.offer_book.proofs.CurveLemmas.{last_follows}
 use Rattle.offer_book.proofs.RoomLemmas.{room-none, room-records}
 
 -- the prices of each stair are in order
 abbrev AreInOrder : List Block → Type 0
-AreInOrder blocks = (place : ℕ) (side : Side) → AllPairs (InOrder side) (prices (stair_in place side blocks))
+AreInOrder blocks = (place : ℕ) (side : Side) → AllPairs (InOrder side) (block_prices (stair_in place side blocks))
 
 -- ---- a block that is taken
 record IsBehind (stair : List Block) (place : ℕ) (s : Side) (block : Block) : Type 0 where
@@ -58,21 +58,21 @@ order-more : (u : unit.Unit) (blocks : List Block) (place line : ℕ) (offer : O
     → AreInOrder blocks → AreInOrder (blocks ++ block ∷ [])
 unfolding stair_in
 order-more u blocks place line offer block e order other side =
-    subst (λ bs. AllPairs (InOrder side) (prices bs)) (sym (filter-append (is_on_stair other side) blocks (block ∷ []))) (by (is_on_stair other side block) refl)
+    subst (λ bs. AllPairs (InOrder side) (block_prices bs)) (sym (filter-append (is_on_stair other side) blocks (block ∷ []))) (by (is_on_stair other side block) refl)
   where
     is : IsBehind (stair_in place offer.side blocks) place offer.side block
     is = taken u (stair_in place offer.side blocks) place line offer block e
 
-    by : (t : Bool) → is_on_stair other side block ≡ t → AllPairs (InOrder side) (prices (stair_in other side blocks ++ cond t (block ∷ []) []))
+    by : (t : Bool) → is_on_stair other side block ≡ t → AllPairs (InOrder side) (block_prices (stair_in other side blocks ++ cond t (block ∷ []) []))
     by true on =
         let at = on_stair other side block on in
         let follow : follows side (last_price (stair_in other side blocks)) block.price ≡ true =
         subst (λ (s : Side). follows s (last_price (stair_in other s blocks)) block.price ≡ true) (sym is.side ∙ at.1)
         (subst (λ (p : ℕ). follows offer.side (last_price (stair_in p offer.side blocks)) block.price ≡ true) (sym is.unit ∙ at.0) is.order) in
         subst (AllPairs (InOrder side)) (sym (map-append (λ (b : Block). b.price) (stair_in other side blocks) (block ∷ [])))
-        (all_pairs_push (InOrder side) (prices (stair_in other side blocks)) block.price (order other side)
-        (λ k d within. last_follows side block.price None (prices (stair_in other side blocks)) follow (order other side) k d within))
-    by false off = subst (λ bs. AllPairs (InOrder side) (prices bs)) (sym (append-nil (stair_in other side blocks))) (order other side)
+        (all_pairs_push (InOrder side) (block_prices (stair_in other side blocks)) block.price (order other side)
+        (λ k d within. last_follows side block.price None (block_prices (stair_in other side blocks)) follow (order other side) k d within))
+    by false off = subst (λ bs. AllPairs (InOrder side) (block_prices bs)) (sym (append-nil (stair_in other side blocks))) (order other side)
 
 order-where : (units : List unit.Unit) (blocks : List Block) (line : ℕ) (offer : Offer) (place : Option ℕ) (o : Option Block) → block_where units blocks line offer place ≡ Ok o
     → AreInOrder blocks → AreInOrder (blocks ++ listed o)

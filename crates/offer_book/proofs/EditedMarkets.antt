@@ -15,11 +15,12 @@ use Rattle.market_model.proofs.ChangeLemmas.{kept_price, kept_quantity, kept_dem
 use Rattle.offer_book.specs.declared.edit_parts.Edit.{Edit}
 use Rattle.offer_book.specs.declared.edit_parts.Edit.TheVariants as edit
 use Rattle.offer_book.specs.declared.edit_parts.EditFault.TheVariants as fault
-use Rattle.market_model.specs.LimitRows.{limit_of}
-use Rattle.offer_book.specs.Edits.{number_of, is_block_of, place_of_block, place_of_bus, place_of_limit, rival_of, over_capacity, judge_quantity, step_of}
+use Rattle.market_model.specs.LimitRows.{has_limit}
+use Rattle.offer_book.specs.Edits.{number_of, is_block_of, place_of_block, place_of_limit, rival_of, over_capacity, judge_quantity, step_of}
 use Rattle.offer_book.specs.EditLaws.{LawOfEditedMarkets}
 use Rattle.offer_book.proofs.CapacityLemmas.{within_room}
 use Rattle.market_model.specs.Lines.{hard_line}
+use Rattle.market_model.specs.Dispatch.{place_of_bus}
 
 some_same : (x y : ℕ) → ◌≡◌ {A = Option ℕ} (Some x) (Some y) → x ≡ y
 some_same x y e = Prim.cc
@@ -71,13 +72,13 @@ named m row side number j e = by (lt_z number (pos 1)) refl e
 pub block_inside : (m : Parts) (row : ℤ) (side : Side) (number : ℤ) (j : ℕ) → place_of_block m row side number ≡ Some j → j < length m.blocks
 block_inside m row side number j e = let at = (named m row side number j e).nth in let is = at.is in let within = at.within in Prim.omega (arith, is, within)
 
-bus_inside : (m : Parts) (number : ℤ) (i : ℕ) → place_of_bus m number ≡ Some i → i < length m.buses
+bus_inside : (m : Parts) (number : ℤ) (i : ℕ) → place_of_bus m.buses number ≡ Some i → i < length m.buses
 unfolding place_of_bus
 bus_inside m number i e = (position-Some (λ bus. int_eq (pos bus.number) number) m.buses i (record { number = 0; pd = pos 0; gs = pos 0 }) e).0
 
 limit_inside : (m : Parts) (row : ℤ) (post : Bool) (l : ℕ) → place_of_limit m row post ≡ Some l → l < length m.lines
 unfolding place_of_limit
-limit_inside m row post l e = (position-Some (λ line. int_eq (pos line.row) row && is_some (limit_of post line)) m.lines l (hard_line 0 None None (pos 0)) e).0
+limit_inside m row post l e = (position-Some (λ line. int_eq (pos line.row) row && has_limit post line) m.lines l (hard_line 0 None None (pos 0)) e).0
 
 -- ---- an edit
 not_below : (a b : ℤ) → lt_z a b ≡ false → b ≤ℤ a
@@ -107,9 +108,9 @@ module _ (m : Parts) (market : IsMarket m) where
           → IsMarket (if is_some (option_map_or (judge_quantity m mw) o (Some fault.NoBlock)) then m else option_map_or (λ j. with_quantity m j mw) o m)
       by None e = market
       by (Some j) e = quantity_kept j mw (block_inside m row side number j e)
-  stepped (edit.Demand number mw) datum = by (place_of_bus m number) refl
+  stepped (edit.Demand number mw) datum = by (place_of_bus m.buses number) refl
     where
-      by : (o : Option ℕ) → place_of_bus m number ≡ o → IsMarket (if is_some (if is_some o then None else Some fault.NoBus) then m else option_map_or (λ i. with_demand m i mw) o m)
+      by : (o : Option ℕ) → place_of_bus m.buses number ≡ o → IsMarket (if is_some (if is_some o then None else Some fault.NoBus) then m else option_map_or (λ i. with_demand m i mw) o m)
       by None e = market
       by (Some i) e = kept_demand m market i mw (bus_inside m number i e) datum
   stepped (edit.Limit row post mw) datum = by (place_of_limit m row post) (lt_z mw (pos 0)) refl refl

@@ -15,13 +15,13 @@ use Rattle.market_data.specs.Scales.{most_units}
 use Rattle.market_data.specs.declared.participants.UnitList.{UnitList}
 use Rattle.market_model.specs.declared.participants.ReserveOffer.{ReserveOffer}
 use Rattle.market_model.specs.Market.{IsReserve, IsReserveOffer}
-use Rattle.market_model.specs.Reserves.{no_reserve}
+use Rattle.market_model.specs.Reserves.{no_reserve, offers_among}
 use Rattle.record_reading.specs.Records.{Record}
 use Rattle.offer_book.specs.declared.reserve_reading.Entry.{Entry}
 use Rattle.offer_book.specs.declared.reserve_reading.Entry.TheVariants as entry
 use Rattle.offer_book.specs.declared.reserve_reading.Found.{Found}
 use Rattle.offer_book.specs.declared.reserve_reading.ReserveFault.{ReserveFault}
-use Rattle.offer_book.specs.Reserving.{AreFound, IsEntry, entry_in, found_from, found_with, nothing_found, offers_before, reserve_from}
+use Rattle.offer_book.specs.Reserving.{AreFound, IsEntry, entry_in, found_from, found_with, nothing_found, reserve_from}
 
 module _ (units : UnitList) where
   -- the record at i is read, and the others follow in the light of it
@@ -53,12 +53,12 @@ behind true rest none = cc
 behind false rest none = none
 
 -- a unit without an offer is apart from those of the offers
-new_unit : (offers : List ReserveOffer) (u i d : ℕ) → offers_before u offers ≡ false → i < length offers → get_or (map (λ offer. offer.unit) offers) i d ≢ u
+new_unit : (offers : List ReserveOffer) (u i d : ℕ) → offers_among offers u ≡ false → i < length offers → get_or (map (λ offer. offer.unit) offers) i d ≢ u
 new_unit [] u i d none lt is = absurd (omega (arith, lt))
 new_unit (o ∷ os) u zero d none lt is =
     let same : (o.unit == u) ≡ true = eq-eqb o.unit u is in
     cc (same, none)
-new_unit (o ∷ os) u (suc i) d none lt is = new_unit os u i d (behind (o.unit == u) (offers_before u os) none) (omega (arith, lt)) is
+new_unit (o ∷ os) u (suc i) d none lt is = new_unit os u i d (behind (o.unit == u) (offers_among os u) none) (omega (arith, lt)) is
 
 -- a number more, apart from those before it
 apart-push : (xs : List ℕ) (x : ℕ) → AllPairs (λ a b. a ≢ b) xs → ((i d : ℕ) → i < length xs → get_or xs i d ≢ x) → AllPairs (λ a b. a ≢ b) (xs ++ x ∷ [])

@@ -8,7 +8,7 @@ use Rattle.std.proofs.lemmas.List.Quantifiers.{position-Some}
 use Rattle.record_reading.specs.Records.{Record}
 use Rattle.record_reading.specs.Steps.{and_then}
 use Rattle.record_reading.proofs.StepLemmas.{ok-same, some-ok, then-ok}
-use Rattle.record_reading.specs.Rows.{listed, gather}
+use Rattle.record_reading.specs.Gathering.{listed, gather}
 use Rattle.market_data.specs.declared.participants.Unit as unit
 use Rattle.market_data.specs.declared.participants.UnitList.{UnitList}
 use Rattle.market_model.specs.declared.participants.Block.{Block}

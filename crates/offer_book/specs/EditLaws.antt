@@ -32,12 +32,12 @@ abbrev pub InOrder : Side → ℤ → ℤ → Type 0
 InOrder Sell first second = first ≤ℤ second
 InOrder Buy first second = second ≤ℤ first
 
-abbrev pub prices : List Block → List ℤ
-prices blocks = map (λ block. block.price) blocks
+abbrev pub block_prices : List Block → List ℤ
+block_prices blocks = map (λ block. block.price) blocks
 
 -- blocks that a unit may offer on a side: the prices of sells never fall, those of buys never rise, and in all they are within its room
 pub record IsOfferCurve (u : unit.Unit) (side : Side) (blocks : List Block) : Type 0 where
-  pub monotone : AllPairs (InOrder side) (prices blocks)
+  pub monotone : AllPairs (InOrder side) (block_prices blocks)
   pub room : offered blocks ≤ℤ room_of side u
 
 -- the blocks of each unit on each side are an offer curve

@@ -7,8 +7,8 @@ use Rattle.std.specs.Ordering.{int_eq}
 use Rattle.market_model.specs.declared.participants.Parts.{Parts}
 use Rattle.market_model.specs.declared.participants.Side.{Side}
 use Rattle.market_model.specs.Changes.{with_price, with_quantity, with_demand, with_limit, with_need}
-use Rattle.market_model.specs.LimitRows.{limit_of}
-use Rattle.market_model.specs.Dispatch.{places, unit_at, block_at}
+use Rattle.market_model.specs.LimitRows.{has_limit}
+use Rattle.market_model.specs.Dispatch.{places, unit_at, block_at, place_of_bus}
 use Rattle.market_model.specs.Stairs.{same_side, stair_in, offered, room_of}
 use Rattle.offer_book.specs.declared.edit_parts.Edit.{Edit}
 use Rattle.offer_book.specs.declared.edit_parts.Edit.TheVariants as edit
@@ -40,12 +40,9 @@ place_of_block m row side number = if lt_z number (pos 1) then None else slice_g
 abbrev pub price_of_block : Parts → ℤ → Side → ℤ → Option ℤ
 price_of_block m row side number = option_map (λ j. (block_at m j).price) (place_of_block m row side number)
 
-unfoldable pub place_of_bus : Parts → ℤ → Option ℕ
-place_of_bus m number = position (λ bus. int_eq (pos bus.number) number) m.buses
-
 -- a branch row's line, where it has a limit after an outage, or in the base
 unfoldable pub place_of_limit : Parts → ℤ → Bool → Option ℕ
-place_of_limit m row post = position (λ line. int_eq (pos line.row) row && is_some (limit_of post line)) m.lines
+place_of_limit m row post = position (λ line. int_eq (pos line.row) row && has_limit post line) m.lines
 
 -- ---- why an edit is refused
 -- the price of the block before or after that another price between them breaks the stair against
@@ -74,7 +71,7 @@ judge m (edit.Price row side number price) =
     then option_map (λ other. fault.OutOfOrder other) (rival_of m row side number price)
     else Some fault.NoBlock
 judge m (edit.Quantity row side number mw) = option_map_or (judge_quantity m mw) (place_of_block m row side number) (Some fault.NoBlock)
-judge m (edit.Demand number mw) = if is_some (place_of_bus m number) then None else Some fault.NoBus
+judge m (edit.Demand number mw) = if is_some (place_of_bus m.buses number) then None else Some fault.NoBus
 judge m (edit.Limit row post mw) =
     if is_some (place_of_limit m row post)
     then (if lt_z mw (pos 0) then Some fault.Negative else None)
@@ -86,7 +83,7 @@ judge m (edit.Need mw) = if m.reserve.listed then (if lt_z mw (pos 0) then Some 
 abbrev pub changed : Parts → Edit → Parts
 changed m (edit.Price row side number price) = option_map_or (λ j. with_price m j price) (place_of_block m row side number) m
 changed m (edit.Quantity row side number mw) = option_map_or (λ j. with_quantity m j mw) (place_of_block m row side number) m
-changed m (edit.Demand number mw) = option_map_or (λ i. with_demand m i mw) (place_of_bus m number) m
+changed m (edit.Demand number mw) = option_map_or (λ i. with_demand m i mw) (place_of_bus m.buses number) m
 changed m (edit.Limit row post mw) = option_map_or (λ l. with_limit m l post mw) (place_of_limit m row post) m
 changed m (edit.Need mw) = with_need m mw
 

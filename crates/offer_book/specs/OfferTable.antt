@@ -13,7 +13,7 @@ use Rattle.market_model.specs.Stairs.{stair_in, offered, room_of}
 use Rattle.record_reading.specs.Records.{Record, cell_of}
 use Rattle.record_reading.specs.Steps.{and_then, checked, or_as, some_of}
 use Rattle.csv_table.specs.Table.{framed, number_in}
-use Rattle.record_reading.specs.Rows.{gather}
+use Rattle.record_reading.specs.Gathering.{gather}
 use Rattle.offer_book.specs.declared.offer_table.Offer.{Offer}
 use Rattle.offer_book.specs.declared.offer_table.Stair.{Stair}
 use Rattle.offer_book.specs.declared.offer_table.OfferFault.{OfferFault}

@@ -1,15 +1,15 @@
 -- What a table of reserves stands for: the offers and the need of its records, or the first fault.
 use Rattle.std.specs.Prelude.{⊤, ℕ, ◌+◌, ◌≡◌, ◌≢◌, ◌==◌, ◌||◌, ◌&&◌, ℤ, pos, ◌≤ℤ◌, Bool, false, List, [], ◌∷◌, ◌++◌, length, map, codes, All, AllPairs, IfSome, Option, Some, None, is_some, Result, Ok, Err, unsigned_abs, nat_lt, if◌then◌else◌}
 use Rattle.std.specs.Int.Signed.{lt_z}
-use Rattle.std.specs.List.{list_any, position}
+use Rattle.std.specs.List.{position}
 use Rattle.std.specs.Option.{unwrap_or}
 use Rattle.std.specs.Str.{bytes_eq}
 use Rattle.market_data.specs.Participants.{IsDatum}
-use Rattle.market_data.specs.Scales.{mw_places, price_places}
+use Rattle.market_data.specs.Scales.{mw_places, price_places, most_reserves}
 use Rattle.market_data.specs.declared.participants.UnitList.{UnitList}
 use Rattle.market_model.specs.declared.participants.Reserve.{Reserve}
-use Rattle.market_model.specs.declared.participants.ReserveOffer.{ReserveOffer}
 use Rattle.market_model.specs.Market.{IsReserveOffer}
+use Rattle.market_model.specs.Reserves.{offers_among}
 use Rattle.record_reading.specs.Records.{Record, cell_of}
 use Rattle.record_reading.specs.Steps.{and_then, checked, or_as}
 use Rattle.csv_table.specs.Table.{framed, number_in}
@@ -21,10 +21,6 @@ use Rattle.offer_book.specs.declared.reserve_reading.Kind.TheVariants as kind
 use Rattle.offer_book.specs.declared.reserve_reading.WrittenOffer.{WrittenOffer}
 use Rattle.offer_book.specs.declared.reserve_reading.ReserveFault.{ReserveFault}
 use Rattle.offer_book.specs.declared.reserve_reading.ReserveFault.TheVariants as fault
-
--- an offer of each unit, and a need
-abbrev pub most_reserves : ℕ
-most_reserves = 1001
 
 -- ---- the columns
 abbrev pub reserve_header : Record
@@ -75,16 +71,12 @@ place_in list line number =
     else Ok (position (λ u. u.row == unsigned_abs number) list.units)
 
 -- ---- what a record adds to those before it
--- whether a unit is among those of some offers
-abbrev pub offers_before : ℕ → List ReserveOffer → Bool
-offers_before unit offers = list_any (λ offer. offer.unit == unit) offers
-
 -- an offer of the live unit of this place: its quantity is at least 0, and the unit has none yet
 unfoldable pub live_entry : Found → ℕ → ℕ → WrittenOffer → Result Entry ReserveFault
 live_entry found line unit offer =
     checked
     ((lt_z offer.quantity (pos 0), fault.Negative line)
-    ∷ (offers_before unit found.offers, fault.Twice line)
+    ∷ (offers_among found.offers unit, fault.Twice line)
     ∷ [])
     (Ok (entry.Offer (record { unit = unit; quantity = offer.quantity; price = offer.price })))
 
@@ -129,14 +121,14 @@ found_with found (entry.Need mw) = record { offers = found.offers; need = Some m
 -- what records give behind those before them, the first of them having the line that is given, or the first fault
 unfoldable pub found_from : UnitList → Found → ℕ → List Record → Result Found ReserveFault
 found_from units found line [] = Ok found
-found_from units found line (r ∷ rows) = and_then (entry_in units found line r) (λ more. found_from units (found_with found more) (line + 1) rows)
+found_from units found line (r ∷ records) = and_then (entry_in units found line r) (λ more. found_from units (found_with found more) (line + 1) records)
 
 -- the reserve of what so many records gave: it is listed where there is a record, and none is needed where no record says how much
 abbrev pub reserve_from : ℕ → Found → Reserve
 reserve_from count found = record { listed = nat_lt 0 count; offers = found.offers; need = unwrap_or found.need (pos 0) }
 
 unfoldable pub reserve_in : UnitList → List Record → Result Reserve ReserveFault
-reserve_in units rows = and_then (found_from units nothing_found 2 rows) (λ found. Ok (reserve_from (length rows) found))
+reserve_in units records = and_then (found_from units nothing_found 2 records) (λ found. Ok (reserve_from (length records) found))
 
 -- the reserve that the bytes stand for
 unfoldable pub reserve_of_table : UnitList → List ℕ → Result Reserve ReserveFault
@@ -151,7 +143,7 @@ pub record OfferIsWritten (offer : WrittenOffer) : Type 0 where
 -- what may be added: an offer of one of so many units that has none yet, or a need of at least 0
 abbrev pub IsEntry : ℕ → Found → Entry → Type 0
 IsEntry units found entry.Dropped = ⊤
-IsEntry units found (entry.Offer offer) = IsReserveOffer units offer × (offers_before offer.unit found.offers ≡ false)
+IsEntry units found (entry.Offer offer) = IsReserveOffer units offer × (offers_among found.offers offer.unit ≡ false)
 IsEntry units found (entry.Need mw) = pos 0 ≤ℤ mw
 
 -- offers of some of so many units, no unit twice, and a need of at least 0 where there is one

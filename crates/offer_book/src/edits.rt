@@ -1,12 +1,12 @@
 //! Edits of a market.
 
-ghost use Rattle.std.specs.Prelude.{◌≡◌, ◌<◌, ◌^◌, pos, ◌≤ℤ◌, ◌+ℤ◌, ◌-ℤ◌, unsigned_abs, length, is_some, true, IfSome, IsSome};
+ghost use Rattle.std.specs.Prelude.{◌≡◌, ◌<◌, ◌^◌, pos, ◌≤ℤ◌, ◌+ℤ◌, ◌-ℤ◌, unsigned_abs, length, true, IfSome, IsSome};
 ghost use Rattle.std.specs.List.{slice_get};
 ghost use Rattle.market_data.specs.Participants.{IsDatum};
-ghost use Rattle.market_model.specs.Dispatch.{line_at};
+ghost use Rattle.market_model.specs.Dispatch.{line_at, place_of_bus};
 ghost use Rattle.market_data.specs.Scales.{most_blocks};
-ghost use Rattle.market_model.specs.LimitRows.{limit_of};
-ghost use Rattle.offer_book.specs.Edits.{answer, blocks_of_side, over_capacity, is_block_of, judge, number_of, place_of_block, place_of_bus, place_of_limit, price_of_block, rival, rival_of, step_of};
+ghost use Rattle.market_model.specs.LimitRows.{has_limit};
+ghost use Rattle.offer_book.specs.Edits.{answer, blocks_of_side, over_capacity, is_block_of, judge, number_of, place_of_block, place_of_limit, price_of_block, rival, rival_of, step_of};
 ghost use Rattle.offer_book.specs.declared.edit_parts.Edit.TheVariants as edit;
 
 use crate::edit_parts::{Edit, EditFault};
@@ -156,10 +156,10 @@ fn edit_quantity(
 }
 
 /// The place of the live bus of a number.
-#[tactic(auto, unfolding(crate::specs::Edits::place_of_bus))]
+#[tactic(auto, unfolding(market_model::specs::Dispatch::place_of_bus))]
 fn place_of_bus(market: &Market, number: i64) -> Option<usize>
     ensures within { IfSome result (λ place. place < length market.now.buses) }
-    ensures is { result ≡ place_of_bus market.now number }
+    ensures is { result ≡ place_of_bus market.now.buses number }
 {
     let buses = market.buses().slice();
     buses.iter().position(|bus| i64::from(bus.number) == number)
@@ -179,20 +179,16 @@ fn edit_demand(market: &mut Market, number: i64, mw: i64) -> Result<(), EditFaul
 
 /// Whether a line has a limit after an outage, or in the base.
 fn has_limit(line: &Line, post: bool) -> bool
-    ensures { result ≡ is_some (limit_of post line.now) }
+    ensures { result ≡ has_limit post line.now }
 {
-    if post {
-        line.post.is_some()
-    } else {
-        line.base.is_some()
-    }
+    line.limit(post).is_some()
 }
 
 /// The place of the line of a branch row that has such a limit.
 #[tactic(auto, unfolding(crate::specs::Edits::place_of_limit))]
 fn place_of_limit(market: &Market, row: i64, post: bool) -> Option<usize>
     ensures within { IfSome result (λ place. place < length market.now.lines) }
-    ensures limit { IfSome result (λ place. is_some (limit_of post (line_at market.now place)) ≡ true) }
+    ensures limit { IfSome result (λ place. has_limit post (line_at market.now place) ≡ true) }
     ensures is { result ≡ place_of_limit market.now row post }
 {
     let lines = market.lines().slice();

@@ -5,7 +5,7 @@ ghost use Rattle.std.specs.List.{position};
 ghost use Rattle.market_data.specs.Participants.{IsDatum};
 ghost use Rattle.market_data.specs.Scales.{most_blocks, most_units};
 ghost use Rattle.market_model.specs.Market.{IsBlock, HaveRoom};
-ghost use Rattle.record_reading.specs.Rows.{gather, listed};
+ghost use Rattle.record_reading.specs.Gathering.{gather, listed};
 ghost use Rattle.market_model.specs.Stairs.{is_on_stair, stair_in, room_of};
 ghost use Rattle.offer_book.specs.OfferTable.{side_in, offer_in, ends_of, follows, block_after, block_where, row_in, block_in, blocks_of_table};
 ghost use Rattle.offer_book.specs.Offers.{AreBlocks, HasSides, MayFollow, OfferIsRead, StairIsBounded};

@@ -3,20 +3,20 @@
 ghost use Rattle.std.specs.Prelude.{◌≡◌, ◌≢◌, ℕ, ◌+◌, ◌^◌, ◌≤◌, ◌<◌, length, get_or, [], Ok, Err, IfOk, IfErr, IfSome};
 ghost use Rattle.market_data.specs.Scales.{most_units};
 ghost use Rattle.market_model.specs.Market.{IsReserve};
-ghost use Rattle.offer_book.specs.Reserving.{AreFound, IsEntry, OfferIsWritten, entry_in, found_from, found_with, is_empty, kind_in, live_entry, need_entry, nothing_found, offer_entry, offers_before, place_in, reserve_from, reserve_of_table, written_in};
+ghost use Rattle.offer_book.specs.Reserving.{AreFound, IsEntry, OfferIsWritten, entry_in, found_from, found_with, is_empty, kind_in, live_entry, need_entry, nothing_found, offer_entry, place_in, reserve_of_table, written_in};
 
 use crate::offer_table::place_of;
 use csv_table::{Table, read_table};
-use market_model::{List, MW_PLACES, Memory, PRICE_PLACES, Reserve, ReserveOffer, UnitList};
+use market_data::MOST_RESERVES;
+use market_model::{
+    List, MW_PLACES, Memory, PRICE_PLACES, Reserve, ReserveOffer, UnitList, is_offered,
+};
 use record_reading::FrameFault;
 use std::alloc::Global;
 use thiserror::Error;
 
 /// The header of the table.
 pub const RESERVE_HEADER: &[&str] = &["kind", "unit", "mw", "price"];
-
-/// The most records of the table: an offer of each unit, and a need.
-const MOST_RESERVES: usize = 1001;
 
 /// The column of the word that says what a record is.
 const KIND: usize = 0;
@@ -171,13 +171,6 @@ fn live_place(units: &UnitList, number: i64, line: usize) -> Result<Option<usize
     Ok(place_of(units.units.slice(), number as u32))
 }
 
-/// Whether a unit is among those of some offers.
-fn has_offer(offers: &[ReserveOffer], unit: usize) -> bool
-    ensures { result ≡ offers_before unit offers.now }
-{
-    offers.iter().any(|offer| offer.unit == unit)
-}
-
 /// What an offer adds, whose unit has this place among the live ones.
 #[tactic(auto, unfolding(crate::specs::Reserving::live_entry))]
 fn live_entry(
@@ -193,7 +186,7 @@ fn live_entry(
     if offer.quantity < 0 {
         return Err(ReserveFault::Negative { line });
     }
-    if has_offer(found.offers.slice(), unit) {
+    if is_offered(found.offers.slice(), unit) {
         return Err(ReserveFault::Twice { line });
     }
     Ok(Entry::Offer(ReserveOffer {

@@ -18,7 +18,7 @@ use Rattle.market_data.specs.WholeSums.{int_sum}
 use Rattle.market_model.specs.Market.{AreUnitOutages, IsPickup}
 use Rattle.outage_list.specs.declared.pickup_records.UnitPickup.{UnitPickup}
 use Rattle.outage_list.specs.PickupRecords.{IsUnitPickup}
-use Rattle.outage_list.specs.UnitListing.{PicksUpAll, is_uneven, lost_units, outage_of, pickup_of, share_in, share_sum, with_lost, with_unit}
+use Rattle.outage_list.specs.UnitListing.{PicksUpAll, is_uneven, lost_units, lost_place, pickup_of, share_in, share_sum, with_lost, with_unit}
 use Rattle.outage_list.proofs.ListingLemmas.{among, apart-push, not_among}
 use Rattle.outage_list.proofs.UnitLemmas.{exact, share-range}
 
@@ -81,32 +81,32 @@ module _ (us : List ℕ) (u : ℕ) (found : list_any (λ v. v == u) us ≡ true)
   stands-at : position (λ v. v == u) us ≡ Some (position_or_len (λ v. v == u) us)
   stands-at = ap (λ b. cond b (Some (position_or_len (λ v. v == u) us)) None) (lt-ltb _ _ (any-below (λ v. v == u) us found))
 
-  outage-is : outage_of us u ≡ position_or_len (λ v. v == u) us
+  outage-is : lost_place us u ≡ position_or_len (λ v. v == u) us
   outage-is = ap (λ o. unwrap_or o 0) stands-at
 
-  outage-range : outage_of us u < length us
+  outage-range : lost_place us u < length us
   outage-range = omega (arith, outage-is, any-below (λ v. v == u) us found)
 
-  outage-at : get_or us (outage_of us u) 0 ≡ u
+  outage-at : get_or us (lost_place us u) 0 ≡ u
   outage-at =
       let (within, same, first) = position-Some (λ v. v == u) us (position_or_len (λ v. v == u) us) 0 stands-at in
       ap (λ (i : ℕ). get_or us i 0) outage-is ∙ eqb-true _ _ same
 
   -- its outage is that of the unit at a place where it is that unit
-  outage-test : AllPairs (λ a b. a ≢ b) us → (k : ℕ) → k < length us → (outage_of us u == k) ≡ (u == get_or us k 0)
+  outage-test : AllPairs (λ a b. a ≢ b) us → (k : ℕ) → k < length us → (lost_place us u == k) ≡ (u == get_or us k 0)
   outage-test once k lt = by (u == get_or us k 0) refl
     where
-      place : u ≡ get_or us k 0 → outage_of us u ≡ k
+      place : u ≡ get_or us k 0 → lost_place us u ≡ k
       place same =
           ⊎_elim
-          (λ before. absurd (once (outage_of us u) k 0 before lt (outage-at ∙ same)))
+          (λ before. absurd (once (lost_place us u) k 0 before lt (outage-at ∙ same)))
           (λ other. ⊎_elim
-          (λ behind. absurd (once k (outage_of us u) 0 behind outage-range (sym (outage-at ∙ same))))
+          (λ behind. absurd (once k (lost_place us u) 0 behind outage-range (sym (outage-at ∙ same))))
           (λ le. omega (arith, other, le))
-          (cases_lt k (outage_of us u)))
-          (cases_lt (outage_of us u) k)
+          (cases_lt k (lost_place us u)))
+          (cases_lt (lost_place us u) k)
 
-      by : (b : Bool) → (u == get_or us k 0) ≡ b → (outage_of us u == k) ≡ b
+      by : (b : Bool) → (u == get_or us k 0) ≡ b → (lost_place us u == k) ≡ b
       by true e = eq-eqb _ _ (place (eqb-true _ _ e))
       by false e = false_from_ne_true _ (λ h. true≢false (sym (eq-eqb u (get_or us k 0) (sym outage-at ∙ ap (λ (i : ℕ). get_or us i 0) (eqb-true _ _ h))) ∙ e))
 
@@ -163,7 +163,7 @@ whole-sum : (ts : List UnitPickup) (u : ℕ) → is_uneven ts u ≡ false → sh
 whole-sum ts u even = (Decides-int_eq (share_sum ts u) (pos share_one)).0 (not-false _ even)
 
 -- the shares of an outage are those of its unit
-shares-by : (lost : List ℕ) (k v : ℕ) (ts : List UnitPickup) → ((j : ℕ) (d : UnitPickup) → j < length ts → (outage_of lost (get_or ts j d).lost == k) ≡ ((get_or ts j d).lost == v))
+shares-by : (lost : List ℕ) (k v : ℕ) (ts : List UnitPickup) → ((j : ℕ) (d : UnitPickup) → j < length ts → (lost_place lost (get_or ts j d).lost == k) ≡ ((get_or ts j d).lost == v))
     → int_sum (λ p. if p.outage == k then p.share else pos 0) (map (pickup_of lost) ts) ≡ share_sum ts v
 shares-by lost k v [] same = refl
 shares-by lost k v (t ∷ ts) same =

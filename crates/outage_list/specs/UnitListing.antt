@@ -4,7 +4,7 @@ use Rattle.std.specs.List.{find, list_any}
 use Rattle.std.specs.Option.{option_map_or}
 use Rattle.std.specs.Ordering.{int_eq}
 use Rattle.record_reading.specs.Records.{Record}
-use Rattle.record_reading.specs.Rows.{read_rows}
+use Rattle.record_reading.specs.Gathering.{read_records}
 use Rattle.record_reading.specs.Steps.{and_then}
 use Rattle.csv_table.specs.Table.{framed}
 use Rattle.market_data.specs.Scales.{share_one, most_pickups}
@@ -45,12 +45,12 @@ abbrev pub is_uneven : List UnitPickup → ℕ → Bool
 is_uneven unit_pickups u = not (int_eq (share_sum unit_pickups u) (pos share_one))
 
 -- the place of a unit among those that are lost
-abbrev pub outage_of : List ℕ → ℕ → ℕ
-outage_of lost u = unwrap_or (position (λ v. v == u) lost) 0
+abbrev pub lost_place : List ℕ → ℕ → ℕ
+lost_place lost u = unwrap_or (position (λ v. v == u) lost) 0
 
 -- a record by the place of its outage
 abbrev pub pickup_of : List ℕ → UnitPickup → Pickup
-pickup_of lost t = record { outage = outage_of lost t.lost; taker = t.taker; share = t.share }
+pickup_of lost t = record { outage = lost_place lost t.lost; taker = t.taker; share = t.share }
 
 -- ---- the outages
 -- at each outage shares that sum to 1 are picked up
@@ -72,4 +72,4 @@ abbrev pub unit_outage_header : Record
 unit_outage_header = codes "unit" ∷ codes "taker" ∷ codes "share" ∷ []
 
 unfoldable pub unit_outages_of : LiveNetwork → List ℕ → Result UnitOutages UnitOutageFault
-unit_outages_of network bytes = and_then (and_then (framed fault.Frame unit_outage_header (Some most_pickups) bytes) (read_rows (unit_pickup_in network) [] 2)) (listed_by network)
+unit_outages_of network bytes = and_then (and_then (framed fault.Frame unit_outage_header (Some most_pickups) bytes) (read_records (unit_pickup_in network) [] 2)) (listed_by network)

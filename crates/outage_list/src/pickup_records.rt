@@ -1,7 +1,7 @@
 //! The records of the table of outages of units.
 
 ghost use Rattle.std.specs.Prelude.{◌≡◌, ◌≢◌, ◌+◌, ◌<◌, ◌≤◌, ◌^◌, pos, ◌<ℤ◌, length, get_or, unsigned_abs, All, [], true, Ok, Err, IfOk, IfErr};
-ghost use Rattle.record_reading.specs.Rows.{read_rows};
+ghost use Rattle.record_reading.specs.Gathering.{read_records};
 ghost use Rattle.record_reading.specs.Steps.{checked, fine};
 ghost use Rattle.market_data.specs.Scales.{most_share};
 ghost use Rattle.outage_list.specs.PickupRecords.{IsUnitPickup, are_gen_rows, are_live, is_gen_row, is_live_unit, place_named, record_in, share_cell, stands, unit_pickup_faults, unit_pickup_in, unit_place};
@@ -179,8 +179,8 @@ pub(crate) fn unit_pickups_of(
 ) -> Result<List<UnitPickup>, UnitOutageFault>
     ensures count { IfOk result (λ unit_pickups. length unit_pickups ≤ length table.now) }
     ensures kept { IfOk result (All (IsUnitPickup (length network.now.units))) }
-    ensures ok { IfOk result (λ unit_pickups. read_rows (unit_pickup_in network.now) [] 2 table.now ≡ Ok unit_pickups) }
-    ensures err { IfErr result (λ fault. fault ≢ UnitOutageFault.Memory → read_rows (unit_pickup_in network.now) [] 2 table.now ≡ Err fault) }
+    ensures ok { IfOk result (λ unit_pickups. read_records (unit_pickup_in network.now) [] 2 table.now ≡ Ok unit_pickups) }
+    ensures err { IfErr result (λ fault. fault ≢ UnitOutageFault.Memory → read_records (unit_pickup_in network.now) [] 2 table.now ≡ Err fault) }
 {
     let mut unit_pickups = List::new(alloc);
     for place in 0..table.len() {

@@ -5,7 +5,7 @@ ghost use Rattle.std.specs.List.{find};
 ghost use Rattle.market_data.specs.Scales.{most_pickups};
 ghost use Rattle.market_model.specs.Market.{AreUnitOutages};
 ghost use Rattle.outage_list.specs.PickupRecords.{IsUnitPickup};
-ghost use Rattle.outage_list.specs.UnitListing.{PicksUpAll, is_uneven, listed_by, lost_units, outage_of, pickup_of, row_at, share_in, share_sum, unit_outages_of, with_unit};
+ghost use Rattle.outage_list.specs.UnitListing.{PicksUpAll, is_uneven, listed_by, lost_units, lost_place, pickup_of, row_at, share_in, share_sum, unit_outages_of, with_unit};
 
 use crate::UnitOutageFault;
 use crate::pickup_records::{UnitPickup, unit_pickups_of};
@@ -104,8 +104,8 @@ fn place_in(units: &[usize], unit: usize) -> Option<usize>
 }
 
 /// The place of a unit among those that are lost.
-fn outage_of(lost: &[usize], unit: usize) -> usize
-    ensures { result ≡ outage_of lost.now unit }
+fn lost_place(lost: &[usize], unit: usize) -> usize
+    ensures { result ≡ lost_place lost.now unit }
 {
     match place_in(lost, unit) {
         Some(place) => place,
@@ -118,7 +118,7 @@ fn pickup_of(lost: &[usize], unit_pickup: UnitPickup) -> Pickup
     ensures { result ≡ pickup_of lost.now unit_pickup }
 {
     Pickup {
-        outage: outage_of(lost, unit_pickup.lost),
+        outage: lost_place(lost, unit_pickup.lost),
         taker: unit_pickup.taker,
         share: unit_pickup.share,
     }

@@ -1,3 +1,3 @@
+pub mod Gathering
 pub mod Records
-pub mod Rows
 pub mod Steps

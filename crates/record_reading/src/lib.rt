@@ -3,7 +3,7 @@
 #![tactic(auto)]
 
 ghost use Rattle.std.specs.Prelude.{◌≡◌, ◌++◌, MatchResult};
-ghost use Rattle.record_reading.specs.Rows.{listed};
+ghost use Rattle.record_reading.specs.Gathering.{listed};
 
 use plain_list::{List, Memory};
 use scaled_decimal::DecimalFault;

@@ -6,11 +6,12 @@ use Rattle.std.proofs.Common.{ap, sym, ◌∙◌}
 use Rattle.market_model.specs.declared.participants.Parts.{Parts}
 use Rattle.market_model.specs.Changes.{with_demand, with_limit, with_need, with_price, with_quantity}
 use Rattle.market_model.specs.Frame.{SameFrame}
+use Rattle.market_model.specs.Dispatch.{place_of_bus}
 use Rattle.offer_book.specs.declared.edit_parts.Edit.{Edit}
 use Rattle.offer_book.specs.declared.edit_parts.Edit.TheVariants as edit
 use Rattle.offer_book.specs.declared.edit_parts.EditFault.{EditFault}
 use Rattle.offer_book.specs.declared.edit_parts.EditFault.TheVariants as fault
-use Rattle.offer_book.specs.Edits.{judge, place_of_block, place_of_bus, place_of_limit, step_of}
+use Rattle.offer_book.specs.Edits.{judge, place_of_block, place_of_limit, step_of}
 use Rattle.edit_table.specs.declared.Step.{Step}
 use Rattle.edit_table.specs.declared.Step.TheVariants as step
 use Rattle.edit_replay.specs.Replays.{stepped}
@@ -33,7 +34,7 @@ IsOther (edit.Need mw) = ⊥
 other_keeps : (m : Parts) (e : Edit) → IsOther e → m.reserve.need ≡ (step_of m e).reserve.need
 other_keeps m (edit.Price row side block price) other = kept m (λ j. with_price m j price) (λ j. refl) (is_some (judge m (edit.Price row side block price))) (place_of_block m row side block)
 other_keeps m (edit.Quantity row side block mw) other = kept m (λ j. with_quantity m j mw) (λ j. refl) (is_some (judge m (edit.Quantity row side block mw))) (place_of_block m row side block)
-other_keeps m (edit.Demand bus mw) other = kept m (λ i. with_demand m i mw) (λ i. refl) (is_some (judge m (edit.Demand bus mw))) (place_of_bus m bus)
+other_keeps m (edit.Demand bus mw) other = kept m (λ i. with_demand m i mw) (λ i. refl) (is_some (judge m (edit.Demand bus mw))) (place_of_bus m.buses bus)
 other_keeps m (edit.Limit branch post mw) other = kept m (λ l. with_limit m l post mw) (λ l. refl) (is_some (judge m (edit.Limit branch post mw))) (place_of_limit m branch post)
 other_keeps m (edit.Need mw) none = absurd none
 

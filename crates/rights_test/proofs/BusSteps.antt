@@ -12,9 +12,8 @@ use Rattle.exact_fraction.specs.declared.Op.TheVariants.{Plus, Minus}
 use Rattle.exact_fraction.specs.declared.Passed.{Passed}
 use Rattle.market_model.specs.declared.participants.TransmissionRight.{TransmissionRight}
 use Rattle.market_model.specs.NamedSums.{IsRefusal, IsRefusedIn}
-use Rattle.market_model.specs.Rights.{IsTransmissionRight, rights_injection, rights_injection_terms}
+use Rattle.market_model.specs.Rights.{IsTransmissionRight, rights_injection, rights_injection_terms, begin_terms}
 use Rattle.market_model.proofs.SumSteps.{minus_at, plus_at}
-use Rattle.rights_test.specs.Fits.{begin_terms}
 
 -- what stands where there is no right
 abbrev pub nothing : TransmissionRight

@@ -1,18 +1,13 @@
 -- Flows of rights, and which limit they break first.
-use Rattle.std.specs.Prelude.{◌≡◌, ◌⊎◌, ℕ, ◌+◌, ◌<◌, pos, List, [], ◌∷◌, ◌++◌, length, map, replicate, All, Contains, refl}
-use Rattle.std.specs.Ordering.{MatchOrdering}
-use Rattle.std.proofs.Common.{suc, zero, arith, inl, inr, ap, ap₂, sym, subst, ◌∙◌, get_or, Ordering, Less, Equal, Greater}
+use Rattle.std.specs.Prelude.{◌≡◌, ℕ, ◌+◌, ◌<◌, pos, List, [], ◌∷◌, ◌++◌, length, map, replicate, All, Contains, refl}
+use Rattle.std.proofs.Common.{suc, zero, arith, inl, inr, ap, ap₂, sym, subst, ◌∙◌, get_or}
 use Rattle.std.proofs.lemmas.List.{get_or_append_left, get_or-append-add, length-append, length-map, length-replicate, map-append}
 use Rattle.std.proofs.lemmas.List.FromFn.{length-map-range_with_len}
 use Rattle.std.proofs.lemmas.List.Elements.{All-append, All-cons, All-contains, All-nil, Contains-append_left, Contains-append_right}
-use Rattle.fraction_theory.specs.Fraction.{Fraction, whole, neg_ℚ, ◌-ℚ◌}
-use Rattle.fraction_theory.specs.Order.{◌<ℚ◌, ◌≤ℚ◌}
-use Rattle.fraction_theory.specs.Signs.{abs_ℚ}
+use Rattle.fraction_theory.specs.Fraction.{Fraction, whole, ◌-ℚ◌}
+use Rattle.fraction_theory.specs.Order.{◌≤ℚ◌}
 use Rattle.fraction_theory.specs.Sums.{Term, Product, total}
 use Rattle.fraction_theory.proofs.ListSums.{Contains-head}
-use Rattle.fraction_theory.proofs.OrderLaws.{NonNeg-one, by_le1, <ℚ-not-≤ℚ, ≤ℚ-or-<ℚ, ≤ℚ_trans, <ℚ-≤ℚ, ≤ℚ_of_same}
-use Rattle.fraction_theory.proofs.Ring.{at, pneg, pnil, pone}
-use Rattle.fraction_theory.proofs.SignLaws.{abs_above, abs_below, abs_within}
 use Rattle.exact_fraction.specs.declared.Passed.{Passed}
 use Rattle.market_model.specs.declared.answered.RowId.{RowId}
 use Rattle.market_model.specs.declared.limits.Row.{Row}
@@ -25,7 +20,7 @@ use Rattle.market_model.specs.NamedSums.{IsRefusedIn}
 use Rattle.market_model.specs.Optimality.{bus_price}
 use Rattle.market_model.specs.Overrun.{Within}
 use Rattle.market_model.specs.PutIn.{carried_in, put_in}
-use Rattle.market_model.specs.Rights.{IsTransmissionRight, paid_to_rights, right_terms, rights_injection}
+use Rattle.market_model.specs.Rights.{IsTransmissionRight, paid_to_rights, right_terms, rights_injection, carried_for}
 use Rattle.market_model.specs.Settlement.{surplus}
 use Rattle.market_model.specs.SumTables.{IsFlowRefusal, IsRefusedAmong, LineFlowSum, flow_of_line, flow_of_row}
 use Rattle.market_model.proofs.ChangeLemmas.{same_default}
@@ -35,36 +30,8 @@ use Rattle.market_model.proofs.RowMembers.{at_places}
 use Rattle.limit_rows.proofs.FlowSteps.{flow_terms-same, line_flow-same, line_terms-same}
 use Rattle.rights_test.specs.declared.right_parts.Fit.{Fit}
 use Rattle.rights_test.specs.declared.right_parts.Fit.TheVariants.{Fits, Breaks}
-use Rattle.rights_test.specs.Fits.{carried_for, carried_list, IsFirstBroken, IsFitBy}
+use Rattle.rights_test.specs.Fits.{carried_list, IsFirstBroken, IsFitBy}
 use Rattle.rights_test.specs.RightsLaws.{LawOfTheFit, LawOfOneFit, LawOfCoveredPayments}
-
--- ---- within a limit on both sides
-pub not_past : (o : Ordering) (x y : Fraction) → MatchOrdering o (x <ℚ y) (x ≡ y) (y <ℚ x) → (o ≡ Less) ⊎ (o ≡ Equal) → x ≤ℚ y
-not_past Less x y h is = <ℚ-≤ℚ x y h
-not_past Equal x y h is = ≤ℚ_of_same x y h
-not_past Greater x y h (inl e) = absurd Prim.cc
-not_past Greater x y h (inr e) = absurd Prim.cc
-
-from_opposite : (f most : Fraction) → neg_ℚ f ≤ℚ most → neg_ℚ most ≤ℚ f
-from_opposite f most h = by_le1 (f ∷ most ∷ []) (pneg (at 1)) (at 0) pone (pneg (at 0)) (at 1) NonNeg-one h refl
-
-below_opposite : (f : Fraction) → f ≤ℚ whole (pos 0) → f ≤ℚ neg_ℚ f
-below_opposite f h = ≤ℚ_trans f (whole (pos 0)) (neg_ℚ f) h (by_le1 (f ∷ []) pnil (pneg (at 0)) pone (at 0) pnil NonNeg-one h refl)
-
-opposite_below : (f : Fraction) → whole (pos 0) ≤ℚ f → neg_ℚ f ≤ℚ f
-opposite_below f h = ≤ℚ_trans (neg_ℚ f) (whole (pos 0)) f (by_le1 (f ∷ []) (pneg (at 0)) pnil pone pnil (at 0) NonNeg-one h refl) h
-
-pub size_kept : (most f : Fraction) → abs_ℚ f ≤ℚ most → Within most f
-size_kept most f h = elim (≤ℚ-or-<ℚ f (whole (pos 0))) [
-  | inl below ↦ let size : neg_ℚ f ≤ℚ most = subst (λ t. t ≤ℚ most) (abs_below f below) h in
-      record { above = from_opposite f most size; below = ≤ℚ_trans f (neg_ℚ f) most (below_opposite f below) size }
-  | inr above ↦ let least = <ℚ-≤ℚ (whole (pos 0)) f above in
-      let size : f ≤ℚ most = subst (λ t. t ≤ℚ most) (abs_above f least) h in
-      record { above = from_opposite f most (≤ℚ_trans (neg_ℚ f) f most (opposite_below f least) size); below = size }
-]
-
-pub size_passed : (most f : Fraction) → most <ℚ abs_ℚ f → ¬ (Within most f)
-size_passed most f h within = <ℚ-not-≤ℚ most (abs_ℚ f) h (abs_within f most within.above within.below)
 
 -- ---- what is carried
 module _ (m : Parts) (rights : List TransmissionRight) where

@@ -1,31 +1,23 @@
 -- Whether limits could carry rights together, and where not, the first that is broken.
 -- Hogan, Contract Networks for Electric Power Transmission (1992): the simultaneous feasibility test.
-use Rattle.std.specs.Prelude.{◌≡◌, ◌⊎◌, ℕ, ◌==◌, ◌<◌, List, ◌∷◌, ◌++◌, length, map, filter, replicate, All, Contains}
-use Rattle.fraction_theory.specs.Fraction.{Fraction, whole}
-use Rattle.fraction_theory.specs.Sums.{Term, Plain}
+use Rattle.std.specs.Prelude.{◌≡◌, ◌⊎◌, ℕ, ◌==◌, ◌<◌, List, ◌∷◌, ◌++◌, length, map, replicate, All}
+use Rattle.fraction_theory.specs.Fraction.{Fraction}
+use Rattle.fraction_theory.specs.Sums.{Term}
 use Rattle.exact_fraction.specs.declared.Passed.{Passed}
 use Rattle.market_model.specs.declared.limits.Row.{Row}
 use Rattle.market_model.specs.declared.participants.Parts.{Parts}
 use Rattle.market_model.specs.declared.participants.TransmissionRight.{TransmissionRight}
 use Rattle.market_model.specs.Dispatch.{places, zero}
-use Rattle.market_model.specs.LimitRows.{Carried, carried_by, flow_by, limit, line_flow, row_id, rows}
+use Rattle.market_model.specs.LimitRows.{flow_by, limit, line_flow, row_id, rows}
 use Rattle.market_model.specs.Optimality.{AreWithin}
 use Rattle.market_model.specs.Overrun.{Within}
-use Rattle.market_model.specs.Rights.{rights_injection, rights_injection_terms}
-use Rattle.market_model.specs.SumTables.{IsFlowRefusal, IsRefusedAmong, LineFlowSum}
+use Rattle.market_model.specs.Rights.{rights_injection, rights_injection_terms, carried_for}
+use Rattle.market_model.specs.SumTables.{IsRefusedAmong, LineFlowSum}
+use Rattle.limit_rows.specs.Refusals.{IsAnyFlowRefusal}
 use Rattle.rights_test.specs.declared.right_parts.Fit.{Fit}
 use Rattle.rights_test.specs.declared.right_parts.Fit.TheVariants.{Fits, Breaks}
 
--- ---- what rights put in
--- the MW of those that begin at a bus
-abbrev pub begin_terms : List TransmissionRight → ℕ → List Term
-begin_terms rights i = map (λ t. Plain (whole t.mw)) (filter (λ t. t.from == i) rights)
-
--- what the network carries where rights are put in and nothing else: a unit that is lost puts out nothing of them
-abbrev pub carried_for : Parts → List TransmissionRight → Carried
-carried_for m rights = carried_by m (rights_injection rights) (λ k. zero)
-
--- the same as a list: the flows of lines, and then the outputs of lost units
+-- what the network carries where rights are put in, as a list: the flows of lines, and then the outputs of lost units
 abbrev pub carried_list : Parts → List TransmissionRight → List Fraction
 carried_list m rights = map (line_flow m (rights_injection rights)) (places (length m.lines)) ++ replicate (length m.unit_outages) zero
 
@@ -64,6 +56,4 @@ pub data RightsFlowSum (m : Parts) (rights : List TransmissionRight) : List Term
 
 -- an operation refused where the fit of rights is looked for: in one of these, or for the flow of a row of the market
 abbrev pub IsFitRefusal : Parts → List TransmissionRight → ℕ → Passed Fraction → Type 0
-IsFitRefusal m rights bound p =
-    IsRefusedAmong (RightsFlowSum m rights) bound p
-    ⊎ ((r : Row) × Contains (rows m) r × IsFlowRefusal m (carried_for m rights) r bound p)
+IsFitRefusal m rights bound p = IsRefusedAmong (RightsFlowSum m rights) bound p ⊎ IsAnyFlowRefusal m (carried_for m rights) bound p

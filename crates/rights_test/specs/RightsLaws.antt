@@ -1,6 +1,6 @@
 -- What the fit and the payments of rights come to.
 -- Hogan, Contract Networks for Electric Power Transmission (1992): rights that flows could carry together are covered by the surplus.
-use Rattle.std.specs.Prelude.{◌≡◌, ◌↔◌, ℕ, ◌<◌, List, length, All}
+use Rattle.std.specs.Prelude.{◌≡◌, ◌↔◌, ℕ, List, length, All}
 use Rattle.fraction_theory.specs.Fraction.{Fraction}
 use Rattle.fraction_theory.specs.Order.{◌≤ℚ◌}
 use Rattle.market_model.specs.declared.answered.Duals.{Duals}
@@ -8,7 +8,7 @@ use Rattle.market_model.specs.declared.participants.Parts.{Parts}
 use Rattle.market_model.specs.declared.participants.TransmissionRight.{TransmissionRight}
 use Rattle.market_model.specs.Dispatch.{Dispatch}
 use Rattle.market_model.specs.Market.{IsMarket}
-use Rattle.market_model.specs.Optimality.{Feasible, Supports, bus_price}
+use Rattle.market_model.specs.Optimality.{Feasible, Supports, ArePricesOf}
 use Rattle.market_model.specs.Rights.{IsTransmissionRight, AreFeasibleTogether}
 use Rattle.market_model.specs.Settlement.{surplus}
 use Rattle.rights_test.specs.declared.right_parts.Fit.{Fit}
@@ -27,5 +27,5 @@ LawOfOneFit = (m : Parts) (rights : List TransmissionRight) (a b : Fit Fraction)
 -- where they fit, at the bus prices of duals that support a feasible dispatch, they are paid at most the surplus
 abbrev pub LawOfCoveredPayments : Type 0
 LawOfCoveredPayments = (m : Parts) (d : Duals Fraction) (x : Dispatch) (price : ℕ → Fraction) (rights : List TransmissionRight) → IsMarket m → Feasible m x → Supports m x d
-    → ((i : ℕ) → i < length m.buses → price i ≡ bus_price m d i) → All (IsTransmissionRight (length m.buses)) rights → IsFit m rights Fits
+    → ArePricesOf m d price → All (IsTransmissionRight (length m.buses)) rights → IsFit m rights Fits
     → (payments_of price rights).total ≤ℚ surplus m x d

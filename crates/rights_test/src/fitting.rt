@@ -1,16 +1,17 @@
 //! Whether limits could carry rights together.
 
-ghost use Rattle.std.specs.Prelude.{◌≡◌, ◌<◌, ◌+◌, ◌≤ℤ◌, pos, length, map, replicate, All, Contains, IfOk, IfErr, MatchBool};
+ghost use Rattle.std.specs.Prelude.{◌≡◌, ◌<◌, ◌+◌, ◌≤ℤ◌, pos, length, map, replicate, All, IfOk, IfErr, MatchBool};
 ghost use Rattle.market_model.specs.Dispatch.{zero};
 ghost use Rattle.market_model.specs.LimitRows.{flow_by, limit, rows};
 ghost use Rattle.market_model.specs.Overrun.{Within};
 ghost use Rattle.market_model.specs.PutIn.{carried_in};
-ghost use Rattle.market_model.specs.Rights.{IsTransmissionRight, rights_injection};
+ghost use Rattle.market_model.specs.Rights.{IsTransmissionRight};
 ghost use Rattle.market_model.specs.Stops.{StopsBy};
-ghost use Rattle.market_model.specs.SumTables.{IsFlowRefusal, IsRefusedAmong};
+ghost use Rattle.market_model.specs.SumTables.{IsRefusedAmong};
 ghost use Rattle.market_model.specs.Valued.{passed_at};
 ghost use Rattle.rights_test.specs.Fits.{carried_list, fit_at, IsFit, IsFitBy, IsFitRefusal, RightsFlowSum};
 ghost use Rattle.market_model.specs.declared.limits.Row.{Row};
+ghost use Rattle.limit_rows.specs.Refusals.{IsAnyFlowRefusal};
 
 use crate::injecting::put_rights;
 use crate::right_parts::Fit;
@@ -69,7 +70,7 @@ fn is_within<N: Exact>(market: &Market, row: Row, flow: N) -> bool
 fn first_broken<N: Exact>(market: &Market, carried: &[N]) -> Result<Fit<N>, Passed<N>>
     requires { length carried.now ≡ length market.now.lines + length market.now.unit_outages }
     ensures fit { IfOk result (λ fit. IsFitBy market.now (flow_by market.now (carried_in market.now (map N.value carried.now))) (fit_at N.value fit)) }
-    ensures cause { IfErr result (λ passed. (r : Row) × Contains (rows market.now) r × IsFlowRefusal market.now (carried_in market.now (map N.value carried.now)) r N.bound (passed_at N.value passed)) }
+    ensures cause { IfErr result (λ passed. IsAnyFlowRefusal market.now (carried_in market.now (map N.value carried.now)) N.bound (passed_at N.value passed)) }
 {
     let _lines = market.lines();
     for row in rows(market) {

@@ -1,18 +1,18 @@
 //! What rights put in at each bus.
 
-ghost use Rattle.std.specs.Prelude.{◌≡◌, ◌≤ℤ◌, ℕ, pos, true, length, map, filter, All, ◌==◌, IfOk, IfErr, if◌then◌else◌};
-ghost use Rattle.fraction_theory.specs.Fraction.{whole, ◌+ℚ◌, ◌-ℚ◌};
+ghost use Rattle.std.specs.Prelude.{◌≡◌, ◌≤ℤ◌, pos, true, length, map, All, ◌==◌, IfOk, IfErr, if◌then◌else◌};
+ghost use Rattle.fraction_theory.specs.Fraction.{whole, ◌-ℚ◌};
 ghost use Rattle.exact_fraction.specs.declared.Op.TheVariants as Op;
 ghost use Rattle.market_model.specs.Dispatch.{places, zero};
 ghost use Rattle.market_model.specs.NamedSums.{IsRefusal, IsRefusedIn};
-ghost use Rattle.market_model.specs.Rights.{IsTransmissionRight, rights_injection, rights_injection_terms};
+ghost use Rattle.market_model.specs.Rights.{rights_injection, rights_injection_terms, begin_terms};
 ghost use Rattle.market_model.specs.SumTables.{IsRefusedAmong};
 ghost use Rattle.market_model.specs.Valued.{passed_at};
 ghost use Rattle.fraction_theory.specs.Sums.{total};
-ghost use Rattle.rights_test.specs.Fits.{begin_terms, RightsInjectionSum};
+ghost use Rattle.rights_test.specs.Fits.{RightsInjectionSum};
 
-use exact_fraction::{Exact, Passed, exact_difference, exact_sum};
-use market_model::{TransmissionRight, datum};
+use exact_fraction::{Exact, Passed, exact_difference};
+use market_model::{TransmissionRight, datum, with_part};
 
 /// The MW of a right as a number.
 #[tactic(auto, using(market_data::proofs::Data::datum_read))]
@@ -21,20 +21,6 @@ pub(crate) fn mw_of<N: Exact>(right: &TransmissionRight) -> N
     ensures { N.value result ≡ whole right.now.mw }
 {
     datum(right.mw)
-}
-
-/// A sum with the MW of a right, where these count.
-fn with_begin<N: Exact>(sum: N, right: &TransmissionRight, belongs: bool) -> Result<N, Passed<N>>
-    requires { pos 0 ≤ℤ right.now.mw }
-    ensures sum { IfOk result (λ more. N.value more ≡ N.value sum +ℚ (if belongs then whole right.now.mw else zero)) }
-    ensures belongs { IfErr result (λ _. belongs ≡ true) }
-    ensures cause { IfErr result (λ passed. IsRefusal Op.Plus (N.value sum) (whole right.now.mw) N.bound (passed_at N.value passed)) }
-{
-    if belongs {
-        exact_sum(sum, mw_of(right))
-    } else {
-        Ok(sum)
-    }
 }
 
 /// A sum less the MW of a right, where these count.
@@ -59,7 +45,7 @@ fn begun_at<N: Exact>(rights: &[TransmissionRight], bus: usize) -> Result<N, Pas
 {
     let mut mw: N = datum(0);
     for right in rights {
-        mw = with_begin(mw, right, right.from == bus)?;
+        mw = with_part(mw, mw_of(right), right.from == bus)?;
     }
     Ok(mw)
 }

@@ -3,8 +3,9 @@
 ghost use Rattle.std.specs.Prelude.{◌≡◌, ◌≢◌, ◌+◌, ◌<◌, ◌≤◌, ◌^◌, length, get_or, All, [], Err, IfOk, IfSome};
 ghost use Rattle.market_data.specs.Participants.{IsDatum};
 ghost use Rattle.market_model.specs.Rights.{IsTransmissionRight};
-ghost use Rattle.record_reading.specs.Rows.{read_rows};
-ghost use Rattle.rights_test.specs.RightsTable.{bus_place, most_rights, place_in, record_in, right_in, rights_of_table};
+ghost use Rattle.market_model.specs.Dispatch.{place_of_bus};
+ghost use Rattle.record_reading.specs.Gathering.{read_records};
+ghost use Rattle.rights_test.specs.RightsTable.{most_rights, place_in, record_in, right_in, rights_of_table};
 
 use crate::right_parts::{Rights, RightsFault};
 use csv_table::{Table, read_table};
@@ -41,10 +42,10 @@ fn record_of(table: &Table, place: usize) -> Result<RightRecord, RightsFault>
 }
 
 /// The place of the live bus of a number, where there is one.
-#[tactic(auto, unfolding(crate::specs::RightsTable::bus_place))]
+#[tactic(auto, unfolding(market_model::specs::Dispatch::place_of_bus))]
 fn bus_place(buses: &[Bus], number: i64) -> Option<usize>
     ensures live { IfSome result (λ place. place < length buses.now) }
-    ensures is { result ≡ bus_place buses.now number }
+    ensures is { result ≡ place_of_bus buses.now number }
 {
     buses.iter().position(|bus| i64::from(bus.number) == number)
 }
@@ -84,7 +85,7 @@ fn right_of(buses: &[Bus], table: &Table, place: usize) -> Result<TransmissionRi
 fn rights_of(alloc: Global, buses: &[Bus], table: &Table) -> Result<Rights, RightsFault>
     ensures count { IfOk result (λ rights. length rights ≤ length table.now) }
     ensures kept { IfOk result (All (IsTransmissionRight (length buses.now))) }
-    ensures is { result ≢ Err RightsFault.Memory → result ≡ read_rows (λ done. right_in buses.now) [] 2 table.now }
+    ensures is { result ≢ Err RightsFault.Memory → result ≡ read_records (λ done. right_in buses.now) [] 2 table.now }
 {
     let mut rights = List::new(alloc);
     for place in 0..table.len() {

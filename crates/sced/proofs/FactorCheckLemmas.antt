@@ -7,7 +7,7 @@ use Rattle.csv.proofs.OnLiterals.{csv_on_literals}
 use Rattle.csv_table.specs.Table.{frame_of, header_line, table_of}
 use Rattle.outside_store.specs.Files.{Files}
 use Rattle.record_reading.specs.Records.{Record, first_ragged}
-use Rattle.record_reading.specs.Rows.{gather}
+use Rattle.record_reading.specs.Gathering.{gather}
 use Rattle.record_reading.specs.Steps.{and_then, or_as}
 use Rattle.factor_laws.specs.Laws.{LossTablesAreExplained, LossTablesAreReadBack, ShiftTablesAreExplained}
 use Rattle.factor_maker.specs.Made.{IsMadeLoss}

@@ -301,7 +301,7 @@ has-certificate places listed (outcome.Range p) (inr is) = cc is
 told-certificate : (m : Parts) (t : Telling) (s : Status) → t.status ≡ s → (s ≡ status.Done) ⊎ (s ≡ status.Infeasible) → TellsClear m t → (bytes : List ℕ) × (t.outputs.certificate ≡ Some bytes)
 told-certificate m t s ends which (market, clears) =
     let is = sym clears.status_is ∙ ends in
-    let some = has-certificate m.places m.reserve.listed clears.outcome (subst (λ (x : Status). (x ≡ status.Done) ⊎ (x ≡ status.Infeasible)) (sym is) which) in
+    let some = has-certificate m.factor_places m.reserve.listed clears.outcome (subst (λ (x : Status). (x ≡ status.Done) ⊎ (x ≡ status.Infeasible)) (sym is) which) in
     (some.0, ap (λ (o : Outputs (List ℕ)). o.certificate) clears.certificate_is ∙ some.1)
 
 -- a file has this text, or what it had where there is none
@@ -353,11 +353,11 @@ law_of_certificate words files later text s names file m o clear now asked marke
     let p = printed words files text s clear in
     let tells = clear-told files words p.telling p.written (Ok m) p.answers market in
     let same : tells.1.outcome ≡ o = reports_apart m tells.1.outcome o (outcome_fits _ m tells.1.outcome tells.1.right) fits (sym tells.1.text_is ∙ p.text_is ∙ is) in
-    let put : p.telling.outputs.certificate ≡ certificate_of m.places m.reserve.listed o = ap (λ (x : Outputs (List ℕ)). x.certificate) tells.1.certificate_is ∙ ap (certificate_of m.places m.reserve.listed) same in
+    let put : p.telling.outputs.certificate ≡ certificate_of m.factor_places m.reserve.listed o = ap (λ (x : Outputs (List ℕ)). x.certificate) tells.1.certificate_is ∙ ap (certificate_of m.factor_places m.reserve.listed) same in
     let written = clear-written files words p.telling p.written names (Some file) asked p.answers ∙ ap (λ c. named_bytes (Some file) c []) put in
-    certificate-kept (Certifies m) (cert_of_outcome m.places m.reserve.listed o) (files file) (later file) (kept-as files later file (certificate_of m.places m.reserve.listed o) p.written clear.after.files written now p.kept)
+    certificate-kept (Certifies m) (cert_of_outcome m.factor_places m.reserve.listed o) (files file) (later file) (kept-as files later file (certificate_of m.factor_places m.reserve.listed o) p.written clear.after.files written now p.kept)
     (λ c some. (let trip = law_of_the_round_trip m p.telling (cert_text c) tells (put ∙ ap (option_map cert_text) some) in
-    let one : trip.0 ≡ c = one-certificate (cert_of_outcome m.places m.reserve.listed o) trip.0 c (ap (cert_of_outcome m.places m.reserve.listed) (sym same) ∙ trip.1) some in
+    let one : trip.0 ≡ c = one-certificate (cert_of_outcome m.factor_places m.reserve.listed o) trip.0 c (ap (cert_of_outcome m.factor_places m.reserve.listed) (sym same) ∙ trip.1) some in
     subst (Certifies m (cert_text c)) one trip.2))
 
 -- what is written of a replay is its certificate, where a file is named for it
@@ -386,13 +386,13 @@ law_of_last_certificate words files later text s names edits file r outcomes rep
     let same : tells.1.outcomes ≡ outcomes =
     replays_read_apart r.market r.steps tells.1.outcomes outcomes (replay_fits most_size r.market [] tells.1.taken r.steps tells.1.outcomes tells.1.right) fits (sym tells.1.text_is ∙ p.text_is ∙ is) in
     let last = last_clear None outcomes in
-    let put : p.telling.outputs.certificate ≡ option_map cert_text (option_and_then (cert_of_outcome r.market.places r.market.reserve.listed) last) =
-    ap (λ (x : Outputs (List ℕ)). x.certificate) tells.1.certificate_is ∙ ap (λ os. option_and_then (certificate_of r.market.places r.market.reserve.listed) (last_clear None os)) same ∙ text-of-last r.market.places r.market.reserve.listed last in
+    let put : p.telling.outputs.certificate ≡ option_map cert_text (option_and_then (cert_of_outcome r.market.factor_places r.market.reserve.listed) last) =
+    ap (λ (x : Outputs (List ℕ)). x.certificate) tells.1.certificate_is ∙ ap (λ os. option_and_then (certificate_of r.market.factor_places r.market.reserve.listed) (last_clear None os)) same ∙ text-of-last r.market.factor_places r.market.reserve.listed last in
     let written = replay-written files words p.telling p.written names edits (Some file) asked p.answers ∙ ap (λ c. named_bytes (Some file) c []) put in
-    certificate-kept (CertifiesLast r) (option_and_then (cert_of_outcome r.market.places r.market.reserve.listed) last) (files file) (later file)
-    (kept-as files later file (option_map cert_text (option_and_then (cert_of_outcome r.market.places r.market.reserve.listed) last)) p.written replay.after.files written now p.kept)
+    certificate-kept (CertifiesLast r) (option_and_then (cert_of_outcome r.market.factor_places r.market.reserve.listed) last) (files file) (later file)
+    (kept-as files later file (option_map cert_text (option_and_then (cert_of_outcome r.market.factor_places r.market.reserve.listed) last)) p.written replay.after.files written now p.kept)
     (λ c some. (let trip = law_of_the_replay r p.telling (cert_text c) tells (put ∙ ap (option_map cert_text) some) in
-    let one : trip.0 ≡ c = one-certificate (option_and_then (cert_of_outcome r.market.places r.market.reserve.listed) last) trip.0 c (ap (λ os. option_and_then (cert_of_outcome r.market.places r.market.reserve.listed) (last_clear None os)) (sym same) ∙ trip.1) some in
+    let one : trip.0 ≡ c = one-certificate (option_and_then (cert_of_outcome r.market.factor_places r.market.reserve.listed) last) trip.0 c (ap (λ os. option_and_then (cert_of_outcome r.market.factor_places r.market.reserve.listed) (last_clear None os)) (sym same) ∙ trip.1) some in
     subst (CertifiesLast r (cert_text c)) one trip.2))
 
 pub law_of_round_trip : LawOfRoundTrip

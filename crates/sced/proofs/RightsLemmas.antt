@@ -1,5 +1,5 @@
 -- The laws of runs on transmission rights, and of certificates that are written anew.
-use Rattle.std.specs.Prelude.{◌≡◌, ℕ, ◌<◌, List, [], All, Some, Ok, codes, length, map}
+use Rattle.std.specs.Prelude.{◌≡◌, ℕ, List, [], All, Some, Ok, codes, length, map}
 use Rattle.std.proofs.Common.{refl, sym, subst, ap, ◌∙◌}
 use Rattle.fraction_theory.specs.Fraction.{Fraction}
 use Rattle.fraction_theory.specs.Order.{◌≤ℚ◌}
@@ -13,7 +13,7 @@ use Rattle.market_model.specs.declared.participants.TransmissionRight.{Transmiss
 use Rattle.market_model.specs.Dispatch.{places, zero}
 use Rattle.market_model.specs.Laws.{LawOfTheReserve}
 use Rattle.market_model.specs.Market.{IsMarket}
-use Rattle.market_model.specs.Optimality.{bus_price, price_by}
+use Rattle.market_model.specs.Optimality.{bus_price, price_by, ArePricesOf}
 use Rattle.market_model.specs.RightAnswers.{IsRight, dispatch_in, price_made}
 use Rattle.market_model.specs.Rights.{IsTransmissionRight}
 use Rattle.market_model.specs.Settlement.{surplus}
@@ -46,7 +46,7 @@ use Rattle.sced.proofs.RunLemmas.{printed}
 
 -- ---- rights
 -- the bus prices of a right answer are those of its duals
-prices-of : (m : Parts) (a : Answer Fraction) → IsRight m a → (i : ℕ) → i < length m.buses → total_at (λ x. x) a.prices i ≡ bus_price m a.duals i
+prices-of : (m : Parts) (a : Answer Fraction) → IsRight m a → ArePricesOf m a.duals (total_at (λ x. x) a.prices)
 unfolding price_by
 prices-of m a right =
     filled_at (bus_price m a.duals) (map (λ (p : Price Fraction). p.total) a.prices) (length m.buses) zero

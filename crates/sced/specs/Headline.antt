@@ -1,7 +1,7 @@
 -- The promise of a run in the words of its users: laws of every run of the program, each from what `run` promises alone.
 -- Wood and Wollenberg, Power Generation, Operation and Control: dispatch within limits of the base and after outages. Schweppe and others, Spot
 -- Pricing of Electricity: prices and the surplus. Farkas: why no dispatch qualifies.
-use Rattle.std.specs.Prelude.{◌≡◌, ◌≢◌, ◌⊎◌, ℕ, List, [], ◌++◌, length, map, take, Contains, codes, is_some, slice_get, Option, Some, None, option_and_then, Ok, Err}
+use Rattle.std.specs.Prelude.{◌≡◌, ◌≢◌, ◌⊎◌, ℕ, List, [], ◌++◌, length, map, take, codes, is_some, slice_get, Option, Some, None, option_and_then, Ok, Err}
 use Rattle.std.specs.Option.{option_map_or}
 use Rattle.fraction_theory.specs.Fraction.{Fraction, ◌*ℚ◌}
 use Rattle.fraction_theory.specs.Order.{◌≤ℚ◌}
@@ -21,7 +21,7 @@ use Rattle.market_model.specs.Dispatch.{Dispatch, IsDispatch, balance, places, z
 use Rattle.market_model.specs.Infeasibility.{IsFarkas}
 use Rattle.market_model.specs.LimitRows.{flow, most_flow, rows}
 use Rattle.market_model.specs.Optimality.{AreWithin, Feasible, ProperDuals, Supports, bus_price, welfare}
-use Rattle.market_model.specs.Reserves.{reserve, reserve_need, reserve_units, room, room_used}
+use Rattle.market_model.specs.Reserves.{reserve, reserve_need, reserve_units, KeepRooms}
 use Rattle.market_model.specs.RightAnswers.{dispatch_in, price_made, settlement_at}
 use Rattle.market_model.specs.Rights.{AreFeasibleTogether}
 use Rattle.market_model.specs.Settlement.{rent}
@@ -151,7 +151,7 @@ pub record HasGreatestWelfare (m : Parts) (x : Dispatch) : Type 0 where
   pub balances : balance m x ≡ zero
   pub within : AreWithin (rows m) (most_flow m) (flow m x)
   pub need : reserve_need m ≤ℚ reserve m x
-  pub rooms : (u : ℕ) → Contains (reserve_units m) u → room_used m x u ≤ℚ room m u
+  pub rooms : KeepRooms m (reserve_units m) x
   pub greatest : (y : Dispatch) → Feasible m y → welfare m y ≤ℚ welfare m x
 
 -- The prices are those of the duals, which support the dispatch and name rows and rooms of the market in its order, each with one price. The
@@ -254,7 +254,7 @@ pub record HasCertificate (holds : List ℕ → Cert Fraction → Type 0) (certi
 abbrev pub LawOfCertificate : Type 0
 LawOfCertificate = (words : List (List ℕ)) (files later : Files) (text : List ℕ) (s : Status) (names : MarketNames) (file : List ℕ) (m : Parts)
     (o : Outcome Fraction) → (clear : Prints words files text s) → clear.after.files ≡ Some later → AsksClear words names (Some file) → AsksMarket files words m
-    → OutcomeFitsReport m o → text ≡ report_text m o → HasCertificate (Certifies m) (cert_of_outcome m.places m.reserve.listed o) (files file) (later file)
+    → OutcomeFitsReport m o → text ≡ report_text m o → HasCertificate (Certifies m) (cert_of_outcome m.factor_places m.reserve.listed o) (files file) (later file)
 
 -- in a replay, that of the last clear and of the market as the steps before it edit it
 abbrev pub LawOfLastCertificate : Type 0
@@ -262,7 +262,7 @@ LawOfLastCertificate = (words : List (List ℕ)) (files later : Files) (text : L
     (r : MarketSteps) (outcomes : List (StepOutcome Fraction)) → (replay : Prints words files text s) → replay.after.files ≡ Some later
     → AsksReplay words names edits (Some file) → AsksToReplay files words (Ok r)
     → OutcomesFit r.market r.steps outcomes → text ≡ replayed r.market r.steps outcomes
-    → HasCertificate (CertifiesLast r) (option_and_then (cert_of_outcome r.market.places r.market.reserve.listed) (last_clear None outcomes)) (files file) (later file)
+    → HasCertificate (CertifiesLast r) (option_and_then (cert_of_outcome r.market.factor_places r.market.reserve.listed) (last_clear None outcomes)) (files file) (later file)
 
 -- ---- round trip
 -- of what a clear of a market wrote `verify` says yes against that market, or that numbers are too large

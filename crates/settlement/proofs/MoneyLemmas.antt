@@ -1,18 +1,16 @@
 -- The surplus of a settlement, and what it is at the prices of duals.
 use Rattle.std.specs.Prelude.{◌≡◌, ℕ, ◌+◌, ◌<◌, pos, false, List, [], ◌∷◌, ◌++◌, map, length, take, refl}
-use Rattle.std.proofs.Common.{zero, suc, arith, ap, ap₂, sym, ◌∙◌, subst, get_or, drop}
-use Rattle.std.proofs.lemmas.List.{map-append, get_or-map, length-map}
+use Rattle.std.proofs.Common.{ap, ap₂, sym, ◌∙◌, subst, get_or, drop}
+use Rattle.std.proofs.lemmas.List.{length-map}
 use Rattle.std.proofs.lemmas.List.FromFn.{length-map-range_with_len}
 use Rattle.fraction_theory.specs.Fraction.{Fraction, whole, neg_ℚ, ◌+ℚ◌, ◌-ℚ◌, ◌*ℚ◌}
 use Rattle.fraction_theory.specs.Order.{◌≤ℚ◌}
-use Rattle.fraction_theory.specs.Sums.{sum_by, Term, Plain, Product, term_value, total, prefix}
+use Rattle.fraction_theory.specs.Sums.{sum_by, Term, Plain, total}
 use Rattle.fraction_theory.proofs.FieldLaws.{ring_ℚ}
-use Rattle.fraction_theory.proofs.Ring.{neg_times, by_ring, at, padd, pmul, pneg, pnil}
+use Rattle.fraction_theory.proofs.Ring.{by_ring, at, padd, pmul, pneg, pnil}
 use Rattle.fraction_theory.proofs.SumLaws.{total-append, total-Plain}
-use Rattle.exact_fraction.specs.declared.Op.{Op}
-use Rattle.exact_fraction.specs.declared.Op.TheVariants.{Plus, Minus, Times}
+use Rattle.exact_fraction.specs.declared.Op.TheVariants.{Plus}
 use Rattle.exact_fraction.specs.declared.Passed.{Passed}
-use Rattle.exact_fraction.specs.Passes.{IsTooLarge, outcome}
 use Rattle.market_model.specs.declared.answered.Dual.{Dual}
 use Rattle.market_model.specs.declared.answered.Duals.{Duals}
 use Rattle.market_model.specs.declared.answered.Load.{Load}
@@ -20,25 +18,25 @@ use Rattle.market_model.specs.declared.answered.Money.{Money}
 use Rattle.market_model.specs.declared.answered.Rent.{Rent}
 use Rattle.market_model.specs.declared.answered.UnitPay.{UnitPay}
 use Rattle.market_model.specs.declared.participants.Parts.{Parts}
-use Rattle.market_model.specs.Dispatch.{Dispatch, places, output, demand}
+use Rattle.market_model.specs.Dispatch.{Dispatch, places}
 use Rattle.market_model.specs.Laws.{HasOffsetsWithin}
 use Rattle.market_model.specs.declared.limits.Row.{Row}
 use Rattle.market_model.specs.LimitRows.{flow, lost_unit, rows, row_id, row_offset}
 use Rattle.market_model.specs.Market.{IsMarket}
-use Rattle.market_model.specs.NamedSums.{SameSize, term_at, IsNextTerm, IsSumStep, IsRefusal, IsRefusedIn}
-use Rattle.market_model.specs.Optimality.{bus_price, names_row, named_rows, own_price}
+use Rattle.market_model.specs.NamedSums.{IsRefusal, IsRefusedIn}
+use Rattle.market_model.specs.Optimality.{bus_price, names_row, named_rows, own_price, ArePricesOf}
 use Rattle.market_model.specs.RightAnswers.{rent_of, settlement_at}
 use Rattle.market_model.specs.Reserves.{offer_places}
-use Rattle.market_model.specs.Settlement.{rent, surplus, pay_of_reserve, pay_of_unit, pay_of_load, surplus_terms_by, priced_flow}
+use Rattle.market_model.specs.Settlement.{rent, surplus, pay_of_reserve, pay_of_unit, pay_of_load, surplus_terms_by, priced_flow, paid_terms}
 use Rattle.market_model.specs.Valued.{dual_at, duals_at, load_at, rent_at, unit_pay_at}
 use Rattle.market_model.proofs.Optimum.{law_of_the_surplus, law_of_its_sign}
 use Rattle.market_model.proofs.RowMembers.{lost_unit-in}
 use Rattle.market_model.proofs.SumSteps.{plus_at, behind, in_front}
-use Rattle.market_model.proofs.UnitPrices.{at_unit, left_at}
+use Rattle.market_model.proofs.UnitPrices.{at_unit, left_at, loads_same, units_same}
 use Rattle.limit_rows.proofs.DualLemmas.{up_unnamed, down_unnamed, sum_named}
 use Rattle.market_model.proofs.PlaceLists.{map_same}
 use Rattle.settlement.specs.Laws.{LawOfRightMoney}
-use Rattle.settlement.specs.Paying.{paid_terms, ArePricesOf, IsSupportedAt}
+use Rattle.settlement.specs.Paying.{IsSupportedAt}
 use Rattle.market_model.proofs.ListSteps.{map-map, mapped_at}
 use Rattle.settlement.proofs.ListLemmas.{sum_by-map}
 
@@ -50,113 +48,47 @@ module _ {N : Type 0} (value : N → Fraction) (loads : List (Load N)) (units : 
   abbrev paid_unit_term : UnitPay N → Term
   paid_unit_term u = Plain (neg_ℚ (value u.paid))
 
-  pub paid_total : sum_by (λ (l : Load N). value l.pays) loads +ℚ sum_by (λ (u : UnitPay N). neg_ℚ (value u.paid)) units ≡ total (paid_terms value loads units)
+  abbrev made_terms : List Term
+  made_terms = map paid_load_term loads ++ map paid_unit_term units
+
+  made_are : made_terms ≡ paid_terms (map (load_at value) loads) (map (unit_pay_at value) units)
+  made_are =
+      sym (ap₂ ◌++◌ (map-map (load_at value) (λ (l : Load Fraction). Plain l.pays) loads) (map-map (unit_pay_at value) (λ (u : UnitPay Fraction). Plain (neg_ℚ u.paid)) units))
+
+  pub paid_total : sum_by (λ (l : Load N). value l.pays) loads +ℚ sum_by (λ (u : UnitPay N). neg_ℚ (value u.paid)) units ≡ total (paid_terms (map (load_at value) loads) (map (unit_pay_at value) units))
   paid_total =
       sym (total-append (map paid_load_term loads) (map paid_unit_term units)
       ∙ ap₂ ◌+ℚ◌ (total-Plain (λ (l : Load N). value l.pays) loads) (total-Plain (λ (u : UnitPay N). neg_ℚ (value u.paid)) units))
+      ∙ ap total made_are
 
   module _ (bound : ℕ) (p : Passed Fraction) where
     pub load_refused : (k : ℕ) (load : Load N) (sum : Fraction) → k < length loads → load ≡ get_or loads k load → sum ≡ sum_by (λ l. value l.pays) (take k loads)
-        → IsRefusal Plus sum (value load.pays) bound p → IsRefusedIn (paid_terms value loads units) bound p
+        → IsRefusal Plus sum (value load.pays) bound p → IsRefusedIn (paid_terms (map (load_at value) loads) (map (unit_pay_at value) units)) bound p
     load_refused k load sum below found is h =
-        plus_at (paid_terms value loads units) (map paid_load_term (take k loads)) (map paid_load_term (drop (k + 1) loads) ++ map paid_unit_term units) (paid_load_term load)
+        subst (λ (ts : List Term). IsRefusedIn ts bound p) made_are
+        (plus_at made_terms (map paid_load_term (take k loads)) (map paid_load_term (drop (k + 1) loads) ++ map paid_unit_term units) (paid_load_term load)
         (in_front (map paid_load_term loads) (map paid_load_term (take k loads)) (map paid_load_term (drop (k + 1) loads)) (map paid_unit_term units) (paid_load_term load) (mapped_at paid_load_term loads k load below found))
-        bound p sum (value load.pays) ((is ∙ sym (total-Plain (λ (l : Load N). value l.pays) (take k loads)))) refl h
+        bound p sum (value load.pays) (is ∙ sym (total-Plain (λ (l : Load N). value l.pays) (take k loads))) refl h)
 
     pub unit_refused : (k : ℕ) (unit : UnitPay N) (sum : Fraction) → k < length units → unit ≡ get_or units k unit
         → sum ≡ sum_by (λ l. value l.pays) loads +ℚ sum_by (λ u. neg_ℚ (value u.paid)) (take k units)
-        → IsRefusal Plus sum (neg_ℚ (value unit.paid)) bound p → IsRefusedIn (paid_terms value loads units) bound p
+        → IsRefusal Plus sum (neg_ℚ (value unit.paid)) bound p → IsRefusedIn (paid_terms (map (load_at value) loads) (map (unit_pay_at value) units)) bound p
     unit_refused k unit sum below found is h =
-        plus_at (paid_terms value loads units) (map paid_load_term loads ++ map paid_unit_term (take k units)) (map paid_unit_term (drop (k + 1) units)) (paid_unit_term unit)
+        subst (λ (ts : List Term). IsRefusedIn ts bound p) made_are
+        (plus_at made_terms (map paid_load_term loads ++ map paid_unit_term (take k units)) (map paid_unit_term (drop (k + 1) units)) (paid_unit_term unit)
         (behind (map paid_load_term loads) (map paid_unit_term units) (map paid_unit_term (take k units)) (map paid_unit_term (drop (k + 1) units)) (paid_unit_term unit) (mapped_at paid_unit_term units k unit below found))
         bound p sum (neg_ℚ (value unit.paid))
-        ((is ∙ sym (total-append (map paid_load_term loads) (map paid_unit_term (take k units))
-        ∙ ap₂ ◌+ℚ◌ (total-Plain (λ (l : Load N). value l.pays) loads) (total-Plain (λ (u : UnitPay N). neg_ℚ (value u.paid)) (take k units))))) refl h
-
--- ---- sums of the same values are one, and are refused at the same operations
-prefix_by : (k : ℕ) (ts : List Term) → prefix k ts ≡ sum_by (λ v. v) (take k (map term_value ts))
-prefix_by zero ts = refl
-prefix_by (suc k) [] = refl
-prefix_by (suc k) (t ∷ ts) = ap (λ r. term_value t +ℚ r) (prefix_by k ts)
-
-prefix-same : (ts us : List Term) (k : ℕ) → map term_value ts ≡ map term_value us → prefix k ts ≡ prefix k us
-prefix-same ts us k e = prefix_by k ts ∙ ap (λ vs. sum_by (λ v. v) (take k vs)) e ∙ sym (prefix_by k us)
-
-pub total-same : (ts us : List Term) → map term_value ts ≡ map term_value us → total ts ≡ total us
-total-same ts us e = sym (sum_by-map term_value (λ v. v) ts) ∙ ap (sum_by (λ v. v)) e ∙ sum_by-map term_value (λ v. v) us
-
--- no term is a product
-abbrev NoProducts : List Term → Type 0
-NoProducts ts = (k : ℕ) (a b : Fraction) → term_at ts k ≡ Product a b → ⊥
-
-no_products : {X Y : Type 0} (f : X → Fraction) (g : Y → Fraction) (xs : List X) (ys : List Y) → NoProducts (map (λ x. Plain (f x)) xs ++ map (λ y. Plain (g y)) ys)
-no_products f g [] [] k a b e = absurd Prim.cc
-no_products f g [] (y ∷ ys) zero a b e = absurd Prim.cc
-no_products f g [] (y ∷ ys) (suc k) a b e = no_products f g [] ys k a b e
-no_products f g (x ∷ xs) ys zero a b e = absurd Prim.cc
-no_products f g (x ∷ xs) ys (suc k) a b e = no_products f g xs ys k a b e
-
-pub refused_same : (ts us : List Term) (bound : ℕ) (p : Passed Fraction) → NoProducts ts → map term_value ts ≡ map term_value us → IsRefusedIn ts bound p → IsRefusedIn us bound p
-refused_same ts us bound p none e h = record {
-  place = h.place;
-  step = by p.op p.left p.right h.step;
-  passes = h.passes;
-  too_large = subst (IsTooLarge bound) (prefix-same ts us (h.place + 1) e) h.too_large;
-}
-  where
-    next_same : (op : Op) (l r : Fraction) → IsNextTerm ts op l r h.place → IsNextTerm us op l r h.place
-    next_same op l r next =
-        let k : ℕ = h.place in
-        let long : length ts ≡ length us = sym (length-map ts term_value) ∙ ap length e ∙ length-map us term_value in
-        let inside : k < length us = Prim.omega (arith, next.inside, long) in
-        let same : term_value (term_at ts k) ≡ term_value (term_at us k) =
-        sym (get_or-map term_value ts k (Plain (whole (pos 0))) (whole (pos 0)) next.inside)
-        ∙ ap (λ vs. get_or vs k (whole (pos 0))) e ∙ get_or-map term_value us k (Plain (whole (pos 0))) (whole (pos 0)) inside in
-        record {
-          inside = inside;
-          before = subst (SameSize l) (prefix-same ts us k e) next.before;
-          next = subst (SameSize r) same next.next;
-          after = subst (SameSize (outcome op l r)) (prefix-same ts us (k + 1) e) next.after;
-        }
-
-    by : (op : Op) (l r : Fraction) → IsSumStep ts op l r h.place → IsSumStep us op l r h.place
-    by Plus l r next = next_same Plus l r next
-    by Minus l r next = next_same Minus l r next
-    by Times l r (a, b, factors) = absurd (none h.place a b factors.product)
+        (is ∙ sym (total-append (map paid_load_term loads) (map paid_unit_term (take k units))
+        ∙ ap₂ ◌+ℚ◌ (total-Plain (λ (l : Load N). value l.pays) loads) (total-Plain (λ (u : UnitPay N). neg_ℚ (value u.paid)) (take k units)))) refl h)
 
 -- ---- what is added up is what loads pay and units are paid
 module _ {N : Type 0} (value : N → Fraction) (m : Parts) (x : Dispatch) (price : ℕ → Fraction) (d : Duals Fraction) (loads : List (Load N)) (units : List (UnitPay N))
     (load_each : map (load_at value) loads ≡ map (pay_of_load m price) (places (length m.buses))) (unit_each : map (unit_pay_at value) units ≡ map (pay_of_unit m x price d) (places (length m.units))) where
-  load_values : map term_value (map (λ (l : Load N). Plain (value l.pays)) loads) ≡ map term_value (map (λ i. Product (price i) (demand m i)) (places (length m.buses)))
-  load_values =
-      map-map (λ (l : Load N). Plain (value l.pays)) term_value loads
-      ∙ sym (map-map (load_at value) (λ (l : Load Fraction). l.pays) loads)
-      ∙ ap (map (λ (l : Load Fraction). l.pays)) load_each
-      ∙ map-map (pay_of_load m price) (λ (l : Load Fraction). l.pays) (places (length m.buses))
-      ∙ sym (map-map (λ i. Product (price i) (demand m i)) term_value (places (length m.buses)))
+  pub surplus_is : (s : Fraction) → s ≡ total (paid_terms (map (load_at value) loads) (map (unit_pay_at value) units)) → s ≡ total (surplus_terms_by m x price d)
+  surplus_is s e = e ∙ ap total (ap₂ paid_terms load_each unit_each)
 
-  unit_values : map term_value (map (λ (u : UnitPay N). Plain (neg_ℚ (value u.paid))) units) ≡ map term_value (map (λ u. Product (neg_ℚ (own_price m d price u)) (output m x u)) (places (length m.units)))
-  unit_values =
-      map-map (λ (u : UnitPay N). Plain (neg_ℚ (value u.paid))) term_value units
-      ∙ sym (map-map (unit_pay_at value) (λ (u : UnitPay Fraction). neg_ℚ u.paid) units)
-      ∙ ap (map (λ (u : UnitPay Fraction). neg_ℚ u.paid)) unit_each
-      ∙ map-map (pay_of_unit m x price d) (λ (u : UnitPay Fraction). neg_ℚ u.paid) (places (length m.units))
-      ∙ map_same (λ u. neg_ℚ (own_price m d price u *ℚ output m x u)) (λ u. neg_ℚ (own_price m d price u) *ℚ output m x u) (length m.units)
-      (λ u lt. sym (neg_times ring_ℚ (own_price m d price u) (output m x u)))
-      ∙ sym (map-map (λ u. Product (neg_ℚ (own_price m d price u)) (output m x u)) term_value (places (length m.units)))
-
-  paid_is : map term_value (paid_terms value loads units) ≡ map term_value (surplus_terms_by m x price d)
-  paid_is =
-      map-append term_value (map (λ (l : Load N). Plain (value l.pays)) loads) (map (λ (u : UnitPay N). Plain (neg_ℚ (value u.paid))) units)
-      ∙ ap₂ ◌++◌ load_values unit_values
-      ∙ sym (map-append term_value (map (λ i. Product (price i) (demand m i)) (places (length m.buses))) (map (λ u. Product (neg_ℚ (own_price m d price u)) (output m x u)) (places (length m.units))))
-
-  pub surplus_is : (s : Fraction) → s ≡ total (paid_terms value loads units) → s ≡ total (surplus_terms_by m x price d)
-  surplus_is s e = e ∙ total-same (paid_terms value loads units) (surplus_terms_by m x price d) paid_is
-
-  pub surplus_refused : (bound : ℕ) (p : Passed Fraction) → IsRefusedIn (paid_terms value loads units) bound p → IsRefusedIn (surplus_terms_by m x price d) bound p
-  surplus_refused bound p h =
-      refused_same (paid_terms value loads units) (surplus_terms_by m x price d) bound p (no_products (λ (l : Load N). value l.pays) (λ (u : UnitPay N). neg_ℚ (value u.paid)) loads units) paid_is h
+  pub surplus_refused : (bound : ℕ) (p : Passed Fraction) → IsRefusedIn (paid_terms (map (load_at value) loads) (map (unit_pay_at value) units)) bound p → IsRefusedIn (surplus_terms_by m x price d) bound p
+  surplus_refused bound p h = subst (λ (ts : List Term). IsRefusedIn ts bound p) (ap₂ paid_terms load_each unit_each) h
 
 -- ---- at the prices of duals
 module _ (m : Parts) (x : Dispatch) (price : ℕ → Fraction) (d : Duals Fraction) (market : IsMarket m) (priced : ArePricesOf m d price) where
@@ -164,24 +96,18 @@ module _ (m : Parts) (x : Dispatch) (price : ℕ → Fraction) (d : Duals Fracti
   unfolding surplus
   left_is_surplus = ap total (left_at m d price market priced x)
 
-  units_same : map (pay_of_unit m x price d) (places (length m.units)) ≡ map (pay_of_unit m x (bus_price m d) d) (places (length m.units))
-  units_same = map_same (pay_of_unit m x price d) (pay_of_unit m x (bus_price m d) d) (length m.units) (λ u lt. ap (λ t. record { mw = output m x u; paid = t *ℚ output m x u }) (at_unit m d price market priced u lt))
-
   own_same : map (λ k. own_price m d price (lost_unit m k)) (places (length m.unit_outages)) ≡ map (λ k. own_price m d (bus_price m d) (lost_unit m k)) (places (length m.unit_outages))
   own_same =
       map_same (λ k. own_price m d price (lost_unit m k)) (λ k. own_price m d (bus_price m d) (lost_unit m k)) (length m.unit_outages)
       (λ k lt. at_unit m d price market priced (lost_unit m k) (lost_unit-in m market k lt))
 
-  loads_same : map (pay_of_load m price) (places (length m.buses)) ≡ map (pay_of_load m (bus_price m d)) (places (length m.buses))
-  loads_same = map_same (pay_of_load m price) (pay_of_load m (bus_price m d)) (length m.buses) (λ i lt. ap (λ t. record { mw = demand m i; pays = t *ℚ demand m i }) (priced i lt))
-
 -- a settlement at the prices of its duals is what a right answer says of money
 pub law_of_right_money : LawOfRightMoney
 unfolding surplus
 law_of_right_money m x price d market priced = λ i. record {
-  units = units_same m x price d market priced i;
+  units = units_same m d price market priced x i;
   own = own_same m x price d market priced i;
-  loads = loads_same m x price d market priced i;
+  loads = loads_same m d price market priced i;
   rents = map (rent_of m x d) (named_rows m d);
   surplus = left_is_surplus m x price d market priced i;
   reserve = map (pay_of_reserve x d) (offer_places m);

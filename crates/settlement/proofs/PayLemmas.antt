@@ -1,8 +1,8 @@
 -- Outputs, demands and prices, and what is paid and refused of them.
-use Rattle.std.specs.Prelude.{◌≡◌, ◌⊎◌, ℕ, ◌<◌, [], ◌∷◌, length, refl}
+use Rattle.std.specs.Prelude.{◌≡◌, ◌⊎◌, ℕ, ◌<◌, [], length, refl}
 use Rattle.std.proofs.Common.{ap, ap₂, sym, ◌∙◌, inl, inr}
 use Rattle.fraction_theory.specs.Fraction.{Fraction, whole, ◌+ℚ◌, ◌*ℚ◌}
-use Rattle.fraction_theory.specs.Sums.{Plain, Product}
+use Rattle.fraction_theory.specs.Sums.{Product}
 use Rattle.fraction_theory.proofs.FieldLaws.{+ℚ_nil}
 use Rattle.exact_fraction.specs.declared.Op.TheVariants.{Plus, Times}
 use Rattle.exact_fraction.specs.declared.Passed.{Passed}
@@ -15,7 +15,7 @@ use Rattle.market_model.specs.Dispatch.{Dispatch, bus_at, output, output_terms, 
 use Rattle.market_model.specs.NamedSums.{IsRefusedIn, IsRefusal}
 use Rattle.market_model.specs.Optimality.{named_rows, own_price}
 use Rattle.market_model.specs.Valued.{load_at, unit_pay_at}
-use Rattle.market_model.proofs.SumSteps.{plus_at, product_at}
+use Rattle.market_model.proofs.SumSteps.{product_at, two_refused}
 use Rattle.market_model.specs.Settlement.{pay_of_unit, pay_of_load, load_terms, unit_terms}
 use Rattle.market_model.specs.SumTables.{IsPickupRefusal, IsRefusedAmong, OwnPriceSum, factor_of_pickup, demand_of_bus, output_of_unit, paid_by_load, paid_output, paid_price, paid_to_unit, payment}
 use Rattle.settlement.specs.Refusals.{IsMoneyRefusal}
@@ -48,8 +48,7 @@ module _ (m : Parts) (x : Dispatch) (price : ℕ → Fraction) (d : Duals Fracti
   load_refusal i bus t below at is (inl h) = inl (
     demand_terms m i,
     demand_of_bus i below,
-    plus_at (demand_terms m i) (Plain (whole (bus_at m i).pd) ∷ []) [] (Plain (whole (bus_at m i).gs)) refl bound p (whole bus.pd) (whole bus.gs)
-        (ap (λ (b : Bus). whole b.pd) at ∙ sym (+ℚ_nil (whole (bus_at m i).pd))) (ap (λ (b : Bus). whole b.gs) at) h,
+    two_refused (whole (bus_at m i).pd) (whole (bus_at m i).gs) (whole bus.pd) (whole bus.gs) bound p (ap (λ (b : Bus). whole b.pd) at) (ap (λ (b : Bus). whole b.gs) at) h,
   )
   load_refusal i bus t below at is (inr h) = inl (
     load_terms m price i,

@@ -1,14 +1,10 @@
 -- What rows earn, and what is refused of that.
 use Rattle.std.specs.Prelude.{◌≡◌, ◌≢◌, ◌⊎◌, ℕ, pos, List, [], ◌∷◌, Contains, refl}
 use Rattle.std.proofs.Common.{inl, inr, ap, ap₂, sym, subst, subst₂, ◌∙◌}
-use Rattle.fraction_theory.specs.Fraction.{Fraction, whole, neg_ℚ, ◌+ℚ◌, ◌-ℚ◌, ◌*ℚ◌}
-use Rattle.fraction_theory.specs.Order.{◌<ℚ◌, ◌≤ℚ◌}
-use Rattle.fraction_theory.specs.Signs.{abs_ℚ}
-use Rattle.fraction_theory.specs.Sums.{Term, Plain, Product, total}
-use Rattle.fraction_theory.proofs.FieldLaws.{ring_ℚ, +ℚ_nil}
-use Rattle.fraction_theory.proofs.OrderLaws.{NonNeg-one, by_le1, <ℚ-≤ℚ}
-use Rattle.fraction_theory.proofs.Ring.{by_ring, at, neg_neg, padd, pmul, pneg, pnil, pone}
-use Rattle.fraction_theory.proofs.SignLaws.{part_at_least, part_at_most}
+use Rattle.fraction_theory.specs.Fraction.{Fraction, whole, ◌+ℚ◌, ◌-ℚ◌, ◌*ℚ◌}
+use Rattle.fraction_theory.specs.Sums.{Term, Product, total}
+use Rattle.fraction_theory.proofs.FieldLaws.{ring_ℚ}
+use Rattle.fraction_theory.proofs.Ring.{by_ring, at, padd, pmul, pneg, pnil}
 use Rattle.exact_fraction.specs.declared.Op.TheVariants.{Plus, Minus, Times}
 use Rattle.exact_fraction.specs.declared.Passed.{Passed}
 use Rattle.market_model.specs.declared.answered.Dual.{Dual}
@@ -22,26 +18,16 @@ use Rattle.market_model.specs.declared.limits.Row.{Row}
 use Rattle.market_model.specs.LimitRows.{Carried, carried, flow, flow_by, flow_terms, limit, offset_terms, row_id, row_offset}
 use Rattle.market_model.specs.NamedSums.{IsRefusal, IsRefusedIn}
 use Rattle.market_model.specs.Optimality.{named_rows}
-use Rattle.market_model.specs.Overrun.{excess, excess_by, overrun}
+use Rattle.market_model.specs.Overrun.{excess, excess_by}
 use Rattle.market_model.specs.RightAnswers.{rent_by, rent_of}
 use Rattle.market_model.specs.Market.{IsMarket}
 use Rattle.market_model.specs.Settlement.{earned_terms, lower_terms, priced_flow, rent_terms, rent_terms_by, upper_terms}
 use Rattle.market_model.specs.SumTables.{IsFlowRefusal, IsRefusedAmong, rent_of_row, PaidRowSum, PickupSum, factor_of_pickup, flow_after_outage, flow_of_row, offset_of_row, paid_offset, upper_of_row, lower_of_row, payment, paid_row}
-use Rattle.market_model.proofs.SumSteps.{minus_at, plus_at, product_at}
+use Rattle.market_model.proofs.SumSteps.{product_at, two_refused, difference_refused}
 use Rattle.limit_rows.proofs.DualLemmas.{IsRowOfDual}
 use Rattle.limit_screen.proofs.ScreenLemmas.{row_terms}
 use Rattle.limit_screen.specs.Flows.{carried_at, flows_at}
 use Rattle.settlement.specs.Refusals.{IsMoneyRefusal}
-
--- ---- by how much a flow exceeds a limit
-module _ (m : Parts) (r : Row) (f : Fraction) where
-  pub excess_none : abs_ℚ f ≤ℚ limit m r → excess_by m r f ≡ zero
-  excess_none h = part_at_most (overrun m r f) (by_le1 (abs_ℚ f ∷ limit m r ∷ []) (padd (at 0) (pneg (at 1))) pnil pone (at 0) (at 1) NonNeg-one h refl)
-
-  pub excess_beyond : limit m r <ℚ abs_ℚ f → excess_by m r f ≡ abs_ℚ f -ℚ limit m r
-  excess_beyond h =
-      part_at_least (overrun m r f)
-      (by_le1 (abs_ℚ f ∷ limit m r ∷ []) pnil (padd (at 0) (pneg (at 1))) pone (at 1) (at 0) NonNeg-one (<ℚ-≤ℚ (limit m r) (abs_ℚ f) h) refl)
 
 -- ---- what a limit earns with one price
 module _ (e : Dual Fraction) (f o : Fraction) where
@@ -57,10 +43,10 @@ module _ (e : Dual Fraction) (f o : Fraction) where
 
   module _ (bound : ℕ) (p : Passed Fraction) where
     pub less_refused : IsRefusal Minus f o bound p → IsRefusedIn (upper_terms f o) bound p
-    less_refused h = minus_at (upper_terms f o) (Plain f ∷ []) [] (Plain (neg_ℚ o)) refl bound p f o (sym (+ℚ_nil f)) (sym (neg_neg ring_ℚ o)) h
+    less_refused h = difference_refused f o f o bound p refl refl h
 
     pub more_refused : IsRefusal Plus f o bound p → IsRefusedIn (lower_terms f o) bound p
-    more_refused h = plus_at (lower_terms f o) (Plain f ∷ []) [] (Plain o) refl bound p f o (sym (+ℚ_nil f)) refl h
+    more_refused h = two_refused f o f o bound p refl refl h
 
     pub upper_refused : IsRefusal Times e.up (f -ℚ o) bound p → IsRefusedIn (earned_terms e.up e.down f o) bound p
     upper_refused h = product_at (earned_terms e.up e.down f o) [] (Product e.down (f +ℚ o) ∷ []) (Product e.up (f -ℚ o)) refl bound p e.up (f -ℚ o) refl refl h

@@ -21,19 +21,19 @@ use Rattle.market_model.specs.Dispatch.{Dispatch, places, dispatch_with, signed_
 use Rattle.market_model.specs.LimitRows.{carried, flow_by, is_outage, is_soft, penalty, penalty_of, rows}
 use Rattle.market_model.specs.Lines.{hard_line}
 use Rattle.market_model.specs.Market.{IsMarket}
-use Rattle.market_model.specs.NamedSums.{IsRefusedIn, IsShareRefusal}
+use Rattle.market_model.specs.NamedSums.{IsShareRefusal}
 use Rattle.market_model.specs.Optimality.{block_value, penalty_terms, value_terms, welfare, welfare_for, welfare_terms}
 use Rattle.market_model.specs.Overrun.{excess, excess_by}
 use Rattle.market_model.specs.PutIn.{dispatch_of}
 use Rattle.market_model.specs.Reserves.{offer_price, reserve_cost_terms}
-use Rattle.market_model.specs.SumTables.{IsFlowRefusal}
+use Rattle.market_model.specs.SumTables.{IsFlowRefusal, IsRefusedAmong, WelfareSum, welfare_of_all}
 use Rattle.market_model.proofs.MorePlaces.{total-places_more}
 use Rattle.market_model.proofs.PutInSteps.{accepted_is}
 use Rattle.market_model.proofs.RowMembers.{row_parts}
 use Rattle.market_model.proofs.SumSteps.{behind, in_front, share_at, terms_at}
 use Rattle.limit_screen.proofs.ScreenLemmas.{flow_refusal_same, law_of_row_flows, row_terms}
 use Rattle.limit_screen.specs.Flows.{carried_at, flows_at}
-use Rattle.settlement.specs.GivingWay.{gives_way}
+use Rattle.settlement.specs.SoftLines.{has_soft_limit}
 use Rattle.settlement.specs.Refusals.{IsWelfareRefusal}
 
 -- ---- blocks
@@ -56,15 +56,18 @@ module _ {N : Type 0} (value : N → Fraction) (m : Parts) (ds : List N) where
 
   -- what a block is worth is added
   pub value_refused : (reserve : List Fraction) (k : ℕ) (block : Block) (d : N) (worth sum : Fraction) (bound : ℕ) (p : Passed Fraction) → k < length m.blocks → k < length ds → d ≡ get_or ds k d → block ≡ block_at m k
-      → sum ≡ values_to k → worth ≡ neg_ℚ (signed_by_side block.side (whole block.price)) → IsShareRefusal sum worth (value d) bound p → IsRefusedIn (welfare_terms m (dispatch_with (map value ds) reserve)) bound p
+      → sum ≡ values_to k → worth ≡ neg_ℚ (signed_by_side block.side (whole block.price)) → IsShareRefusal sum worth (value d) bound p → IsRefusedAmong (WelfareSum m (dispatch_with (map value ds) reserve)) bound p
   value_refused reserve k block d worth sum bound p below lt at same is w h =
       let x = dispatch_with (map value ds) reserve in
       let f : ℕ → Term = λ j. Product (block_value m j) (accepted x j) in
-      let r = terms_at f (length m.blocks) k below in
-      share_at (welfare_terms m x) (map f (places k)) ((r.0 ++ penalty_terms m (rows m) x) ++ reserve_cost_terms m x) (f k)
-      (in_front (value_terms m x ++ penalty_terms m (rows m) x) (map f (places k)) (r.0 ++ penalty_terms m (rows m) x) (reserve_cost_terms m x) (f k)
-      (in_front (value_terms m x) (map f (places k)) r.0 (penalty_terms m (rows m) x) (f k) r.1))
-      bound p sum worth (value d) (ap₂ Product (sym (value_is k block worth same w)) (accepted_is value ds k d lt at)) is h
+      let r = terms_at f (length m.blocks) k below in (
+        welfare_terms m x,
+        welfare_of_all,
+        share_at (welfare_terms m x) (map f (places k)) ((r.0 ++ penalty_terms m (rows m) x) ++ reserve_cost_terms m x) (f k)
+            (in_front (value_terms m x ++ penalty_terms m (rows m) x) (map f (places k)) (r.0 ++ penalty_terms m (rows m) x) (reserve_cost_terms m x) (f k)
+            (in_front (value_terms m x) (map f (places k)) r.0 (penalty_terms m (rows m) x) (f k) r.1))
+            bound p sum worth (value d) (ap₂ Product (sym (value_is k block worth same w)) (accepted_is value ds k d lt at)) is h,
+      )
 
 -- ---- limits that give way
 module _ (m : Parts) (x : Dispatch) where
@@ -107,8 +110,12 @@ module _ (m : Parts) (x : Dispatch) where
       cost_refused left sum bound p all is (inl a) =
           inr (r, c, soft, flow_refusal_same m (carried_at m fs) (carried m x) r bound p (row_terms m x fs are r market c) a)
       cost_refused left sum bound p all is (inr a) =
-          inl (share_at (welfare_terms m x) (energy_terms g) (penalty_terms m left x ++ reserve_cost_terms m x) (cost_term r) split bound p sum (neg_ℚ (penalty m r)) (excess_by m r (flow_by m (carried_at m fs) r))
-          (ap (Product (neg_ℚ (penalty m r))) (sym excess_is)) is a)
+          inl (
+            welfare_terms m x,
+            welfare_of_all,
+            share_at (welfare_terms m x) (energy_terms g) (penalty_terms m left x ++ reserve_cost_terms m x) (cost_term r) split bound p sum (neg_ℚ (penalty m r)) (excess_by m r (flow_by m (carried_at m fs) r))
+                (ap (Product (neg_ℚ (penalty m r))) (sym excess_is)) is a,
+          )
         where
           kept : filter (is_soft m) (rows m) ≡ filter (is_soft m) g ++ r ∷ filter (is_soft m) left
           kept =
@@ -129,7 +136,7 @@ none_kept p [] h = refl
 none_kept p (x ∷ xs) h = ap (λ (b : Bool). cond b (x ∷ filter p xs) (filter p xs)) (h x (Contains-head x xs)) ∙ none_kept p xs (λ y c. h y (Contains-cons x xs y c))
 
 -- of a line both limits do not
-neither_soft : (line : Line) (post : Bool) → gives_way line ≡ false → is_positive (penalty_of post line) ≡ false
+neither_soft : (line : Line) (post : Bool) → has_soft_limit line ≡ false → is_positive (penalty_of post line) ≡ false
 neither_soft line post h = by (is_positive line.base_price) (is_positive line.post_price) post refl refl h
   where
     by : (x y post : Bool) → is_positive line.base_price ≡ x → is_positive line.post_price ≡ y → (x || y) ≡ false → is_positive (penalty_of post line) ≡ false
@@ -138,14 +145,14 @@ neither_soft line post h = by (is_positive line.base_price) (is_positive line.po
     by false false true e f h = f
     by false false false e f h = e
 
-module _ (m : Parts) (none : list_any gives_way m.lines ≡ false) where
-  line_hard : (l : ℕ) → l < length m.lines → (b : Bool) → gives_way (line_at m l) ≡ b → b ≡ false
-  line_hard l inside true e = sym (list_any_at gives_way m.lines l (hard_line 0 None None (pos 0)) inside e) ∙ none
+module _ (m : Parts) (none : list_any has_soft_limit m.lines ≡ false) where
+  line_hard : (l : ℕ) → l < length m.lines → (b : Bool) → has_soft_limit (line_at m l) ≡ b → b ≡ false
+  line_hard l inside true e = sym (list_any_at has_soft_limit m.lines l (hard_line 0 None None (pos 0)) inside e) ∙ none
   line_hard l inside false e = refl
 
   row_hard : (r : Row) → Contains (rows m) r → is_soft m r ≡ false
   row_hard r c =
-      neither_soft (line_at m r.line) (is_outage r.cause) (line_hard r.line (row_parts m r c).line (gives_way (line_at m r.line)) refl)
+      neither_soft (line_at m r.line) (is_outage r.cause) (line_hard r.line (row_parts m r c).line (has_soft_limit (line_at m r.line)) refl)
 
   -- all that counts is what blocks are worth
   pub worth_of_blocks : (x : Dispatch) (values : Fraction) → values ≡ total (value_terms m x) → values ≡ total (energy_terms m x (rows m))
@@ -184,11 +191,14 @@ module _ {N : Type 0} (value : N → Fraction) (m : Parts) (rs : List N) where
     -- what an offer costs is added
     pub offer_refused : (front : Fraction) (k : ℕ) (offer : ReserveOffer) (r : N) (worth sum : Fraction) (bound : ℕ) (p : Passed Fraction) → front ≡ total (energy_terms m whole_dispatch (rows m))
         → k < length m.reserve.offers → k < length rs → r ≡ get_or rs k r → offer ≡ offer_at m k → worth ≡ neg_ℚ (whole offer.price) → sum ≡ front +ℚ total (costs_to k)
-        → IsShareRefusal sum worth (value r) bound p → IsRefusedIn (welfare_terms m whole_dispatch) bound p
+        → IsShareRefusal sum worth (value r) bound p → IsRefusedAmong (WelfareSum m whole_dispatch) bound p
     offer_refused front k offer r worth sum bound p of_energy below h is at w before why =
         let f : ℕ → Term = λ n. Product (neg_ℚ (offer_price m n)) (reserved whole_dispatch n) in
-        let t = terms_at f (length m.reserve.offers) k below in
-        share_at (welfare_terms m whole_dispatch) (energy_terms m whole_dispatch (rows m) ++ costs_to k) t.0 (f k)
-        (behind (energy_terms m whole_dispatch (rows m)) (reserve_cost_terms m whole_dispatch) (costs_to k) t.0 (f k) t.1)
-        bound p sum worth (value r) (offer_term_is k offer r worth h is at w)
-        (before ∙ ap (λ s. s +ℚ total (costs_to k)) of_energy ∙ sym (total-append (energy_terms m whole_dispatch (rows m)) (costs_to k))) why
+        let t = terms_at f (length m.reserve.offers) k below in (
+          welfare_terms m whole_dispatch,
+          welfare_of_all,
+          share_at (welfare_terms m whole_dispatch) (energy_terms m whole_dispatch (rows m) ++ costs_to k) t.0 (f k)
+              (behind (energy_terms m whole_dispatch (rows m)) (reserve_cost_terms m whole_dispatch) (costs_to k) t.0 (f k) t.1)
+              bound p sum worth (value r) (offer_term_is k offer r worth h is at w)
+              (before ∙ ap (λ s. s +ℚ total (costs_to k)) of_energy ∙ sym (total-append (energy_terms m whole_dispatch (rows m)) (costs_to k))) why,
+        )

@@ -5,9 +5,8 @@ use Rattle.market_model.specs.declared.answered.Duals.{Duals}
 use Rattle.market_model.specs.declared.participants.Parts.{Parts}
 use Rattle.market_model.specs.Dispatch.{Dispatch}
 use Rattle.market_model.specs.Market.{IsMarket}
-use Rattle.market_model.specs.Optimality.{bus_price}
+use Rattle.market_model.specs.Optimality.{bus_price, ArePricesOf}
 use Rattle.market_model.specs.RightAnswers.{settlement_at}
-use Rattle.settlement.specs.Paying.{ArePricesOf}
 
 -- at prices that are those of the duals at each bus it is what a right answer with this dispatch and these duals says
 abbrev pub LawOfRightMoney : Type 0

@@ -1,4 +1,4 @@
-pub mod GivingWay
+pub mod SoftLines
 pub mod Paying
 pub mod Refusals
 pub mod Laws

@@ -8,10 +8,9 @@ use Rattle.market_model.specs.declared.stops.Stop.{Stop}
 use Rattle.market_model.specs.Dispatch.{Dispatch}
 use Rattle.market_model.specs.declared.limits.Row.{Row}
 use Rattle.market_model.specs.LimitRows.{carried, is_soft, rows}
-use Rattle.market_model.specs.NamedSums.{IsRefusedIn}
-use Rattle.market_model.specs.Optimality.{named_rows, welfare_terms}
+use Rattle.market_model.specs.Optimality.{named_rows}
 use Rattle.market_model.specs.Stops.{StopsBy}
-use Rattle.market_model.specs.SumTables.{IsFactorRefusal, IsFlowRefusal, IsRefusedAmong, SettledSum}
+use Rattle.market_model.specs.SumTables.{IsFactorRefusal, IsFlowRefusal, IsRefusedAmong, SettledSum, WelfareSum}
 use Rattle.limit_screen.specs.Flows.{IsFlowsRefusal}
 
 -- an operation refused where a dispatch whose flows are known is settled at prices of the buses: in one of the sums of that, or in a factor of
@@ -30,5 +29,5 @@ IsSettlementStop value bound m x price d stop = StopsBy value (λ p. IsFlowsRefu
 -- an operation refused where its welfare is added up: at one of the terms, or for the flow of a row whose limit gives way
 abbrev pub IsWelfareRefusal : Parts → Dispatch → ℕ → Passed Fraction → Type 0
 IsWelfareRefusal m x bound p =
-    IsRefusedIn (welfare_terms m x) bound p
+    IsRefusedAmong (WelfareSum m x) bound p
     ⊎ ((r : Row) × Contains (rows m) r × (is_soft m r ≡ true) × IsFlowRefusal m (carried m x) r bound p)

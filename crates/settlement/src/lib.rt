@@ -11,7 +11,4 @@ mod units;
 mod worth;
 
 pub use settling::{settle, settle_flows};
-
-/// Why a settlement was not made.
-pub use market_model::Stop as MoneyStop;
 pub use worth::welfare;

@@ -14,22 +14,19 @@ ghost use Rattle.limit_screen.specs.Flows.{carried_at};
 
 use exact_fraction::{Exact, Passed, Sign, exact_difference, exact_sum, size};
 use limit_rows::{limit_at, row_flow, row_offset};
-use limit_screen::carried_flows;
+use limit_screen::{beyond, carried_flows};
 use market_model::{Dual, Market, Rent, Row, datum};
 use std::cmp::Ordering;
 
-/// By how much a flow exceeds the limit of a row; 0 where it does not. That is never too large: its parts are no greater than those of
-/// the flow.
+/// By how much a flow exceeds the limit of a row; 0 where it does not.
 pub fn excess<N: Exact>(market: &Market, row: Row, flow: N) -> Result<N, Passed<N>>
     requires { row.line < length market.now.lines }
     ensures excess { IfOk result (λ excess. N.value excess ≡ excess_by market.now row (N.value flow)) }
     ensures fits { IfErr result (λ passed. ⊥) }
 {
-    let limit: N = datum(limit_at(market, row));
-    let size = size(flow);
-    match size.order(limit) {
-        Ordering::Greater => exact_difference(size, limit),
-        Ordering::Less | Ordering::Equal => Ok(datum(0)),
+    match beyond(flow, datum(limit_at(market, row)))? {
+        Some(over) => Ok(over),
+        None => Ok(datum(0)),
     }
 }
 

@@ -8,17 +8,19 @@ ghost use Rattle.market_model.specs.Fitting.{FitsMoney};
 ghost use Rattle.market_model.specs.Laws.{HasOffsetsWithin};
 ghost use Rattle.market_model.specs.NamedSums.{IsRefusedIn};
 ghost use Rattle.market_model.specs.Optimality.{ProperDuals};
-ghost use Rattle.market_model.specs.Valued.{duals_at, money_at, passed_at, total_at};
+ghost use Rattle.market_model.specs.Valued.{duals_at, money_at, passed_at, total_at, load_at, unit_pay_at};
 ghost use Rattle.market_model.specs.PutIn.{dispatch_of};
 ghost use Rattle.market_model.specs.RightAnswers.{settlement_at};
+ghost use Rattle.market_model.specs.Settlement.{paid_terms};
 ghost use Rattle.limit_screen.specs.Flows.{flows_at};
-ghost use Rattle.settlement.specs.Paying.{paid_terms, IsSupportedAt};
+ghost use Rattle.settlement.specs.Paying.{IsSupportedAt};
 ghost use Rattle.settlement.specs.Refusals.{IsMoneyStop, IsSettlementStop};
 
 use crate::loads::loads;
 use crate::offers::reserve_pays;
 use crate::rents::rents;
-use crate::units::{lost_prices, own_prices, unit_pays};
+use crate::units::{lost_prices, unit_pays};
+use bus_prices::own_prices;
 use exact_fraction::{Exact, Passed, exact_sum};
 use limit_screen::flows_made;
 use market_model::{Duals, Load, Market, Money, Price, Stop, UnitPay, datum};
@@ -26,8 +28,8 @@ use std::alloc::Global;
 
 /// What loads pay, in bus order, less what units are paid, in unit order.
 fn surplus<N: Exact>(loads: &[Load<N>], units: &[UnitPay<N>]) -> Result<N, Passed<N>>
-    ensures left { IfOk result (λ left. N.value left ≡ total (paid_terms N.value loads.now units.now)) }
-    ensures cause { IfErr result (λ passed. IsRefusedIn (paid_terms N.value loads.now units.now) N.bound (passed_at N.value passed)) }
+    ensures left { IfOk result (λ left. N.value left ≡ total (paid_terms (map (load_at N.value) loads.now) (map (unit_pay_at N.value) units.now))) }
+    ensures cause { IfErr result (λ passed. IsRefusedIn (paid_terms (map (load_at N.value) loads.now) (map (unit_pay_at N.value) units.now)) N.bound (passed_at N.value passed)) }
 {
     let mut surplus: N = datum(0);
     for load in loads {
@@ -62,7 +64,7 @@ pub fn settle_flows<N: Exact>(
     ensures cause { IfErr result (IsMoneyStop N.value N.bound market.now (dispatch_with (map N.value dispatch.now) (map N.value reserve.now)) (total_at N.value prices.now) (duals_at N.value duals.now)) }
 {
     let _lines = market.lines();
-    let by_unit = own_prices(alloc, market, prices, duals)?;
+    let by_unit = own_prices(alloc, market, duals, prices)?;
     let units = unit_pays(alloc, market, dispatch, &by_unit)?;
     let own = lost_prices(alloc, market, &by_unit)?;
     let loads = loads(alloc, market, prices)?;

@@ -4,37 +4,19 @@ ghost use Rattle.std.specs.Prelude.{◌≡◌, ◌⊎◌, ◌<◌, ℕ, List, le
 ghost use Rattle.fraction_theory.specs.Fraction.{Fraction, ◌*ℚ◌};
 ghost use Rattle.market_model.specs.declared.answered.Duals.{Duals as DualsOf};
 ghost use Rattle.exact_fraction.specs.declared.Op.TheVariants.{Times};
-ghost use Rattle.market_model.specs.Dispatch.{Dispatch, places, dispatch_with, output as output_of, output_terms};
+ghost use Rattle.market_model.specs.Dispatch.{places, dispatch_with, output as output_of, output_terms};
 ghost use Rattle.market_model.specs.LimitRows.{lost_unit};
 ghost use Rattle.market_model.specs.NamedSums.{IsRefusal, IsRefusedIn};
-ghost use Rattle.market_model.specs.Optimality.{own_price, ProperDuals};
+ghost use Rattle.market_model.specs.Optimality.{own_price};
 ghost use Rattle.market_model.specs.PutIn.{dispatch_of};
-ghost use Rattle.market_model.specs.Valued.{duals_at, passed_at, total_at, unit_pay_at};
+ghost use Rattle.market_model.specs.Valued.{passed_at, unit_pay_at};
 ghost use Rattle.market_model.specs.Settlement.{pay_of_unit};
 ghost use Rattle.settlement.specs.Refusals.{IsMoneyStop};
 
-use bus_prices::own;
 use exact_fraction::{Exact, Passed};
 use limit_rows::lost_unit;
-use market_model::{Duals, List, Market, Memory, Price, Stop, UnitPay, output, zeros};
+use market_model::{List, Market, Memory, Stop, UnitPay, output};
 use std::alloc::Global;
-
-/// The own price of each unit, where buses have these prices: what it is paid for a MW.
-pub fn own_prices<N: Exact>(
-    alloc: Global,
-    market: &Market,
-    prices: &[Price<N>],
-    duals: &Duals<N>,
-) -> Result<Vec<N>, Stop<N>>
-    requires prices { length prices.now ≡ length market.now.buses }
-    requires duals { ProperDuals market.now (duals_at N.value duals.now) }
-    ensures cause { (x : Dispatch) → IfErr result (IsMoneyStop N.value N.bound market.now x (total_at N.value prices.now) (duals_at N.value duals.now)) }
-    ensures own { IfOk result (λ own. map N.value own.items ≡ map (own_price market.now (duals_at N.value duals.now) (total_at N.value prices.now)) (places (length market.now.units))) }
-{
-    let mut by_unit = zeros(alloc, market.units().len())?;
-    own(market, duals, prices, &mut by_unit)?;
-    Ok(by_unit)
-}
 
 /// The own price of the unit of each outage of a unit, in the order in which these are listed.
 pub fn lost_prices<N: Exact>(alloc: Global, market: &Market, own: &[N]) -> Result<List<N>, Memory>

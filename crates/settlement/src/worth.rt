@@ -2,32 +2,31 @@
 
 ghost use Rattle.std.specs.Prelude.{◌≡◌, ◌⊎◌, ◌+◌, ◌<◌, ◌++◌, List, length, map, IfOk, IfErr};
 ghost use Rattle.std.specs.List.{list_any};
-ghost use Rattle.fraction_theory.specs.Fraction.{Fraction, neg_ℚ, ◌+ℚ◌, ◌*ℚ◌, whole};
-ghost use Rattle.market_data.specs.Participants.{IsDatum};
+ghost use Rattle.fraction_theory.specs.Fraction.{Fraction, neg_ℚ, ◌+ℚ◌, ◌*ℚ◌};
 ghost use Rattle.fraction_theory.specs.Sums.{total};
 ghost use Rattle.market_model.specs.Dispatch.{Dispatch, dispatch_with};
 ghost use Rattle.market_model.specs.LimitRows.{IsCauseOf, flow_by, penalty, rows as rows_of};
-ghost use Rattle.market_model.specs.NamedSums.{IsRefusedIn, IsShareRefusal};
-ghost use Rattle.market_model.specs.Optimality.{penalty_terms, value_terms, welfare as welfare_of, welfare_terms};
+ghost use Rattle.market_model.specs.NamedSums.{IsShareRefusal};
+ghost use Rattle.market_model.specs.Optimality.{penalty_terms, value_terms, welfare as welfare_of};
 ghost use Rattle.market_model.specs.Overrun.{excess_by};
 ghost use Rattle.market_model.specs.PutIn.{dispatch_of};
-ghost use Rattle.market_model.specs.SumTables.{IsFlowRefusal};
+ghost use Rattle.market_model.specs.SumTables.{IsFlowRefusal, IsRefusedAmong, WelfareSum};
 ghost use Rattle.market_model.specs.Valued.{passed_at};
 ghost use Rattle.limit_screen.specs.Flows.{carried_at, flows_at};
-ghost use Rattle.settlement.specs.GivingWay.{gives_way};
+ghost use Rattle.settlement.specs.SoftLines.{has_soft_limit};
 ghost use Rattle.settlement.specs.Refusals.{IsWelfareRefusal};
 
 use crate::rows::excess;
 use exact_fraction::{Exact, Passed};
 use limit_rows::{is_soft, penalty_at, row_flow, rows};
 use limit_screen::carried_flows;
-use market_model::{Line, Market, ReserveOffer, Row, block_value, datum};
+use market_model::{Line, Market, Row, block_value, datum, offer_value};
 
 /// The value of what is bought less the cost of what is sold, in block order.
 fn values<N: Exact>(market: &Market, dispatch: &[N]) -> Result<N, Passed<N>>
     requires { length dispatch.now ≡ length market.now.blocks }
     ensures values { IfOk result (λ values. N.value values ≡ total (value_terms market.now (dispatch_of N.value dispatch.now))) }
-    ensures cause { (reserve : List Fraction) → IfErr result (λ passed. IsRefusedIn (welfare_terms market.now (dispatch_with (map N.value dispatch.now) reserve)) N.bound (passed_at N.value passed)) }
+    ensures cause { (reserve : List Fraction) → IfErr result (λ passed. IsRefusedAmong (WelfareSum market.now (dispatch_with (map N.value dispatch.now) reserve)) N.bound (passed_at N.value passed)) }
 {
     let mut sum: N = datum(0);
     for (place, block) in market.blocks().slice().iter().enumerate() {
@@ -52,18 +51,18 @@ fn less_penalty<N: Exact>(market: &Market, row: Row, flows: &[N], sum: N) -> Res
 }
 
 /// Whether a limit of a line gives way, in the base or after outages.
-fn is_giving_way(line: &Line) -> bool
-    ensures { result ≡ gives_way line.now }
+fn has_soft_limit(line: &Line) -> bool
+    ensures { result ≡ has_soft_limit line.now }
 {
     line.base_price > 0 || line.post_price > 0
 }
 
 /// Whether one of some line does.
-fn has_giving_way(market: &Market) -> bool
-    ensures { result ≡ list_any gives_way market.now.lines }
+fn has_soft_limits(market: &Market) -> bool
+    ensures { result ≡ list_any has_soft_limit market.now.lines }
 {
     let lines = market.lines().slice();
-    lines.iter().any(|line| is_giving_way(line))
+    lines.iter().any(|line| has_soft_limit(line))
 }
 
 /// The value of blocks less what limits cost: the penalties of those that give way, in row order. Rows are gone over only where a line has
@@ -76,7 +75,7 @@ fn less_penalties<N: Exact>(market: &Market, flows: &[N], values: N) -> Result<N
         → IfErr result (λ passed. IsWelfareRefusal market.now x N.bound (passed_at N.value passed)) }
 {
     let _buses = market.buses();
-    if !has_giving_way(market) {
+    if !has_soft_limits(market) {
         return Ok(values);
     }
     let mut sum = values;
@@ -86,16 +85,6 @@ fn less_penalties<N: Exact>(market: &Market, flows: &[N], values: N) -> Result<N
         }
     }
     Ok(sum)
-}
-
-/// What accepting a MW of an offer of reserve is worth, in 10^-6 per MWh: the opposite of its price.
-#[tactic(auto, using(market_data::proofs::Data::datum_read))]
-fn offer_value<N: Exact>(offer: &ReserveOffer) -> N
-    requires { IsDatum offer.now.price }
-    ensures { N.value result ≡ neg_ℚ (whole offer.now.price) }
-{
-    let price: N = datum(offer.price);
-    price.neg()
 }
 
 /// The worth of blocks and limits less what the accepted reserve costs, in the order of the offers.
@@ -108,7 +97,7 @@ fn less_reserve_costs<N: Exact>(
     ensures worth { (blocks : List Fraction) → let x = dispatch_with blocks (map N.value reserve.now) in N.value of_energy ≡ total (value_terms market.now x ++ penalty_terms market.now (rows_of market.now) x)
         → IfOk result (λ worth. N.value worth ≡ welfare_of market.now x) }
     ensures cause { (blocks : List Fraction) → let x = dispatch_with blocks (map N.value reserve.now) in N.value of_energy ≡ total (value_terms market.now x ++ penalty_terms market.now (rows_of market.now) x)
-        → IfErr result (λ passed. IsRefusedIn (welfare_terms market.now x) N.bound (passed_at N.value passed)) }
+        → IfErr result (λ passed. IsRefusedAmong (WelfareSum market.now x) N.bound (passed_at N.value passed)) }
 {
     let mut sum = of_energy;
     for (place, offer) in market.reserve().offers.slice().iter().enumerate() {

@@ -3,7 +3,7 @@
 ghost use Rattle.std.specs.Prelude.{◌≡◌};
 
 use crate::networks::read_network;
-use factor_tables::{Loss, MadeFactor, Penalties, Penalty, Shift, TableFault, penalties, shift};
+use factor_tables::{Loss, MadeFactor, Penalties, Shift, Softness, TableFault, penalties, shift};
 use market_data::FactorPlaces;
 use record_reading::{FrameFault, Why};
 use scaled_decimal::DecimalFault;
@@ -51,11 +51,11 @@ fn repeated(alloc: Global, records: &str, count: usize) -> Result<Penalties, Tab
 }
 
 /// By branch and whether the limit is the one after an outage.
-const PENALTIES: &[(u32, bool, Option<Penalty>)] = &[
+const PENALTIES: &[(u32, bool, Option<Softness>)] = &[
     (
         1,
         false,
-        Some(Penalty {
+        Some(Softness {
             price: 1_000_000_000,
             excess: 2_500_000_000,
         }),
@@ -63,7 +63,7 @@ const PENALTIES: &[(u32, bool, Option<Penalty>)] = &[
     (
         1,
         true,
-        Some(Penalty {
+        Some(Softness {
             price: 1,
             excess: 0,
         }),
@@ -71,7 +71,7 @@ const PENALTIES: &[(u32, bool, Option<Penalty>)] = &[
     (
         2,
         false,
-        Some(Penalty {
+        Some(Softness {
             price: 25_000_000,
             excess: 10_000_000_000,
         }),
@@ -86,7 +86,7 @@ fn reads_penalties(rt: HostRuntime) -> Result<(), Fail> {
     let penalties = repeated(rt.alloc(), records, 1)?;
     for (branch, post, want) in PENALTIES {
         assert_eq!(rt;
-            penalties.penalty(*branch, *post),
+            penalties.softness(*branch, *post),
             *want,
             "branch {branch}, post {post}"
         );

@@ -1,5 +1,5 @@
 use Rattle.std.proofs.Common.{◌≡◌, ◌≤◌, ◌+◌, [], length, drop, All}
-use Rattle.record_reading.specs.Rows.{read_rows}
+use Rattle.record_reading.specs.Gathering.{read_records}
 use Rattle.edit_table.specs.EditTable.{IsStep, step_in}
 use Rattle.edit_table.proofs.steps_of.Given as goal
 
@@ -8,5 +8,5 @@ abbrev pub invariant-loop-place : goal.invariant-loop-place
 invariant-loop-place l = record {
   count : length l.steps ≤ l.place;
   steps : All IsStep l.steps;
-  is : read_rows (λ _. step_in) [] 2 l.table ≡ read_rows (λ _. step_in) l.steps (l.place + 2) (drop l.place l.table);
+  is : read_records (λ _. step_in) [] 2 l.table ≡ read_records (λ _. step_in) l.steps (l.place + 2) (drop l.place l.table);
 }

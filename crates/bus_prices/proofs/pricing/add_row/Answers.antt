@@ -1,6 +1,7 @@
 use Rattle.std.proofs.Common.{rules, Err, inr, ◌≡◌, ◌<◌, ◌∙◌, length, ap₂, arith}
 use Rattle.fraction_theory.specs.Fraction.{◌+ℚ◌, ◌*ℚ◌}
 use Rattle.market_model.specs.LimitRows.{row_factor}
+use Rattle.market_model.specs.SumTables.{factor_at_bus}
 use Rattle.bus_prices.proofs.PriceLemmas.{part_put, read_congestion, read_energy, still_left}
 use Rattle.bus_prices.proofs.pricing.add_row.Goals as goal
 
@@ -24,4 +25,4 @@ pub returns-in_err-row_factor-clause-cause : goal.returns-in_err-row_factor-clau
 returns-in_err-row_factor-clause-cause g c =
     let inside : c.loop-bus.bus < length c.args.market.now.buses = omega (arith, c.loop-bus-test.true, c.loop-bus.auto.out, c.requires.out) in
     let given : c.from_residual.result ≡ Err c.in_err-row_factor.field-0.0 = search rules in
-    λ energy before h. rw given (inr (c.loop-bus.bus, inside, c.in_err-row_factor.ensures.cause))
+    λ energy before h. rw given (inr (_, factor_at_bus c.loop-bus.bus inside, c.in_err-row_factor.ensures.cause))

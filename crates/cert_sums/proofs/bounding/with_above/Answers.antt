@@ -1,7 +1,7 @@
 use Rattle.std.proofs.Common.{rules, ◌≡◌, ◌∙◌, sym}
 use Rattle.fraction_theory.specs.declared.Sign.TheVariants.{Zero}
 use Rattle.fraction_theory.proofs.SignLaws.{sign_of_is}
-use Rattle.cert_sums.proofs.BoundLemmas.{nothing_made}
+use Rattle.limit_rows.proofs.DualLemmas.{nothing_made}
 use Rattle.cert_sums.proofs.bounding.with_above.Goals as goal
 
 pub returns-then-eq-clause-sum : goal.returns-then-eq-clause-sum

@@ -1,4 +1,4 @@
-use Rattle.cert_sums.proofs.BoundLemmas.{none_above}
+use Rattle.limit_rows.proofs.DualLemmas.{none_above}
 use Rattle.cert_sums.proofs.bounding.with_most.Goals as goal
 
 pub returns-in-Below : goal.returns-in-Below

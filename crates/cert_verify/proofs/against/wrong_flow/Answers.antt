@@ -4,6 +4,7 @@ use Rattle.market_model.specs.Dispatch.{dispatch_with}
 use Rattle.market_model.specs.Valued.{dual_at, room_dual_at}
 use Rattle.market_model.proofs.StopLemmas.{on_passed_weaker}
 use Rattle.market_model.specs.declared.stops.Stop.TheVariants as why
+use Rattle.market_model.specs.SumTables.{reserve_of_all}
 use Rattle.cert_verify.specs.Certificates.{all_duals}
 use Rattle.cert_verify.specs.Reasons.{balance_reason, first_of, limit_reason, limit_reasons, need_reason, need_slack_reason, room_reason, room_slack_reason, slack_reason, slack_reasons, sum_reasons, unpriced_reason}
 use Rattle.cert_verify.specs.Stops.{at_balance, at_limits, at_need, at_rooms}
@@ -149,7 +150,7 @@ returns-in_err-accepted-clause-cause g c = λ energy none.
     let puts = ap (map value) c.deref.ensures.value ∙ c.in_ok-by_bus.ensures.injections rs in
     let balanced = sym (c.in_ok-reason.ensures.first x puts) ∙ c.in_default.is in
     let given : c.from_residual-in_err-accepted.result ≡ Err (why.Passed c.in_err-accepted.field-0.0) = search rules in
-    rw given (at_need (c.in_err-accepted.ensures.cause m xs c.requires.quantities) (before_need m x d none balanced))
+    rw given (at_need (_, reserve_of_all, c.in_err-accepted.ensures.cause m xs c.requires.quantities) (before_need m x d none balanced))
 
 pub returns-in_err-carried-clause-cause : goal.returns-in_err-carried-clause-cause
 returns-in_err-carried-clause-cause g c = λ energy none.

@@ -16,7 +16,7 @@ use Rattle.cert_verify.proofs.PlacesLemmas.{places_at, places_to}
 use Rattle.cert_verify.proofs.verifying.verify.Goals as goal
 
 -- what is known of a stop is known of what it is told as
-stopped : {N : Type 0} (value : N → Fraction) (m : Parts) (k : ℕ) (c d : Cert Fraction) → places_of c ≡ m.places → c ≡ d → (s : Stop N) → StopsBy value (IsKindStop m k d) s → IsVerifyStop value m k c (told_stop s)
+stopped : {N : Type 0} (value : N → Fraction) (m : Parts) (k : ℕ) (c d : Cert Fraction) → places_of c ≡ m.factor_places → c ≡ d → (s : Stop N) → StopsBy value (IsKindStop m k d) s → IsVerifyStop value m k c (told_stop s)
 stopped value m k c d places same (stop.Passed p) h = record { places = places; refused = subst (λ e. IsKindStop m k e (passed_at value p)) (sym same) h }
 stopped value m k c d places same stop.Memory h = tt
 

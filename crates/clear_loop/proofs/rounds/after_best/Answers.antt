@@ -6,7 +6,7 @@ use Rattle.market_model.specs.Stops.{StopsBy}
 use Rattle.market_system.specs.Growth.{BestFor}
 use Rattle.market_system.specs.MarketSystem.{choice_duals}
 use Rattle.market_dict.specs.Takings.{IsTaking, limits_of, taken_of}
-use Rattle.clear_loop.specs.Growing.{IsNew, IsPassed}
+use Rattle.clear_loop.specs.Growing.{IsNew, IsPassedTaking}
 use Rattle.clear_loop.specs.Rounds.{IsLookRefusal, IsScreened}
 use Rattle.clear_loop.specs.declared.screen.Screened.TheVariants as screened
 use Rattle.clear_loop.proofs.BrokenLemmas.{worst_new, worst_passed, worst_taking}
@@ -14,7 +14,7 @@ use Rattle.clear_loop.proofs.SolvedLemmas.{best_for}
 use Rattle.clear_loop.proofs.StopLemmas.{look_stop}
 use Rattle.clear_loop.proofs.rounds.after_best.Given.{Over}
 use Rattle.clear_loop.proofs.rounds.after_best.Goals as goal
-use Rattle.clear_loop.proofs.rounds.after_best.Goals.{In-Broken}
+use Rattle.clear_loop.proofs.rounds.after_best.Goals.{In-Worst}
 
 pub returns-in_err-taking-clause-cause : goal.returns-in_err-taking-clause-cause
 returns-in_err-taking-clause-cause g c =
@@ -30,8 +30,8 @@ returns-in_err-taking-clause-cause g c =
     (subst (λ y. StopsBy value (IsLookRefusal m y g.N.Exact.bound) stop) (ap₂ (λ xs rs. dispatch_with (map value xs) (map value rs)) c.slice.ensures c.slice-2.ensures) c.in_err-taking.ensures.cause))
 
 -- what is passed by the most, of those in hand
-passed_most : (g : Over) (c : In-Broken g) → let m = c.args.market.now in let ts = c.args.taken.takings in
-    IsTaking m c.in-Broken.taking × IsNew ts c.in-Broken.taking × ((x : Dispatch) × BestFor m (taken_of ts) x × IsPassed m x c.in-Broken.taking)
+passed_most : (g : Over) (c : In-Worst g) → let m = c.args.market.now in let ts = c.args.taken.takings in
+    IsTaking m c.in-Worst.taking × IsNew ts c.in-Worst.taking × ((x : Dispatch) × BestFor m (taken_of ts) x × IsPassedTaking m x c.in-Worst.taking)
 passed_most g c =
     let value = g.N.Exact.value in
     let m = c.args.market.now in
@@ -39,27 +39,27 @@ passed_most g c =
     let x = dispatch_with (map value c.args.dispatch) (map value c.args.reserve) in
     let market = c.lines-lines.ensures.market in
     let best = best_for m ts x (choice_duals m (taken_of ts) (choice_of c.args.dict)) market c.requires.found.2 in
-    let found : IsScreened value m (limits_of ts) x (screened.Broken c.in-Broken.taking) =
-    subst (IsScreened value m (limits_of ts) x) c.in-Broken.is
+    let found : IsScreened value m (limits_of ts) x (screened.Worst c.in-Worst.taking) =
+    subst (IsScreened value m (limits_of ts) x) c.in-Worst.is
     (subst (λ rs. IsScreened value m rs x c.in_ok-taking.field-0) (c.slice-3.ensures ∙ c.requires.listed.rows)
     (subst (λ y. IsScreened value m c.slice-3.result.now y c.in_ok-taking.field-0) (ap₂ (λ xs rs. dispatch_with (map value xs) (map value rs)) c.slice.ensures c.slice-2.ensures) c.in_ok-taking.ensures.screened)) in (
-      worst_taking m market ts x value best c.in-Broken.taking found,
-      worst_new m market ts x value best c.in-Broken.taking found,
-      (x, best, worst_passed m market ts x value best c.in-Broken.taking found),
+      worst_taking m market ts x value best c.in-Worst.taking found,
+      worst_new m market ts x value best c.in-Worst.taking found,
+      (x, best, worst_passed m market ts x value best c.in-Worst.taking found),
     )
 
 pub with_taking-requires-clause-taking : goal.with_taking-requires-clause-taking
-with_taking-requires-clause-taking g c = (passed_most g (goal.at.with_taking-requires-clause-taking g c).In-Broken).0
+with_taking-requires-clause-taking g c = (passed_most g (goal.at.with_taking-requires-clause-taking g c).In-Worst).0
 
 pub with_taking-requires-clause-new : goal.with_taking-requires-clause-new
-with_taking-requires-clause-new g c = (passed_most g (goal.at.with_taking-requires-clause-new g c).In-Broken).1
+with_taking-requires-clause-new g c = (passed_most g (goal.at.with_taking-requires-clause-new g c).In-Worst).1
 
 pub with_taking-requires-clause-passed : goal.with_taking-requires-clause-passed
-with_taking-requires-clause-passed g c = (passed_most g (goal.at.with_taking-requires-clause-passed g c).In-Broken).2
+with_taking-requires-clause-passed g c = (passed_most g (goal.at.with_taking-requires-clause-passed g c).In-Worst).2
 
-pub returns-in_ok-with_taking-in-Broken-clause-round : goal.returns-in_ok-with_taking-in-Broken-clause-round
-returns-in_ok-with_taking-in-Broken-clause-round g c =
-    let passed = passed_most g (goal.at.returns-in_ok-with_taking-in-Broken-clause-round g c).In-Broken in (
-      c.in_ok-with_taking-in-Broken.ensures.hand,
-      (c.in-Broken.taking, c.in_ok-with_taking-in-Broken.ensures.takings, passed.0, passed.1, passed.2),
+pub returns-in_ok-with_taking-in-Worst-clause-round : goal.returns-in_ok-with_taking-in-Worst-clause-round
+returns-in_ok-with_taking-in-Worst-clause-round g c =
+    let passed = passed_most g (goal.at.returns-in_ok-with_taking-in-Worst-clause-round g c).In-Worst in (
+      c.in_ok-with_taking-in-Worst.ensures.hand,
+      (c.in-Worst.taking, c.in_ok-with_taking-in-Worst.ensures.takings, passed.0, passed.1, passed.2),
     )

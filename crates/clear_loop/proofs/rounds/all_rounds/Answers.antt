@@ -22,15 +22,15 @@ returns-in_err-next-clause-cause g c =
 
 pub loop-next-smaller : goal.loop-next-smaller
 loop-next-smaller g c =
-    let more : IsRound g.N.Exact.value c.args.market.now c.loop-next.hand.taken.takings (round.Broken c.in-Broken.next) =
-    subst (λ (r : Round g.row.N.Denot). IsRound g.N.Exact.value c.args.market.now c.loop-next.hand.taken.takings r) c.in-Broken.is c.in_ok-next.ensures.round in
-    comes_nearer c.args.market.now c.loop-next.hand.taken.takings c.in-Broken.next.taken.takings more.1 more.0.start.2.takings
+    let more : IsRound g.N.Exact.value c.args.market.now c.loop-next.hand.taken.takings (round.Grown c.in-Grown.next) =
+    subst (λ (r : Round g.row.N.Denot). IsRound g.N.Exact.value c.args.market.now c.loop-next.hand.taken.takings r) c.in-Grown.is c.in_ok-next.ensures.round in
+    comes_nearer c.args.market.now c.loop-next.hand.taken.takings c.in-Grown.next.taken.takings more.1 more.0.start.2.takings
 
 pub loop-next-preserved : goal.loop-next-preserved
 loop-next-preserved g c =
-    let more : IsRound g.N.Exact.value c.args.market.now c.loop-next.hand.taken.takings (round.Broken c.in-Broken.next) =
-    subst (λ (r : Round g.row.N.Denot). IsRound g.N.Exact.value c.args.market.now c.loop-next.hand.taken.takings r) c.in-Broken.is c.in_ok-next.ensures.round in (
+    let more : IsRound g.N.Exact.value c.args.market.now c.loop-next.hand.taken.takings (round.Grown c.in-Grown.next) =
+    subst (λ (r : Round g.row.N.Denot). IsRound g.N.Exact.value c.args.market.now c.loop-next.hand.taken.takings r) c.in-Grown.is c.in_ok-next.ensures.round in (
       more.0,
-      grown_more c.args.market.now (limits_of c.args.first.taken.takings) c.loop-next.hand.taken.takings c.in-Broken.next.taken.takings c.loop-next.invariant.1 more.1,
-      one_more c.loop-next.hand.taken.takings c.in-Broken.next.taken.takings c.loop-next.invariant.2 more.1,
+      grown_more c.args.market.now (limits_of c.args.first.taken.takings) c.loop-next.hand.taken.takings c.in-Grown.next.taken.takings c.loop-next.invariant.1 more.1,
+      one_more c.loop-next.hand.taken.takings c.in-Grown.next.taken.takings c.loop-next.invariant.2 more.1,
     )

@@ -4,17 +4,18 @@ use Rattle.std.specs.Prelude.{ℕ, List, MatchOption, Option}
 use Rattle.std.proofs.lemmas.Result.{err_from_is_err_and}
 use Rattle.fraction_theory.specs.Fraction.{Fraction}
 use Rattle.market_model.specs.declared.limits.Row.{Row}
+use Rattle.market_model.specs.LimitRows.{carried}
 use Rattle.market_model.specs.Dispatch.{dispatch_with}
 use Rattle.market_model.specs.Valued.{passed_at}
 use Rattle.market_model.specs.PutIn.{dispatch_of}
 use Rattle.market_model.proofs.StopLemmas.{on_passed_weaker}
 use Rattle.limit_screen.specs.Flows.{carried_at, flows_at, IsFlowsRefusal}
 use Rattle.limit_screen.specs.Rooms.{AllKeepRooms, IsWorstRoom}
-use Rattle.limit_screen.specs.Screening.{AllKeep, IsScreenRefusal, IsWorstBy}
+use Rattle.limit_screen.specs.Screening.{AllKeep, IsWorstBy}
 use Rattle.market_model.specs.declared.stops.Stop.TheVariants as stop
+use Rattle.limit_rows.specs.Refusals.{IsAnyFlowRefusal}
 use Rattle.limit_screen.proofs.ScreenLemmas.{flow_count}
 use Rattle.settlement.proofs.BlockFlows.{flows_of_blocks, flows_refusal}
-use Rattle.clear_loop.specs.Rounds.{AllKept}
 use Rattle.clear_loop.proofs.BrokenLemmas.{all_kept, worst_at}
 use Rattle.clear_loop.proofs.screen.screened_at.Given.{Over}
 use Rattle.clear_loop.proofs.screen.screened_at.Goals as goal
@@ -54,7 +55,7 @@ returns-in_err-row-clause-cause g c =
     let fs = flows_are g (goal.at.returns-in_err-row-clause-cause g c).After-deref-2 in
     let p = err_from_is_err_and c.from_residual-in_err-row.result c.from_residual-in_err-row.ensures.1 in
     let given : c.from_residual-in_err-row.result ≡ Err (stop.Passed c.in_err-row.field-0.0) = p.1 ∙ ap Err p.2 in
-    rw given (inr (inl (subst (λ (ys : List Fraction). IsScreenRefusal m (carried_at m ys) g.N.Exact.bound (passed_at value c.in_err-row.field-0.0)) fs c.in_err-row.ensures.cause)))
+    rw given (inr (inl (subst (λ (ys : List Fraction). IsAnyFlowRefusal m (carried_at m ys) g.N.Exact.bound (passed_at value c.in_err-row.field-0.0)) fs c.in_err-row.ensures.cause)))
 
 pub returns-in-Some-clause-screened : goal.returns-in-Some-clause-screened
 returns-in-Some-clause-screened g c =
@@ -63,11 +64,11 @@ returns-in-Some-clause-screened g c =
     let x = dispatch_with (map value c.args.dispatch.now) (map value c.args.reserve.now) in
     let f = carried_at m (map value c.deref-2.result.now) in
     let taken = c.args.taken.now in
-    let worst = subst (λ (o : Option Row). MatchOption o (AllKeep m taken f) (IsWorstBy m taken f)) c.in-Some.is c.in_ok-row.ensures.worst in
-    (worst.0, worst_at m c.lines-lines.ensures.market taken x (map value c.deref-2.result.now) (flows_are g (goal.at.returns-in-Some-clause-screened g c).After-deref-2) worst.0 c.in-Some.row worst.1)
+    worst_at m c.lines-lines.ensures.market taken x (map value c.deref-2.result.now) (flows_are g (goal.at.returns-in-Some-clause-screened g c).After-deref-2) c.in-Some.row
+    (subst (λ (o : Option Row). MatchOption o (AllKeep m taken f) (IsWorstBy m taken f)) c.in-Some.is c.in_ok-row.ensures.worst)
 
 -- where no limit is broken
-none_broken : (g : Over) (c : In-None g) → AllKept c.args.market.now c.args.taken.now (dispatch_with (map g.N.Exact.value c.args.dispatch.now) (map g.N.Exact.value c.args.reserve.now))
+none_broken : (g : Over) (c : In-None g) → AllKeep c.args.market.now c.args.taken.now (carried c.args.market.now (dispatch_with (map g.N.Exact.value c.args.dispatch.now) (map g.N.Exact.value c.args.reserve.now)))
 none_broken g c =
     let value = g.N.Exact.value in
     let m = c.args.market.now in

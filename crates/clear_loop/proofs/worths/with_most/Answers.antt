@@ -1,4 +1,4 @@
-use Rattle.clear_loop.proofs.FarkasSums.{none_above}
+use Rattle.limit_rows.proofs.DualLemmas.{none_above}
 use Rattle.clear_loop.proofs.worths.with_most.Goals as goal
 
 pub returns-in-Below : goal.returns-in-Below

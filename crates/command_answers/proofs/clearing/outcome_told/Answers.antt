@@ -14,6 +14,6 @@ returns-clause-tells g c =
     record {
       status_is = c.clear_status.ensures.status;
       text_is = c.in_ok-text.ensures;
-      certificate_is = certified-as (λ v. v.items) _ _ _ c.certified.ensures (c.in_ok-certificate.ensures.text ∙ ap₂ (λ p l. certificate_of p l outcome) c.places.ensures listed);
-      certificate_fits = subst (λ cert. IfSome cert (NumbersFit g.N.Exact.bound)) (ap₂ (λ p l. cert_of_outcome p l outcome) c.places.ensures listed) c.in_ok-certificate.ensures.fits;
+      certificate_is = certified-as (λ v. v.items) _ _ _ c.certified.ensures (c.in_ok-certificate.ensures.text ∙ ap₂ (λ p l. certificate_of p l outcome) c.factor_places-places.ensures listed);
+      certificate_fits = subst (λ cert. IfSome cert (NumbersFit g.N.Exact.bound)) (ap₂ (λ p l. cert_of_outcome p l outcome) c.factor_places-places.ensures listed) c.in_ok-certificate.ensures.fits;
     }

@@ -17,7 +17,7 @@ returns-clause-tells g c =
     let last = last_clear None (map (step_outcome_at g.N.Exact.value) c.args.outcomes.now) in
     let as_given : to_z w64 (of_z w64 c.args.need) ≡ c.args.need = search (arith, ints, to_z-of_z) in
     λ m same.
-    let places : c.places.result ≡ m.places = c.places.ensures ∙ ap (λ (p : Parts). p.places) same in
+    let places : c.factor_places-places.result ≡ m.factor_places = c.factor_places-places.ensures ∙ ap (λ (p : Parts). p.factor_places) same in
     let listed : c.reserve.result.now.listed ≡ m.reserve.listed = ap (λ (r : Reserve). r.listed) c.reserve.ensures.reserve ∙ ap (λ (p : Parts). p.reserve.listed) same in
     record {
       status_is = c.replay_status.ensures.status;

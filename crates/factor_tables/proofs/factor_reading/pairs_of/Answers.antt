@@ -4,7 +4,7 @@ use mir.Val.{to_z, of_z}
 use Rattle.std.proofs.lemmas.Int.{to_z-of_z}
 use Rattle.market_data.proofs.Data.{datum_fits}
 use Rattle.std.proofs.Math.ListN.{length-set}
-use Rattle.record_reading.proofs.RowLemmas.{read_rows-end, read_rows-fault, read_rows-step}
+use Rattle.record_reading.proofs.GatherLemmas.{read_records-end, read_records-fault, read_records-step}
 use Rattle.factor_tables.specs.Tables.{entry_in}
 use Rattle.factor_tables.proofs.FactorLemmas.{factors-none, factors-push}
 use Rattle.factor_tables.proofs.factor_reading.pairs_of.Goals as goal
@@ -13,7 +13,7 @@ pub returns-in_err-pair-clause-err : goal.returns-in_err-pair-clause-err
 returns-in_err-pair-clause-err c =
     let lt : c.loop-place.place < length c.args.table.now = omega arith in
     let here = c.loop-place.invariant.is
-    ∙ read_rows-fault (entry_in c.args.places c.args.network.now c.args.column) c.loop-place.pairs.by_pair.entries (c.loop-place.place + 2) c.args.table.now c.loop-place.place c.in_err-pair.field-0.0 lt (sym c.entry_of.ensures.is ∙ c.in_err-pair.was) in
+    ∙ read_records-fault (entry_in c.args.places c.args.network.now c.args.column) c.loop-place.pairs.by_pair.entries (c.loop-place.place + 2) c.args.table.now c.loop-place.place c.in_err-pair.field-0.0 lt (sym c.entry_of.ensures.is ∙ c.in_err-pair.was) in
     let given : c.from_residual-in_err-pair.result ≡ Err c.in_err-pair.field-0.0 = search rules in
     rw given (λ _. here)
 
@@ -28,7 +28,7 @@ pub loop-place-preserved : goal.loop-place-preserved
 loop-place-preserved c =
     let lt : c.loop-place.place < length c.args.table.now = omega arith in
     let here = c.loop-place.invariant.is
-    ∙ read_rows-step (entry_in c.args.places c.args.network.now c.args.column) c.loop-place.pairs.by_pair.entries (c.loop-place.place + 2) c.args.table.now c.loop-place.place (c.in_ok-pair.pair, c.in_ok-pair.factor) lt (sym c.entry_of.ensures.is ∙ c.in_ok-pair.was) in
+    ∙ read_records-step (entry_in c.args.places c.args.network.now c.args.column) c.loop-place.pairs.by_pair.entries (c.loop-place.place + 2) c.args.table.now c.loop-place.place (c.in_ok-pair.pair, c.in_ok-pair.factor) lt (sym c.entry_of.ensures.is ∙ c.in_ok-pair.was) in
     let next : c.loop-place.place + 2 + 1 ≡ c.loop-place.place + 1 + 2 = omega arith in
     let datum : unsigned_abs c.in_ok-pair.factor < 2 ^ 63 = omega (arith, c.in_ok-pair.ensures.size) in
     let fits : to_z w64 (of_z w64 c.in_ok-pair.factor) ≡ c.in_ok-pair.factor = to_z-of_z w64 _ (datum_fits _ datum) in
@@ -45,4 +45,4 @@ loop-place-preserved c =
 pub returns-clause-ok : goal.returns-clause-ok
 returns-clause-ok c =
     let le : length c.args.table.now ≤ c.loop-place.place = omega arith in
-    c.loop-place.invariant.is ∙ read_rows-end (entry_in c.args.places c.args.network.now c.args.column) c.loop-place.pairs.by_pair.entries (c.loop-place.place + 2) c.args.table.now c.loop-place.place le
+    c.loop-place.invariant.is ∙ read_records-end (entry_in c.args.places c.args.network.now c.args.column) c.loop-place.pairs.by_pair.entries (c.loop-place.place + 2) c.args.table.now c.loop-place.place le

@@ -1,7 +1,8 @@
 use Rattle.std.proofs.Common.{◌≡◌, ◌+◌, true, false, length, ap, arith}
 use Rattle.std.specs.Prelude.{is_some}
 use Rattle.market_model.specs.declared.participants.Line.{Line}
-use Rattle.limit_rows.specs.Counting.{has_limit}
+use Rattle.market_model.specs.LimitRows.{has_limit}
+use Rattle.market_model.specs.Dispatch.{line_at}
 use Rattle.limit_rows.proofs.CountLemmas.{limits_few, limits_more}
 use Rattle.limit_rows.proofs.LineLemmas.{line_here}
 use Rattle.limit_rows.proofs.counting.limit_counts.Goals as goal
@@ -11,7 +12,7 @@ overflow_add-base c =
     let m = c.args.market.now in
     let k = c.loop-place.place in
     let line = line_here m c.lines-in-loop-place.result.now k c.at-line.result.now c.lines-in-loop-place.ensures.list c.at-line.ensures in
-    let has : has_limit m false k ≡ (is_some c.at-line.result.now.base) = ap (λ (l : Line). is_some l.base) line in
+    let has : has_limit false (line_at m k) ≡ (is_some c.at-line.result.now.base) = ap (λ (l : Line). is_some l.base) line in
     let more = limits_more m false k (is_some c.at-line.result.now.base) has in
     let before = c.loop-place.invariant.0 in
     let one = c.one_if-base.ensures in
@@ -22,7 +23,7 @@ overflow_add-post c =
     let m = c.args.market.now in
     let k = c.loop-place.place in
     let line = line_here m c.lines-in-loop-place.result.now k c.at-line.result.now c.lines-in-loop-place.ensures.list c.at-line.ensures in
-    let has : has_limit m true k ≡ (is_some c.at-line.result.now.post) = ap (λ (l : Line). is_some l.post) line in
+    let has : has_limit true (line_at m k) ≡ (is_some c.at-line.result.now.post) = ap (λ (l : Line). is_some l.post) line in
     let more = limits_more m true k (is_some c.at-line.result.now.post) has in
     let before = c.loop-place.invariant.1 in
     let one = c.one_if-post.ensures in

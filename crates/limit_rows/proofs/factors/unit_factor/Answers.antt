@@ -6,7 +6,7 @@ use Rattle.fraction_theory.specs.Sums.{Plain}
 use Rattle.market_data.specs.declared.participants.Unit as unit
 use Rattle.market_model.specs.Dispatch.{unit_at}
 use Rattle.market_model.specs.LimitRows.{lost_unit, row_factor, shift_factor, taker_terms}
-use Rattle.market_model.specs.SumTables.{factor_at_bus, factor_of_pickup, pickup_of_row}
+use Rattle.market_model.specs.SumTables.{factor_at_bus, factor_of_pickup, pickup_of_row, factor_of_bus}
 use Rattle.market_model.specs.Valued.{passed_at}
 use Rattle.market_model.proofs.MarketSums.{unit_bus-in}
 use Rattle.market_model.proofs.PutInSteps.{unit_read}
@@ -48,4 +48,4 @@ returns-in-None-clause-cause g c =
     let m = c.args.market.now in
     let read = unit_read m c.units.result.now c.args.unit c.args.unit c.at.result.now c.units.ensures.list refl c.at.ensures in
     let inside = subst (λ (v : unit.Unit). v.bus < length m.buses) (sym read) (unit_bus-in m c.units.ensures.market c.args.unit c.requires.unit) in
-    IfErr-weaker c.row_factor.result _ _ (λ e why. (_, factor_at_bus c.at.result.now.bus inside, why)) c.row_factor.ensures.cause
+    IfErr-weaker c.row_factor.result _ _ (λ e why. (_, factor_of_bus _ (factor_at_bus c.at.result.now.bus inside), why)) c.row_factor.ensures.cause

@@ -3,10 +3,9 @@ use Rattle.std.specs.Prelude.{ℤ, pos, List, Option}
 use Rattle.std.specs.List.{slice_get}
 use Rattle.exact_fraction.specs.Floor.{IsFloor}
 use Rattle.fraction_theory.specs.Fraction.{Fraction, over, ◌+ℚ◌, ◌*ℚ◌}
-use Rattle.market_data.specs.Scales.{factor_one}
+use Rattle.market_data.specs.Scales.{factor_one, pickup_one}
 use Rattle.market_model.specs.declared.limits.Cause.{Cause}
 use Rattle.market_model.specs.LimitRows.{flow_by}
-use Rattle.market_model.specs.PickupTable.{pickup_one}
 use Rattle.limit_rows.proofs.FlowSteps.{base_flow, flow_after, flow_picked, no_share}
 use Rattle.limit_screen.specs.Bounds.{AreWholeParts, IsNearFlow}
 use Rattle.limit_screen.proofs.Casts.{narrow, narrow_is}

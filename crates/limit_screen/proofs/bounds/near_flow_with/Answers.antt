@@ -2,11 +2,11 @@ use Rattle.std.proofs.Common.{sym, subst, arith}
 use Rattle.std.specs.Prelude.{pos, unsigned_abs, ◌*◌, ◌^◌, ◌≤◌}
 use Rattle.fraction_theory.specs.Fraction.{whole, ◌*ℚ◌}
 use Rattle.exact_fraction.specs.Floor.{IsFloor}
-use Rattle.market_model.specs.PickupTable.{pickup_one}
 use Rattle.limit_screen.specs.Bounds.{IsNear}
 use Rattle.limit_screen.proofs.Casts.{narrow_is, one_is, size_64}
 use Rattle.limit_screen.proofs.BoundLemmas.{times_parts, up_to_more}
 use Rattle.limit_screen.proofs.bounds.near_flow_with.Goals as goal
+use Rattle.market_data.specs.Scales.{pickup_one}
 
 pub near_sum-requires-clause-first : goal.near_sum-requires-clause-first
 near_sum-requires-clause-first c =

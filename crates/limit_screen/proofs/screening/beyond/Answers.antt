@@ -4,7 +4,8 @@ use Rattle.fraction_theory.specs.Order.{◌<ℚ◌, ◌≤ℚ◌}
 use Rattle.exact_fraction.specs.Passes.{IsTooLarge}
 use Rattle.exact_fraction.proofs.Excesses.{excess_fits}
 use Rattle.market_model.specs.Dispatch.{zero}
-use Rattle.limit_screen.proofs.ScreenLemmas.{above_nil, below_nil, not_past}
+use Rattle.limit_rows.proofs.FlowSizes.{not_past}
+use Rattle.limit_screen.proofs.ScreenLemmas.{above_nil, below_nil}
 use Rattle.limit_screen.proofs.screening.beyond.Goals as goal
 
 pub returns-in_ok-exact_difference-in-Greater-clause-overrun : goal.returns-in_ok-exact_difference-in-Greater-clause-overrun

@@ -3,8 +3,9 @@ use Rattle.fraction_theory.specs.Fraction.{whole}
 use Rattle.fraction_theory.specs.Order.{◌<ℚ◌, ◌≤ℚ◌}
 use Rattle.market_model.specs.Overrun.{IsBeyond, overrun}
 use Rattle.market_model.specs.declared.limits.Row.{Row}
+use Rattle.limit_rows.proofs.FlowSizes.{not_past}
 use Rattle.limit_screen.specs.Screening.{IsWorstOf}
-use Rattle.limit_screen.proofs.ScreenLemmas.{not_past, new_worst, old_worst, worse_than_old, worse_than_kept}
+use Rattle.limit_screen.proofs.ScreenLemmas.{new_worst, old_worst, worse_than_old, worse_than_kept}
 use Rattle.limit_screen.proofs.Casts.{narrow_is}
 use Rattle.limit_screen.proofs.screening.worse.Goals as goal
 

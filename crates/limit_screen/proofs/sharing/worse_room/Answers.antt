@@ -1,7 +1,7 @@
 use Rattle.std.proofs.Common.{subst, subst₂}
 use Rattle.fraction_theory.specs.Order.{◌<ℚ◌, ◌≤ℚ◌}
+use Rattle.limit_rows.proofs.FlowSizes.{not_past}
 use Rattle.limit_screen.specs.Rooms.{IsWorstRoomTo, room_overrun}
-use Rattle.limit_screen.proofs.ScreenLemmas.{not_past}
 use Rattle.limit_screen.proofs.RoomLemmas.{first_worst_room, old_worst_room, worse_than_old_room}
 use Rattle.limit_screen.proofs.sharing.worse_room.Goals as goal
 

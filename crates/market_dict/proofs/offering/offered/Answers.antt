@@ -8,7 +8,7 @@ use Rattle.fraction_theory.specs.Sums.{total}
 use Rattle.exact_fraction.specs.declared.Op.TheVariants as Op
 use Rattle.market_model.specs.Valued.{passed_at}
 use Rattle.market_model.proofs.SumSteps.{refusal}
-use Rattle.market_dict.proofs.OfferLemmas.{offered_term, offered_step, offered_refused, offered_all}
+use Rattle.market_dict.proofs.OfferLemmas.{offered_term, offered_step, offered_refused}
 use Rattle.market_dict.proofs.offering.offered.Goals as goal
 
 pub offer_quantity-requires : goal.offer_quantity-requires
@@ -47,4 +47,4 @@ returns-clause-offered g c =
     let m = c.args.market.now in
     let offers = c.slice-offer-items.ensures ∙ ap (λ (r : Reserve). r.offers) c.reserve.ensures.reserve in
     let all : c.loop-offer.offer-index ≡ length m.reserve.offers = omega (arith, ap length offers) in
-    subst (λ (n : ℕ). g.N.Exact.value c.loop-offer.mw ≡ total (map (offered_term m) (places n))) all c.loop-offer.invariant ∙ offered_all m
+    subst (λ (n : ℕ). g.N.Exact.value c.loop-offer.mw ≡ total (map (offered_term m) (places n))) all c.loop-offer.invariant

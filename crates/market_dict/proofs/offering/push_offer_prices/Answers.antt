@@ -11,8 +11,8 @@ use Rattle.market_dict.proofs.ColumnLists.{mapped_offers}
 use Rattle.market_dict.proofs.ListedLemmas.{filled_behind}
 use Rattle.market_dict.proofs.offering.push_offer_prices.Goals as goal
 
-pub offer_price-price-requires : goal.offer_price-price-requires
-offer_price-price-requires g c =
+pub offer_value-requires : goal.offer_value-requires
+offer_value-requires g c =
     let m = c.args.market.now in
     let k = c.loop-offer.offer-index in
     let offers = c.slice-offer-items.ensures ∙ ap (λ (r : Reserve). r.offers) c.reserve.ensures.reserve in
@@ -30,7 +30,7 @@ loop-offer-preserved g c =
     let offers = c.slice-offer-items.ensures ∙ ap (λ (r : Reserve). r.offers) c.reserve.ensures.reserve in
     let read = ap (λ (os : List ReserveOffer). slice_index_or os k (record { unit = 0; quantity = pos 0; price = pos 0 })) offers in
     subst (λ (xs : List g.row.N.Denot). map value xs ≡ old ++ map of (places (k + 1))) (sym c.in_ok-push.ensures)
-    (filled_behind value of old c.loop-offer.prices k c.neg.result c.loop-offer.invariant (c.neg.ensures ∙ ap neg_ℚ (c.offer_price-price.ensures ∙ ap (λ (o : ReserveOffer). whole o.price) read)))
+    (filled_behind value of old c.loop-offer.prices k c.offer_value.result c.loop-offer.invariant (c.offer_value.ensures ∙ ap (λ (o : ReserveOffer). neg_ℚ (whole o.price)) read))
 
 pub returns : goal.returns
 returns g c =

@@ -30,7 +30,7 @@ pub returns-clause-highs : goal.returns-clause-highs
 returns-clause-highs g c =
     let m = c.args.market.now in
     let bounds : Bounds g.row.N.Denot = record { low = c.datum.result; high = c.datum-2.result } in
-    let known : to_z w64 (of_z w64 c.excess_at.result) ≡ c.excess_at.result = to_z-of_z w64 c.excess_at.result (record { sfits = c.excess_at.type_inv }) in
-    let is = c.datum-2.ensures ∙ ap whole known ∙ c.excess_at.ensures.excess in
+    let known : to_z w64 (of_z w64 c.most_excess_at.result) ≡ c.most_excess_at.result = to_z-of_z w64 c.most_excess_at.result (record { sfits = c.most_excess_at.type_inv }) in
+    let is = c.datum-2.ensures ∙ ap whole known ∙ c.most_excess_at.ensures.excess in
     pushed_twice m (λ (b : Bounds g.row.N.Denot). g.N.Exact.value b.high) (high_of m) c.args.row c.args.posing.now.column_bounds c.push-3.new.self c.push-4.new.self bounds bounds (sym c.is_soft.ensures ∙ c.if-not-is_soft.false)
     c.in_ok-push-3.ensures c.in_ok-push-4.ensures is is

@@ -5,9 +5,9 @@ use Rattle.linear_dict.specs.Notes.{Noted}
 use Rattle.linear_system.specs.Choices.{value as value_of}
 use Rattle.fraction_theory.specs.Fraction.{Fraction}
 use Rattle.market_model.specs.Dispatch.{places}
+use Rattle.market_model.proofs.RowMembers.{Contains-from_places}
 use Rattle.market_system.specs.MarketSystem.{name, system_of}
 use Rattle.market_system.specs.declared.variables.Variable.TheVariants.{Block}
-use Rattle.market_system.proofs.VariableLaws.{from_places}
 use Rattle.market_dict.specs.Takings.{taken_of}
 use Rattle.market_dict.proofs.HoldingLaws.{variable_named, shown_value}
 use Rattle.market_dict.proofs.ListedLemmas.{map-members, places_filled}
@@ -37,4 +37,4 @@ returns g c = λ ts holds.
     let all : c.loop-block.block ≡ length m.blocks = omega (arith, c.loop-block-test.false, c.loop-block.auto.block-end, c.len-block-end.ensures, ap length c.blocks-2.ensures.list) in
     c.loop-block.invariant ∙ ap (λ (n : ℕ). map noted (places n)) all
     ∙ map-members noted of_choice (places (length m.blocks))
-    (λ j k. shown_value m ts d holds c.requires.shows (name m (Block j)) (variable_named m ts d holds.holds (Block j) (from_places (length m.blocks) j k)))
+    (λ j k. shown_value m ts d holds c.requires.shows (name m (Block j)) (variable_named m ts d holds.holds (Block j) (Contains-from_places (length m.blocks) j k)))

@@ -11,7 +11,7 @@ use Rattle.market_model.specs.Valued.{dual_at}
 use Rattle.market_system.specs.declared.variables.Variable.TheVariants as variable
 use Rattle.market_system.specs.MarketSystem.{taken_in_order, dual_by, variables, IsVariableOf}
 use Rattle.market_system.proofs.RowOrder.{row_place-below}
-use Rattle.market_dict.specs.declared.names.Kind.TheVariants as kind
+use Rattle.market_dict.specs.declared.names.DualKind.TheVariants as kind
 use Rattle.market_dict.specs.declared.taking.Taking.{Taking}
 use Rattle.market_dict.specs.Holding.{HoldsMarket}
 use Rattle.market_dict.specs.Kinds.{kind_of}

@@ -6,9 +6,9 @@ use Rattle.linear_system.specs.Choices.{value as value_of}
 use Rattle.fraction_theory.specs.Fraction.{Fraction}
 use Rattle.market_model.specs.declared.participants.Reserve.{Reserve}
 use Rattle.market_model.specs.Dispatch.{places}
+use Rattle.market_model.proofs.RowMembers.{Contains-from_places}
 use Rattle.market_system.specs.MarketSystem.{name, system_of}
 use Rattle.market_system.specs.declared.variables.Variable.TheVariants.{Offer}
-use Rattle.market_system.proofs.VariableLaws.{from_places}
 use Rattle.market_dict.specs.Takings.{taken_of}
 use Rattle.market_dict.proofs.HoldingLaws.{variable_named, shown_value}
 use Rattle.market_dict.proofs.ListedLemmas.{map-members, places_filled}
@@ -38,4 +38,4 @@ returns g c = λ ts holds.
     let all : c.loop-offer.offer ≡ length m.reserve.offers = omega (arith, c.loop-offer-test.false, c.loop-offer.auto.offer-end, c.len-offer-end.ensures, ap (λ (r : Reserve). length r.offers) c.reserve.ensures.reserve) in
     c.loop-offer.invariant ∙ ap (λ (n : ℕ). map noted (places n)) all
     ∙ map-members noted of_choice (places (length m.reserve.offers))
-    (λ j k. shown_value m ts d holds c.requires.shows (name m (Offer j)) (variable_named m ts d holds.holds (Offer j) (from_places (length m.reserve.offers) j k)))
+    (λ j k. shown_value m ts d holds c.requires.shows (name m (Offer j)) (variable_named m ts d holds.holds (Offer j) (Contains-from_places (length m.reserve.offers) j k)))

@@ -2,10 +2,9 @@ use Rattle.std.proofs.Common.{◌∙◌, ap, sym, subst}
 use Rattle.std.specs.Prelude.{ℤ, ℕ, unsigned_abs, ◌≤◌, ◌*◌}
 use Rattle.std.proofs.lemmas.Option.{get_or_from_slice_get}
 use Rattle.fraction_theory.specs.Fraction.{over}
-use Rattle.market_data.specs.Scales.{factor_one, most_factor, share_one}
+use Rattle.market_data.specs.Scales.{factor_one, most_factor, share_one, pickup_one}
 use Rattle.market_model.specs.Dispatch.{unit_at}
 use Rattle.market_model.specs.Factors.{factor_in}
-use Rattle.market_model.specs.PickupTable.{pickup_one}
 use Rattle.market_model.proofs.PickupLemmas.{kept_own, own_size, whole_share}
 use Rattle.market_model.proofs.pickup_table.own_share.Goals as goal
 

@@ -2,9 +2,8 @@ use Rattle.std.proofs.Common.{◌∙◌, ap, arith, sym, subst}
 use Rattle.std.specs.Prelude.{ℤ, unsigned_abs, ◌≤◌, ◌*◌}
 use Rattle.std.proofs.lemmas.Int.{ints}
 use Rattle.fraction_theory.specs.Fraction.{over, ◌*ℚ◌}
-use Rattle.market_data.specs.Scales.{factor_one, most_factor, share_one}
+use Rattle.market_data.specs.Scales.{factor_one, most_factor, share_one, pickup_one}
 use Rattle.market_model.specs.LimitRows.{share_value}
-use Rattle.market_model.specs.PickupTable.{pickup_one}
 use Rattle.market_model.proofs.PickupLemmas.{kept_share, share_fits, share_size, share_times}
 use Rattle.market_model.proofs.pickup_table.taker_share.Goals as goal
 

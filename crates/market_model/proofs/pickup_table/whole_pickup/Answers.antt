@@ -5,11 +5,10 @@ use Rattle.std.proofs.lemmas.List.{take_all}
 use mir.Val.{to_z}
 use Rattle.fraction_theory.specs.Fraction.{over}
 use Rattle.fraction_theory.specs.Sums.{total}
-use Rattle.market_data.specs.Scales.{most_factor, most_pickups, share_one}
+use Rattle.market_data.specs.Scales.{most_factor, most_pickups, share_one, pickup_one}
 use Rattle.market_model.specs.declared.participants.Pickup.{Pickup}
 use Rattle.market_model.specs.LimitRows.{pickups_of, taker_term}
 use Rattle.market_model.specs.Market.{IsPickup}
-use Rattle.market_model.specs.PickupTable.{pickup_one}
 use Rattle.market_model.proofs.ChangeLemmas.{same_default}
 use Rattle.market_model.proofs.PickupLemmas.{all_kept, difference_is, no_parts, pickup_is, sum_is, sum_size, takers_few, taken_more}
 use Rattle.market_model.proofs.pickup_table.whole_pickup.Goals as goal

@@ -2,9 +2,8 @@ use Rattle.std.proofs.Common.{◌≡◌, ◌*◌, ◌≤◌, take}
 use Rattle.std.specs.Prelude.{map, unsigned_abs}
 use Rattle.fraction_theory.specs.Fraction.{over}
 use Rattle.fraction_theory.specs.Sums.{total}
-use Rattle.market_data.specs.Scales.{most_factor, share_one}
+use Rattle.market_data.specs.Scales.{most_factor, share_one, pickup_one}
 use Rattle.market_model.specs.LimitRows.{taker_term}
-use Rattle.market_model.specs.PickupTable.{pickup_one}
 use Rattle.market_model.proofs.pickup_table.whole_pickup.Given as goal
 
 abbrev pub invariant-loop-pickup : goal.invariant-loop-pickup

@@ -10,7 +10,7 @@ loop-at-preserved g c =
     let units = c.slice-unit-items.ensures ∙ c.units.ensures.list in
     fixed_step c.args.market.now c.args.bus c.loop-at.at _ _ _
     (ap (λ (us : List unit.Unit). slice_index_or {A = unit.Unit} us c.loop-at.at (record { row = 0; bus = 0; fixed = pos 0; up = pos 0; down = pos 0 })) units)
-    c.loop-at.invariant c.in_ok-mw.ensures.sum
+    c.loop-at.invariant (rw c.fixed_of.ensures at c.in_ok-mw.ensures.sum)
 
 pub returns-clause-sum : goal.returns-clause-sum
 returns-clause-sum g c =
@@ -28,4 +28,4 @@ returns-in_err-mw-clause-cause g c =
     rw given
     (fixed_refused m c.args.bus k _ (g.N.Exact.value c.loop-at.mw) g.N.Exact.bound (passed_at g.N.Exact.value c.in_err-mw.field-0.0) below
     (ap (λ (us : List unit.Unit). slice_index_or {A = unit.Unit} us k (record { row = 0; bus = 0; fixed = pos 0; up = pos 0; down = pos 0 })) units)
-    c.in_err-mw.ensures.belongs c.loop-at.invariant c.in_err-mw.ensures.cause)
+    c.in_err-mw.ensures.counts c.loop-at.invariant (rw c.fixed_of.ensures at c.in_err-mw.ensures.cause))

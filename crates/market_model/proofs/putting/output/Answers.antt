@@ -16,7 +16,7 @@ loop-at-preserved g c =
     output_step g.N.Exact.value c.args.market.now c.args.dispatch.now c.args.unit c.loop-at.at _ c.index-dispatch-at.result _ _
     (omega (arith, c.requires.dispatch, ap length blocks)) c.index-dispatch-at.is
     (ap (λ bs. slice_index_or bs c.loop-at.at (record { unit = 0; side = Sell; quantity = pos 0; price = pos 0 })) blocks)
-    c.loop-at.invariant c.in_ok-mw.ensures.sum
+    c.loop-at.invariant (rw c.by_side.ensures at c.in_ok-mw.ensures.sum)
 
 pub returns-clause-output : goal.returns-clause-output
 unfolding output_of
@@ -36,4 +36,4 @@ returns-in_err-mw-clause-cause g c =
     (output_refused g.N.Exact.value m c.args.dispatch.now g.N.Exact.bound (passed_at g.N.Exact.value c.in_err-mw.field-0.0) c.args.unit k _ c.index-dispatch-at.result (g.N.Exact.value c.loop-at.mw)
     below (omega (arith, below, c.requires.dispatch)) c.index-dispatch-at.is
     (ap (λ bs. slice_index_or bs k (record { unit = 0; side = Sell; quantity = pos 0; price = pos 0 })) blocks)
-    c.in_err-mw.ensures.belongs c.loop-at.invariant c.in_err-mw.ensures.cause)
+    c.in_err-mw.ensures.counts c.loop-at.invariant (rw c.by_side.ensures at c.in_err-mw.ensures.cause))

@@ -22,7 +22,7 @@ loop-at-preserved g c =
     raised_step m c.args.bus (dispatch_of g.N.Exact.value c.args.dispatch.now) k _ _ (g.N.Exact.value c.index-dispatch-at.result) _ _ block
     (ap (λ (v : unit.Unit). v.bus == c.args.bus) u)
     (accepted_is g.N.Exact.value c.args.dispatch.now k c.index-dispatch-at.result (omega (arith, c.loop-at-test.true, c.requires.dispatch, ap length blocks)) c.index-dispatch-at.is)
-    c.loop-at.invariant c.in_ok-mw.ensures.sum
+    c.loop-at.invariant (rw c.by_side.ensures at c.in_ok-mw.ensures.sum)
 
 pub returns-clause-sum : goal.returns-clause-sum
 returns-clause-sum g c =
@@ -42,6 +42,6 @@ returns-in_err-mw-clause-cause g c =
     rw given
     (raised_refused m c.args.bus (dispatch_of g.N.Exact.value c.args.dispatch.now) k _ _ (g.N.Exact.value c.index-dispatch-at.result) (g.N.Exact.value c.loop-at.mw) g.N.Exact.bound
     (passed_at g.N.Exact.value c.in_err-mw.field-0.0) below block
-    (ap (λ (v : unit.Unit). v.bus == c.args.bus) u) c.in_err-mw.ensures.belongs
+    (ap (λ (v : unit.Unit). v.bus == c.args.bus) u) c.in_err-mw.ensures.counts
     (accepted_is g.N.Exact.value c.args.dispatch.now k c.index-dispatch-at.result (omega (arith, below, c.requires.dispatch)) c.index-dispatch-at.is)
-    c.loop-at.invariant c.in_err-mw.ensures.cause)
+    c.loop-at.invariant (rw c.by_side.ensures at c.in_err-mw.ensures.cause))

@@ -1,7 +1,7 @@
 use Rattle.std.proofs.Common.{rules, arith, ◌≡◌, ◌<◌, ◌≤◌, ◌+◌, ◌-◌, ◌∙◌, sym, ap, Ok, Err, [], length, get_or}
 use Rattle.net_case.specs.Networks.{IsNetBranch}
 use Rattle.net_case.specs.NetworkReading.{branch_row}
-use Rattle.record_reading.proofs.RowLemmas.{gather-end, gather-fault, gather-step, All-listed, length-listed}
+use Rattle.record_reading.proofs.GatherLemmas.{gather-end, gather-fault, gather-step, All-listed, length-listed}
 use Rattle.net_case.specs.declared.live_parts.NetBranch.{NetBranch}
 use Rattle.net_case.proofs.RowLemmas.{rows-listed}
 use Rattle.net_case.proofs.branch_rows.live_branches.Goals as goal

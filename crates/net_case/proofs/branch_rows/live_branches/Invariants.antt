@@ -1,5 +1,5 @@
 use Rattle.std.proofs.Common.{◌≡◌, ◌+◌, ℕ, ◌≤◌, [], length, map, drop, All}
-use Rattle.record_reading.specs.Rows.{gather}
+use Rattle.record_reading.specs.Gathering.{gather}
 use Rattle.net_case.specs.Networks.{IsNetBranch, AreRows, ArePlaces}
 use Rattle.net_case.specs.NetworkReading.{branch_row}
 use Rattle.net_case.proofs.branch_rows.live_branches.Given as goal

@@ -1,5 +1,5 @@
 use Rattle.std.proofs.Common.{rules, arith, ◌≡◌, ◌<◌, ◌≤◌, ◌+◌, ◌-◌, ◌++◌, ◌∷◌, ◌∙◌, sym, ap, Ok, Err, [], length, get_or, refl}
-use Rattle.record_reading.proofs.RowLemmas.{read_rows-end, read_rows-fault, read_rows-step, length-listed}
+use Rattle.record_reading.proofs.GatherLemmas.{read_records-end, read_records-fault, read_records-step, length-listed}
 use Rattle.net_case.specs.NetworkReading.{bus_row, bus_rows}
 use Rattle.net_case.proofs.BusLemmas.{read-push, keeps-push}
 use Rattle.net_case.proofs.bus_rows.read_buses.Goals as goal
@@ -16,7 +16,7 @@ returns-in_err-bus-clause-is c =
     let at_row : c.loop-row.row + 1 - 1 ≡ c.loop-row.row = omega arith in
     let fails : bus_row done (c.loop-row.row + 1) (get_or c.args.case.now.bus c.loop-row.row []) ≡ Err c.in_err-bus.field-0.0 =
     rw (kept.places, at_row) at (sym c.read_bus.ensures.is ∙ c.in_err-bus.was) in
-    let here = c.loop-row.invariant.is.2 ∙ read_rows-fault bus_row done (c.loop-row.row + 1) c.args.case.now.bus c.loop-row.row c.in_err-bus.field-0.0 lt fails in
+    let here = c.loop-row.invariant.is.2 ∙ read_records-fault bus_row done (c.loop-row.row + 1) c.args.case.now.bus c.loop-row.row c.in_err-bus.field-0.0 lt fails in
     let given : c.from_residual.result ≡ Err c.in_err-bus.field-0.0 = search rules in
     rw given (λ _. rw here refl)
 
@@ -29,7 +29,7 @@ loop-row-preserved c =
     let at_row : c.loop-row.row + 1 - 1 ≡ c.loop-row.row = omega arith in
     let reads : bus_row done (c.loop-row.row + 1) (get_or c.args.case.now.bus c.loop-row.row []) ≡ Ok bus =
     rw (kept.places, at_row) at (sym c.read_bus.ensures.is ∙ c.in_ok-bus.was) in
-    let here = c.loop-row.invariant.is.2 ∙ read_rows-step bus_row done (c.loop-row.row + 1) c.args.case.now.bus c.loop-row.row bus lt reads in
+    let here = c.loop-row.invariant.is.2 ∙ read_records-step bus_row done (c.loop-row.row + 1) c.args.case.now.bus c.loop-row.row bus lt reads in
     let k = c.in_ok-keep_bus.ensures in
     record {
       rows = read-push c.loop-row.rows c.keep_bus.new.rows bus c.loop-row.invariant.rows c.in_ok-bus.ensures.bus c.in_ok-bus.ensures.new k.buses k.places c.keep_bus.ensures.reference;
@@ -43,7 +43,7 @@ returns-in-Some-clause-is c =
     let done = c.loop-row.invariant.is.0 in
     let kept = c.loop-row.invariant.is.1 in
     let le : length c.args.case.now.bus ≤ c.loop-row.row = omega arith in
-    let all = c.loop-row.invariant.is.2 ∙ read_rows-end bus_row done (c.loop-row.row + 1) c.args.case.now.bus c.loop-row.row le in
+    let all = c.loop-row.invariant.is.2 ∙ read_records-end bus_row done (c.loop-row.row + 1) c.args.case.now.bus c.loop-row.row le in
     record { done = done; read = rw (all, ← kept.reference, c.in-Some.is) refl; buses = kept.buses; places = kept.places }
 
 pub returns-in-None-clause-is : goal.returns-in-None-clause-is
@@ -52,5 +52,5 @@ returns-in-None-clause-is c =
     let done = c.loop-row.invariant.is.0 in
     let kept = c.loop-row.invariant.is.1 in
     let le : length c.args.case.now.bus ≤ c.loop-row.row = omega arith in
-    let all = c.loop-row.invariant.is.2 ∙ read_rows-end bus_row done (c.loop-row.row + 1) c.args.case.now.bus c.loop-row.row le in
+    let all = c.loop-row.invariant.is.2 ∙ read_records-end bus_row done (c.loop-row.row + 1) c.args.case.now.bus c.loop-row.row le in
     λ _. rw (all, ← kept.reference, c.in-None.is) refl

@@ -1,5 +1,5 @@
 use Rattle.std.proofs.Common.{◌≡◌, ◌+◌, ◌≤◌, List, [], length, drop}
-use Rattle.record_reading.specs.Rows.{read_rows}
+use Rattle.record_reading.specs.Gathering.{read_records}
 use Rattle.net_case.specs.declared.bus_rows.BusRow.{BusRow}
 use Rattle.net_case.specs.BusReading.{AreRead, Keeps}
 use Rattle.net_case.specs.NetworkReading.{bus_row}
@@ -10,5 +10,5 @@ abbrev pub invariant-loop-row : goal.invariant-loop-row
 invariant-loop-row l = record {
   rows : AreRead l.rows;
   count : length l.rows.buses ≤ l.row;
-  is : (done : List BusRow) × Keeps done l.rows × (read_rows bus_row [] 1 l.case.bus ≡ read_rows bus_row done (l.row + 1) (drop l.row l.case.bus));
+  is : (done : List BusRow) × Keeps done l.rows × (read_records bus_row [] 1 l.case.bus ≡ read_records bus_row done (l.row + 1) (drop l.row l.case.bus));
 }

@@ -1,5 +1,5 @@
 use Rattle.std.proofs.Common.{◌≡◌, ◌+◌, ℕ, ◌≤◌, [], length, map, drop, All}
-use Rattle.record_reading.specs.Rows.{gather}
+use Rattle.record_reading.specs.Gathering.{gather}
 use Rattle.net_case.specs.Networks.{IsNetUnit, AreRows, ArePlaces}
 use Rattle.net_case.specs.NetworkReading.{unit_row}
 use Rattle.net_case.proofs.gen_rows.read_units.Given as goal

@@ -1,6 +1,6 @@
 use Rattle.std.proofs.Common.{rules, ◌≡◌, ◌≢◌, ◌∙◌, sym, ap, length, arith, refl, Ok, Err, []}
 use Rattle.market_data.specs.Scales.{most_buses, most_units}
-use Rattle.record_reading.specs.Rows.{gather}
+use Rattle.record_reading.specs.Gathering.{gather}
 use Rattle.net_case.specs.NetworkReading.{few_rows, network_of, branch_count, branches_in, unit_row}
 use Rattle.net_case.specs.declared.live_parts.NetFault.TheVariants as fault
 use Rattle.case_text.specs.declared.Field.TheVariants as field

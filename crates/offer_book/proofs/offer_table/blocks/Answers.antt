@@ -2,7 +2,7 @@ use Rattle.std.proofs.Common.{rules, ◌≡◌, ◌≢◌, ◌∙◌, refl, sym,
 use Rattle.market_model.specs.declared.participants.Block.{Block}
 use Rattle.market_model.specs.Market.{HaveRoom}
 use Rattle.market_data.specs.Scales.{most_blocks}
-use Rattle.record_reading.specs.Rows.{gather}
+use Rattle.record_reading.specs.Gathering.{gather}
 use Rattle.offer_book.specs.declared.offer_table.OfferFault.{OfferFault}
 use Rattle.offer_book.specs.declared.offer_table.OfferFault.TheVariants as fault
 use Rattle.offer_book.specs.Offers.{HasSides}

@@ -1,7 +1,7 @@
 use Rattle.std.proofs.Common.{rules, arith, ◌≡◌, ◌<◌, ◌≤◌, ◌+◌, ◌∙◌, sym, ap, Ok, Err, [], length, get_or}
 use Rattle.market_model.specs.Market.{IsBlock}
 use Rattle.offer_book.specs.OfferTable.{block_in}
-use Rattle.record_reading.proofs.RowLemmas.{gather-end, gather-fault, gather-step, All-listed, length-listed}
+use Rattle.record_reading.proofs.GatherLemmas.{gather-end, gather-fault, gather-step, All-listed, length-listed}
 use Rattle.offer_book.proofs.offer_table.blocks_of.Goals as goal
 
 pub returns-in_err-block-clause-is : goal.returns-in_err-block-clause-is

@@ -1,6 +1,6 @@
 use Rattle.std.proofs.Common.{◌≡◌, ◌≤◌, ◌+◌, [], length, drop, All}
 use Rattle.market_model.specs.Market.{IsBlock}
-use Rattle.record_reading.specs.Rows.{gather}
+use Rattle.record_reading.specs.Gathering.{gather}
 use Rattle.offer_book.specs.OfferTable.{block_in}
 use Rattle.offer_book.proofs.offer_table.blocks_of.Given as goal
 

@@ -1,8 +1,9 @@
 use Rattle.std.proofs.Common.{rules, ◌≡◌, ◌∙◌, sym, ap, Some, Err, refl, length, pos, w64}
 use mir.Val.{to_z, of_z}
 use Rattle.std.specs.Option.{unwrap_or}
+use Rattle.market_data.specs.Scales.{most_reserves}
 use Rattle.offer_book.specs.declared.reserve_reading.ReserveFault.TheVariants as fault
-use Rattle.offer_book.specs.Reserving.{most_reserves, reserve_header, reserve_in, reserve_of_table}
+use Rattle.offer_book.specs.Reserving.{reserve_header, reserve_in, reserve_of_table}
 use Rattle.csv_table.proofs.Framed.{framed-fault, framed-fits}
 use Rattle.offer_book.proofs.ReserveLemmas.{found-empty, found-reserve}
 use Rattle.offer_book.proofs.reserve_reading.reserves.Goals as goal

@@ -3,7 +3,8 @@ use Rattle.market_model.specs.LimitRows.{flow_by}
 use Rattle.market_model.specs.PutIn.{carried_in}
 use Rattle.market_model.specs.Valued.{passed_at}
 use Rattle.market_model.specs.declared.stops.Stop.TheVariants as why
-use Rattle.rights_test.specs.Fits.{carried_for, fit_at}
+use Rattle.market_model.specs.Rights.{carried_for}
+use Rattle.rights_test.specs.Fits.{fit_at}
 use Rattle.rights_test.proofs.FitLemmas.{carried_count, fit_same, row_flow_is, row_refusal}
 use Rattle.rights_test.proofs.fitting.fit.Goals as goal
 

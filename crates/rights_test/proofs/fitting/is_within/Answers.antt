@@ -4,13 +4,14 @@ use mir.Val.{to_z, of_z}
 use Rattle.fraction_theory.specs.Fraction.{whole}
 use Rattle.fraction_theory.specs.Order.{◌<ℚ◌, ◌≤ℚ◌}
 use Rattle.market_model.specs.LimitRows.{limit}
-use Rattle.rights_test.proofs.FitLemmas.{not_past, size_kept, size_passed}
+use Rattle.limit_rows.proofs.FlowSizes.{not_past, not_passed, size_kept}
 use Rattle.rights_test.proofs.fitting.is_within.Goals as goal
 
 pub returns-in-Greater : goal.returns-in-Greater
 returns-in-Greater g c =
     let known : to_z w64 (of_z w64 c.limit_at.result) ≡ c.limit_at.result = to_z-of_z w64 c.limit_at.result (record { sfits = c.limit_at.type_inv }) in
-    size_passed (limit c.args.market.now c.args.row) (g.N.Exact.value c.args.flow)
+    λ within.
+    not_passed (limit c.args.market.now c.args.row) (g.N.Exact.value c.args.flow) within
     (subst₂ (λ x y. x <ℚ y) (c.datum.ensures ∙ ap whole known ∙ c.limit_at.ensures.limit) c.size.ensures c.in-Greater.ensures)
 
 pub returns-in-Less : goal.returns-in-Less

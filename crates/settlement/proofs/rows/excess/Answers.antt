@@ -1,45 +1,39 @@
-use Rattle.std.proofs.Common.{◌≡◌, ◌∙◌, ap, ap₂, subst, subst₂, sym, w64}
+use Rattle.std.proofs.Common.{◌≡◌, ◌∙◌, ap, subst, sym, w64}
 use Rattle.std.proofs.lemmas.Int.{to_z-of_z}
-use Rattle.std.proofs.lemmas.Result.{MatchResult-weaker}
 use mir.Val.{to_z, of_z}
 use Rattle.fraction_theory.specs.Fraction.{whole, ◌-ℚ◌}
 use Rattle.fraction_theory.specs.Order.{◌<ℚ◌, ◌≤ℚ◌}
-use Rattle.exact_fraction.specs.Passes.{IsTooLarge}
-use Rattle.exact_fraction.proofs.Excesses.{excess_fits}
-use Rattle.limit_screen.proofs.ScreenLemmas.{not_past}
-use Rattle.settlement.proofs.RowLemmas.{excess_beyond, excess_none}
+use Rattle.fraction_theory.specs.Signs.{abs_ℚ}
+use Rattle.fraction_theory.proofs.OrderLaws.{<ℚ-≤ℚ}
+use Rattle.fraction_theory.proofs.SignLaws.{part_at_least, part_at_most}
+use Rattle.market_model.specs.Dispatch.{zero}
+use Rattle.market_model.specs.Overrun.{overrun}
 use Rattle.settlement.proofs.rows.excess.Goals as goal
 
-pub returns-in-Greater-clause-excess : goal.returns-in-Greater-clause-excess
-returns-in-Greater-clause-excess g c =
-    let value = g.N.Exact.value in
+pub beyond-requires : goal.beyond-requires
+beyond-requires g c =
     let known : to_z w64 (of_z w64 c.limit_at.result) ≡ c.limit_at.result = to_z-of_z w64 c.limit_at.result (record { sfits = c.limit_at.type_inv }) in
-    let limit = c.datum-limit.ensures ∙ ap whole known ∙ c.limit_at.ensures.limit in
-    MatchResult-weaker c.exact_difference.result c.exact_difference.ensures
-    (λ e is.
-    is.exact ∙ ap₂ ◌-ℚ◌ c.size-size.ensures limit
-    ∙ sym (excess_beyond c.args.market.now c.args.row (value c.args.flow) (subst₂ ◌<ℚ◌ limit c.size-size.ensures c.in-Greater.ensures)))
-    (λ _ _. tt)
+    (c.limit_at.result, c.limit_at.ensures.sign, c.datum.ensures ∙ ap whole known)
 
-pub returns-in-Greater-clause-fits : goal.returns-in-Greater-clause-fits
-returns-in-Greater-clause-fits g c =
+pub returns-in-Some-clause-excess : goal.returns-in-Some-clause-excess
+returns-in-Some-clause-excess g c =
     let value = g.N.Exact.value in
-    let size = c.size-size.result in
     let known : to_z w64 (of_z w64 c.limit_at.result) ≡ c.limit_at.result = to_z-of_z w64 c.limit_at.result (record { sfits = c.limit_at.type_inv }) in
-    let mw = c.datum-limit.ensures ∙ ap whole known in
-    let within = g.met.N.Exact.value_fits size in
-    MatchResult-weaker c.exact_difference.result c.exact_difference.ensures (λ _ _. tt)
-    (λ p is.
-    excess_fits g.N.Exact.bound (value size) c.limit_at.result c.limit_at.ensures.sign (subst (λ x. x <ℚ value size) mw c.in-Greater.ensures) within.0 within.1
-    (subst (λ x. IsTooLarge g.N.Exact.bound (value size -ℚ x)) mw is.too_large))
+    let limit = c.datum.ensures ∙ ap whole known ∙ c.limit_at.ensures.limit in
+    let past = rw c.in-Some.is at c.in_ok-over.ensures.overrun in
+    let over : value c.in-Some.over ≡ overrun c.args.market.now c.args.row (value c.args.flow) = past.1 ∙ ap (λ x. abs_ℚ (value c.args.flow) -ℚ x) limit in
+    over ∙ sym (part_at_least (overrun c.args.market.now c.args.row (value c.args.flow)) (<ℚ-≤ℚ zero _ (subst (λ e. zero <ℚ e) over past.0)))
 
-pub returns-in-Less : goal.returns-in-Less
-returns-in-Less g c =
+pub returns-in-None : goal.returns-in-None
+returns-in-None g c =
     let value = g.N.Exact.value in
     let known : to_z w64 (of_z w64 c.limit_at.result) ≡ c.limit_at.result = to_z-of_z w64 c.limit_at.result (record { sfits = c.limit_at.type_inv }) in
-    let limit = c.datum-limit.ensures ∙ ap whole known ∙ c.limit_at.ensures.limit in
-    let below = not_past c.order.result (value c.size-size.result) (value c.datum-limit.result) c.order.ensures c.in-Less.is in
+    let limit = c.datum.ensures ∙ ap whole known ∙ c.limit_at.ensures.limit in
+    let kept = rw c.in-None.is at c.in_ok-over.ensures.overrun in
     record {
-      excess = c.datum.ensures ∙ sym (excess_none c.args.market.now c.args.row (value c.args.flow) (subst₂ ◌≤ℚ◌ c.size-size.ensures limit below));
+      excess = c.datum-in-None.ensures ∙ sym (part_at_most (overrun c.args.market.now c.args.row (value c.args.flow)) (subst (λ x. (abs_ℚ (value c.args.flow) -ℚ x) ≤ℚ zero) limit kept));
       fits = tt;
     }
+
+pub returns-in_err-over-clause-fits : goal.returns-in_err-over-clause-fits
+returns-in_err-over-clause-fits g c = absurd c.in_err-over.ensures.fits

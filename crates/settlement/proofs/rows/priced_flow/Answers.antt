@@ -4,7 +4,7 @@ use mir.Val.{to_z, of_z}
 use Rattle.fraction_theory.specs.Fraction.{whole}
 use Rattle.fraction_theory.specs.Order.{◌<ℚ◌, ◌≤ℚ◌}
 use Rattle.market_model.proofs.Excesses.{priced_flow-beyond, priced_flow-most}
-use Rattle.limit_screen.proofs.ScreenLemmas.{not_past}
+use Rattle.limit_rows.proofs.FlowSizes.{not_past}
 use Rattle.settlement.proofs.rows.priced_flow.Goals as goal
 
 pub returns-in-Greater : goal.returns-in-Greater

@@ -13,19 +13,25 @@ use Rattle.market_model.specs.Valued.{duals_at, load_at, money_at, passed_at, re
 use Rattle.market_model.specs.Dispatch.{dispatch_with, places}
 use Rattle.market_model.specs.PutIn.{dispatch_of}
 use Rattle.limit_screen.proofs.ScreenLemmas.{flow_count}
+use Rattle.market_model.specs.Settlement.{surplus_terms_by, pay_of_load, pay_of_reserve, pay_of_unit, paid_terms}
+use Rattle.market_model.proofs.StopLemmas.{on_passed_weaker}
 use Rattle.market_model.specs.declared.stops.Stop.TheVariants as why
-use Rattle.market_model.specs.Settlement.{surplus_terms_by, pay_of_load, pay_of_reserve, pay_of_unit}
+use Rattle.market_model.specs.declared.stops.Stop.TheVariants as stop
 use Rattle.market_model.specs.SumTables.{left_of_all, payment}
-use Rattle.settlement.specs.Paying.{paid_terms}
 use Rattle.settlement.proofs.BlockFlows.{flows_of_blocks}
 use Rattle.settlement.proofs.ListLemmas.{sum_by-map}
+use Rattle.settlement.proofs.PayLemmas.{own_refusal}
 use Rattle.settlement.proofs.MoneyLemmas.{surplus_is, surplus_refused, rents_are_left, left_not_negative, count_fits, rows_fit}
 use Rattle.settlement.proofs.settling.settle_flows.Goals as goal
 
 pub returns-in_err-by_unit-clause-cause : goal.returns-in_err-by_unit-clause-cause
 returns-in_err-by_unit-clause-cause g c =
+    let value = g.N.Exact.value in
+    let x = dispatch_with (map value c.args.dispatch.now) (map value c.args.reserve.now) in
     let given : c.from_residual.result ≡ Err c.in_err-by_unit.field-0.0 = search rules in
-    rw given (c.in_err-by_unit.ensures.cause (dispatch_with (map g.N.Exact.value c.args.dispatch.now) (map g.N.Exact.value c.args.reserve.now)))
+    rw given
+    (on_passed_weaker c.in_err-by_unit.field-0.0 _ _
+    (λ p why. own_refusal c.args.market.now x (total_at value c.args.prices.now) (duals_at value c.args.duals.now) g.N.Exact.bound (passed_at value p) why) c.in_err-by_unit.ensures.cause)
 
 pub unit_pays-requires-clause-own : goal.unit_pays-requires-clause-own
 unit_pays-requires-clause-own g c = count_fits g.N.Exact.value _ _ _ (ap (map g.N.Exact.value) c.deref.ensures.value ∙ c.in_ok-by_unit.ensures.own)
@@ -63,7 +69,7 @@ returns-in_err-surplus-clause-cause g c =
     let x = dispatch_with (map value c.args.dispatch.now) (map value c.args.reserve.now) in
     let price = total_at value c.args.prices.now in
     let p = passed_at value c.in_err-surplus.field-0.0 in
-    let given : c.from_residual-in_err-surplus.result ≡ Err (why.Passed c.in_err-surplus.field-0.0) = search rules in
+    let given : c.from_residual-in_err-surplus.result ≡ Err (stop.Passed c.in_err-surplus.field-0.0) = search rules in
     let d = duals_at value c.args.duals.now in
     let pays = c.in_ok-units.ensures.pays (map value c.args.reserve.now) price d (ap (map value) c.deref.ensures.value ∙ c.in_ok-by_unit.ensures.own) in
     rw given
@@ -71,7 +77,7 @@ returns-in_err-surplus-clause-cause g c =
       surplus_terms_by m x price d,
       payment _ left_of_all,
       surplus_refused value m x price d c.in_ok-loads.loads c.in_ok-units.units c.in_ok-loads.ensures.loads pays g.N.Exact.bound p
-          (subst₂ (λ (ls : List (Load g.row.N.Denot)) (us : List (UnitPay g.row.N.Denot)). IsRefusedIn (paid_terms value ls us) g.N.Exact.bound p) c.slice.ensures c.slice-2.ensures c.in_err-surplus.ensures.cause),
+          (subst₂ (λ (ls : List (Load g.row.N.Denot)) (us : List (UnitPay g.row.N.Denot)). IsRefusedIn (paid_terms (map (load_at value) ls) (map (unit_pay_at value) us)) g.N.Exact.bound p) c.slice.ensures c.slice-2.ensures c.in_err-surplus.ensures.cause),
     ))
 
 pub returns-clause-money : goal.returns-clause-money
@@ -91,7 +97,7 @@ returns-clause-money g c =
       rents = c.in_ok-rents.ensures.rents x (c.requires.flows ∙ flows_of_blocks m (map value c.args.dispatch.now) (map value c.args.reserve.now)) i;
       surplus = surplus_is value m x price d c.in_ok-loads.loads c.in_ok-units.units c.in_ok-loads.ensures.loads pays
           (value c.in_ok-surplus.surplus)
-          (subst₂ (λ (ls : List (Load g.row.N.Denot)) (us : List (UnitPay g.row.N.Denot)). value c.in_ok-surplus.surplus ≡ total (paid_terms value ls us)) c.slice.ensures c.slice-2.ensures c.in_ok-surplus.ensures.left) i;
+          (subst₂ (λ (ls : List (Load g.row.N.Denot)) (us : List (UnitPay g.row.N.Denot)). value c.in_ok-surplus.surplus ≡ total (paid_terms (map (load_at value) ls) (map (unit_pay_at value) us))) c.slice.ensures c.slice-2.ensures c.in_ok-surplus.ensures.left) i;
       reserve = reserved i;
     }
 

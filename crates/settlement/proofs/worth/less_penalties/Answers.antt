@@ -57,7 +57,7 @@ returns-clause-worth g c =
     let all = all_taken m _ _ _ c.loop-row.yielded (c.into_iter-row-iterator.ensures.into_iter_gives ∙ c.rows-row-items.ensures.rows) c.loop-row.yielded_by c.next.result c.in-None.is c.next.ensures.steps in
     λ x are is. subst (λ (rs : List Row). g.N.Exact.value c.loop-row.sum ≡ total (energy_terms m x rs)) all (c.loop-row.invariant x are is)
 
-pub returns-then-not-has_giving_way-clause-worth : goal.returns-then-not-has_giving_way-clause-worth
-returns-then-not-has_giving_way-clause-worth g c =
-    let none : c.has_giving_way.result ≡ false = search rules in
-    λ x are is. worth_of_blocks c.args.market.now (sym c.has_giving_way.ensures ∙ none) x (g.N.Exact.value c.args.values) is
+pub returns-then-not-has_soft_limits-clause-worth : goal.returns-then-not-has_soft_limits-clause-worth
+returns-then-not-has_soft_limits-clause-worth g c =
+    let none : c.has_soft_limits.result ≡ false = search rules in
+    λ x are is. worth_of_blocks c.args.market.now (sym c.has_soft_limits.ensures ∙ none) x (g.N.Exact.value c.args.values) is

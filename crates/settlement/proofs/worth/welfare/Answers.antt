@@ -11,6 +11,11 @@ pub less_penalties-requires : goal.less_penalties-requires
 less_penalties-requires g c =
     sym (length-map c.args.flows.now g.N.Exact.value) ∙ flow_count c.args.market.now (dispatch_of g.N.Exact.value c.args.dispatch.now) (map g.N.Exact.value c.args.flows.now) c.requires.flows
 
+pub returns-in_err-of_blocks-clause-cause : goal.returns-in_err-of_blocks-clause-cause
+returns-in_err-of_blocks-clause-cause g c =
+    let given : c.from_residual.result ≡ Err c.in_err-of_blocks.field-0.0 = search rules in
+    rw given (inl (c.in_err-of_blocks.ensures.cause (map g.N.Exact.value c.args.reserve.now)))
+
 pub returns-in_err-of_energy-clause-cause : goal.returns-in_err-of_energy-clause-cause
 returns-in_err-of_energy-clause-cause g c =
     let m = c.args.market.now in

@@ -12,8 +12,8 @@ listed (Some x) = x ∷ []
 -- record gives one item or none
 unfoldable pub gather : {A F : Type 0} → (List A → ℕ → Record → Result (Option A) F) → List A → ℕ → List Record → Result (List A) F
 gather read done number [] = Ok done
-gather read done number (r ∷ rows) = and_then (read done number r) (λ x. gather read (done ++ listed x) (number + 1) rows)
+gather read done number (r ∷ records) = and_then (read done number r) (λ x. gather read (done ++ listed x) (number + 1) records)
 
 -- the same of records that give one item each
-abbrev pub read_rows : {A F : Type 0} → (List A → ℕ → Record → Result A F) → List A → ℕ → List Record → Result (List A) F
-read_rows read done number rows = gather (λ earlier n r. some_of (read earlier n r)) done number rows
+abbrev pub read_records : {A F : Type 0} → (List A → ℕ → Record → Result A F) → List A → ℕ → List Record → Result (List A) F
+read_records read done number records = gather (λ earlier n r. some_of (read earlier n r)) done number records

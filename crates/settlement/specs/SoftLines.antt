@@ -4,5 +4,5 @@ use Rattle.std.specs.Int.{is_positive}
 use Rattle.market_model.specs.declared.participants.Line.{Line}
 
 -- one of its limits gives way, in the base or after outages
-abbrev pub gives_way : Line → Bool
-gives_way line = is_positive line.base_price || is_positive line.post_price
+abbrev pub has_soft_limit : Line → Bool
+has_soft_limit line = is_positive line.base_price || is_positive line.post_price

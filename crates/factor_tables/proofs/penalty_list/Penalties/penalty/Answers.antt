@@ -1,7 +1,0 @@
-use Rattle.std.proofs.Common.{◌∙◌}
-use Rattle.factor_tables.specs.Penalties.{GivesWay, same_limit}
-use Rattle.factor_tables.proofs.FactorLemmas.{lookup-all}
-use Rattle.factor_tables.proofs.penalty_list.Penalties.penalty.Goals as goal
-
-pub returns-clause-kept : goal.returns-clause-kept
-returns-clause-kept c = rw (c.copied.ensures ∙ c.get.ensures.value) (lookup-all GivesWay (same_limit (c.args.branch, c.args.post)) c.self.inside.by_limit.entries c.self.invariant.kept)
