@@ -12,18 +12,17 @@ use Rattle.fraction_theory.specs.Order.{◌<ℚ◌, ◌≤ℚ◌}
 use Rattle.fraction_theory.specs.Signs.{abs_ℚ}
 use Rattle.fraction_theory.specs.Sums.{total}
 use Rattle.fraction_theory.proofs.FieldLaws.{+ℚ_neg}
-use Rattle.fraction_theory.proofs.OrderLaws.{NonNeg-one, by_le1, not-≤ℚ, <ℚ-not-≤ℚ, ≤ℚ_refl, ≤ℚ_trans, <ℚ-≤ℚ, ≤ℚ-<ℚ_trans, +ℚ-≤ℚ, +ℚ-<ℚ, whole-≤ℚ}
+use Rattle.fraction_theory.proofs.OrderLaws.{NonNeg-one, by_le1, not-≤ℚ, <ℚ-not-≤ℚ, ≤ℚ_refl, ≤ℚ_trans, <ℚ-≤ℚ, ≤ℚ-<ℚ_trans, +ℚ-≤ℚ, +ℚ-<ℚ}
 use Rattle.fraction_theory.proofs.Ring.{at, padd, pneg, pnil, pone}
 use Rattle.exact_fraction.specs.declared.Passed.{Passed}
 use Rattle.market_model.specs.declared.participants.Parts.{Parts}
 use Rattle.market_model.specs.Dispatch.{Dispatch, places, injection}
-use Rattle.market_model.specs.Overrun.{IsBeyond, IsFirstMost, Keeps, overrun}
+use Rattle.market_model.specs.Overrun.{IsBeyond, IsFirstMost, Keeps, Within, overrun}
 use Rattle.market_model.specs.declared.limits.Row.{Row}
 use Rattle.market_model.specs.LimitRows.{Carried, carried, flow_by, flow_terms, limit, line_flow, line_flows, lost_output, lost_outputs, most_excess, most_flow, rows}
 use Rattle.market_model.specs.NamedSums.{IsRefusedIn}
 use Rattle.market_model.specs.PutIn.{AreCarried, carried_in}
 use Rattle.market_model.specs.SumTables.{IsFlowRefusal, flow_of_row}
-use Rattle.market_model.proofs.LinePenalties.{penalties}
 use Rattle.limit_rows.proofs.FlowSteps.{row_terms_are}
 use Rattle.limit_rows.proofs.FlowSizes.{not_passed, size_kept}
 use Rattle.market_model.proofs.RowMembers.{at_places}

@@ -43,7 +43,7 @@ use Rattle.market_system.proofs.DualLists.{NamesApart, rows_apart, takes_room, r
 use Rattle.market_system.proofs.MarketPoints.{point_of, point_meets, point_within, point_welfare, dispatch_at-accepted, dispatch_at-reserved, dispatch_reserve, dispatch_room, dispatch_welfare, dispatch_flow, dispatch_feasible, added_within, over_between, under_between}
 use Rattle.market_system.proofs.RowSums.{sum_by-alone}
 use Rattle.market_system.proofs.SoftRows.{kept_most, kept_nil, side_stands, side_unpriced}
-use Rattle.market_system.proofs.VariableLaws.{from_places, taken-in_order, is_system_over, column_in, offer_in, column_listed, excess_listed, variable_in, over_in, under_in, sum-rows, sum-variables, coefficient-at, price-at, low-at, high-at}
+use Rattle.market_system.proofs.VariableLaws.{taken-in_order, is_system_over, column_in, offer_in, column_listed, excess_listed, variable_in, over_in, under_in, sum-rows, sum-variables, coefficient-at, price-at, low-at, high-at}
 use Rattle.market_system.proofs.RoomBounds.{offered-by_offers, offered_most}
 use Rattle.market_model.specs.Overrun.{Within}
 use Rattle.market_model.proofs.RowMembers.{Contains-places, Contains-from_places}

@@ -1,6 +1,6 @@
 -- Whether limits could carry rights together, and where not, the first that is broken.
 -- Hogan, Contract Networks for Electric Power Transmission (1992): the simultaneous feasibility test.
-use Rattle.std.specs.Prelude.{◌≡◌, ◌⊎◌, ℕ, ◌==◌, ◌<◌, List, ◌∷◌, ◌++◌, length, map, replicate, All}
+use Rattle.std.specs.Prelude.{◌≡◌, ◌⊎◌, ℕ, ◌<◌, List, ◌∷◌, ◌++◌, length, map, replicate, All}
 use Rattle.fraction_theory.specs.Fraction.{Fraction}
 use Rattle.fraction_theory.specs.Sums.{Term}
 use Rattle.exact_fraction.specs.declared.Passed.{Passed}

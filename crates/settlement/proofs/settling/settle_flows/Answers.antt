@@ -1,4 +1,4 @@
-use Rattle.std.proofs.Common.{rules, Err, refl, inl, subst₂, ◌≡◌, ◌∙◌, List, ap, length, map, sym}
+use Rattle.std.proofs.Common.{rules, Err, refl, inl, subst₂, ◌≡◌, ◌∙◌, List, ap, map, sym}
 use Rattle.std.proofs.lemmas.List.{length-map}
 use Rattle.fraction_theory.specs.Fraction.{Fraction}
 use Rattle.fraction_theory.specs.Sums.{total}
