@@ -3,12 +3,12 @@ use Rattle.std.proofs.Common.{◌≡◌, ◌≢◌, ◌⊎◌, ◌≤◌, ◌<�
 use Rattle.std.specs.List.{range_with_len}
 use Rattle.std.proofs.lemmas.Int.{ints}
 use Rattle.std.proofs.lemmas.Bool.Decides.{eqb_tells}
-use Rattle.market_data.specs.Scales.{factor_one}
+use Rattle.market_data.specs.Scales.{factor_one, IsRingSize}
 use Rattle.market_data.specs.WholeSums.{int_sum}
 use Rattle.market_model.specs.declared.participants.Factor.{Factor}
 use Rattle.market_model.specs.Dispatch.{places}
 use Rattle.market_model.specs.Factors.{factor_in, is_pair}
-use Rattle.case_maker.specs.Rings.{IsRingSize, factor_by, factors_by, shift_of}
+use Rattle.case_maker.specs.Rings.{factor_by, factors_by, shift_of}
 use Rattle.case_maker.proofs.RingMarkets.{by-size}
 
 -- ---- by pair

@@ -8,12 +8,12 @@ use Rattle.fraction_theory.proofs.FractionLaws.{Is, over_is, plus_is, same_value
 use Rattle.fraction_theory.proofs.IntegerLaws.{ring_ℤ}
 use Rattle.fraction_theory.proofs.ListSums.{sum_by-members}
 use Rattle.fraction_theory.proofs.Ring.{at, by_ring, ◌⊕◌, ◌⊗◌}
-use Rattle.market_data.specs.Scales.{factor_one}
+use Rattle.market_data.specs.Scales.{factor_one, IsRingSize}
 use Rattle.market_data.specs.WholeSums.{int_sum}
 use Rattle.market_model.specs.Dispatch.{places, zero}
 use Rattle.market_model.specs.LimitRows.{shift_factor}
 use Rattle.case_maker.specs.Kirchhoff.{ObeysKirchhoff}
-use Rattle.case_maker.specs.Rings.{IsRingSize, loss_of, ring_of, shift_of}
+use Rattle.case_maker.specs.Rings.{loss_of, ring_of, shift_of}
 use Rattle.case_maker.proofs.FactorValues.{HasParts, factor-of, node, put_whole, round, size-parts}
 use Rattle.case_maker.proofs.PlaceLists.{place-below}
 

@@ -10,6 +10,7 @@ use Rattle.std.proofs.lemmas.List.FromFn.{length-map-range_with_len}
 use Rattle.market_data.specs.Participants.{IsBus, IsUnit}
 use Rattle.market_data.specs.declared.participants.Bus.{Bus}
 use Rattle.market_data.specs.declared.participants.Unit as unit
+use Rattle.market_data.specs.Scales.{IsRingSize}
 use Rattle.market_model.proofs.PlainMarkets.{is_no_reserve, no_unit_outages}
 use Rattle.market_model.specs.declared.participants.Block.{Block}
 use Rattle.market_model.specs.declared.participants.Line.{Line}
@@ -19,7 +20,7 @@ use Rattle.market_model.specs.Dispatch.{places}
 use Rattle.market_model.specs.Market.{HasRoom, IsBlock, IsLine, IsMarket}
 use Rattle.market_model.specs.Stairs.{offered, same_side, stair_in}
 use Rattle.market_model.proofs.LinePenalties.{hard_is_line}
-use Rattle.case_maker.specs.Rings.{IsRingSize, blocks_of, bus_of, drawn, half_sold, line_of, loss_of, mw, ring_of, shift_of, unit_of}
+use Rattle.case_maker.specs.Rings.{blocks_of, bus_of, drawn, half_sold, line_of, loss_of, mw, ring_of, shift_of, unit_of}
 use Rattle.case_maker.proofs.DrawLemmas.{drawn-small}
 use Rattle.case_maker.proofs.FactorLemmas.{are-factors, loss-small, shift-small}
 use Rattle.case_maker.proofs.PlaceLists.{All-flat, All-places, at-place, length-flat, numbers-differ}

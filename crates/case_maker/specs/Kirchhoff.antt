@@ -4,7 +4,8 @@ use Rattle.fraction_theory.specs.Fraction.{Fraction, whole, neg_ℚ, ◌+ℚ◌}
 use Rattle.fraction_theory.specs.Sums.{sum_by}
 use Rattle.market_model.specs.Dispatch.{places, zero}
 use Rattle.market_model.specs.LimitRows.{loss_factor, shift_factor}
-use Rattle.case_maker.specs.Rings.{IsRingSize, ring_of}
+use Rattle.case_maker.specs.Rings.{ring_of}
+use Rattle.market_data.specs.Scales.{IsRingSize}
 
 -- of a MW that bus i puts in, what is put in at bus j
 abbrev pub unit_injection : ℕ → ℕ → Fraction

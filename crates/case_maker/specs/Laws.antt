@@ -3,7 +3,8 @@ use Rattle.std.specs.Prelude.{◌≡◌, ℕ, ◌*◌, ◌≤◌, length}
 use Rattle.market_model.specs.Dispatch.{Dispatch}
 use Rattle.market_model.specs.LimitRows.{rows}
 use Rattle.market_model.specs.Optimality.{Feasible}
-use Rattle.case_maker.specs.Rings.{IsRingSize, ring_of}
+use Rattle.case_maker.specs.Rings.{ring_of}
+use Rattle.market_data.specs.Scales.{IsRingSize}
 
 -- there is a feasible dispatch
 abbrev pub LawOfServing : Type 0

@@ -1,5 +1,5 @@
 -- Ring networks that are made from a seed. Every bus has a load and a unit that can serve it, and each branch may be lost.
-use Rattle.std.specs.Prelude.{◌≡◌, ◌⊎◌, ℕ, ◌+◌, ◌-◌, ◌*◌, ◌/◌, ◌%◌, ◌^◌, ◌==◌, nat_lt, ℤ, pos, neg_ℤ, Some, List, [], ◌∷◌, ◌++◌, map, if◌then◌else◌}
+use Rattle.std.specs.Prelude.{ℕ, ◌+◌, ◌-◌, ◌*◌, ◌/◌, ◌%◌, ◌^◌, ◌==◌, nat_lt, ℤ, pos, neg_ℤ, Some, List, [], ◌∷◌, ◌++◌, map, if◌then◌else◌}
 use Rattle.std.specs.List.{flat_map}
 use Rattle.std.proofs.Common.{zero, suc}
 use Rattle.market_data.specs.Scales.{factor_one, mw_one, price_one}
@@ -14,10 +14,6 @@ use Rattle.market_model.specs.Dispatch.{places}
 use Rattle.market_model.specs.Market.{bare_parts}
 use Rattle.case_maker.specs.declared.draws.Drawn.{Drawn}
 use Rattle.market_model.specs.Lines.{hard_line}
-
--- how many buses a ring may have: at these sizes each factor is a whole number of 10^-6
-abbrev pub IsRingSize : ℕ → Type 0
-IsRingSize n = (n ≡ 4) ⊎ (n ≡ 8) ⊎ (n ≡ 16) ⊎ (n ≡ 32) ⊎ (n ≡ 64)
 
 -- ---- draws
 -- a linear congruential generator, with the numbers of MMIX (Knuth, The Art of Computer Programming, volume 2, 3.3.4)

@@ -2,7 +2,8 @@
 
 ghost use Rattle.std.specs.Prelude.{◌≡◌, ◌+◌, ◌≤◌, ◌<◌, IfOk};
 ghost use Rattle.market_model.specs.Market.{IsMarket};
-ghost use Rattle.case_maker.specs.Rings.{IsRingSize, bus_of, half_sold, line_of, mw, ring_of, unit_of, with_bus};
+ghost use Rattle.case_maker.specs.Rings.{bus_of, half_sold, line_of, mw, ring_of, unit_of, with_bus};
+ghost use Rattle.market_data.specs.Scales.{IsRingSize};
 
 use crate::draws::{Drawn, Draws};
 use crate::factors::{loss_factors, shift_factors};

@@ -10,11 +10,11 @@ use Rattle.market_model.specs.Overrun.{overrun, IsBeyond, Keeps, Within}
 use Rattle.market_model.specs.declared.limits.Row.{Row}
 use Rattle.market_model.specs.LimitRows.{carried, rows, limit, flow, flow_by, most_flow}
 use Rattle.market_model.specs.Market.{IsMarket}
-use Rattle.market_model.specs.Optimality.{Feasible}
+use Rattle.market_model.specs.Optimality.{Feasible, BestFor}
 use Rattle.market_model.specs.Reserves.{room, room_used}
 use Rattle.market_model.proofs.ChangeLemmas.{same_default}
 use Rattle.market_model.proofs.Excesses.{within_most}
-use Rattle.market_system.specs.Growth.{BestFor, Broken}
+use Rattle.market_system.specs.Growth.{Broken}
 use Rattle.market_system.specs.MarketSystem.{is_in}
 use Rattle.market_system.proofs.RowOrder.{is_in-from, is_in-in}
 use Rattle.market_system.proofs.GrowthLaws.{beyond_is_new}

@@ -12,7 +12,8 @@ use Rattle.market_model.specs.Dispatch.{Dispatch}
 use Rattle.market_model.specs.declared.limits.Row.{Row}
 use Rattle.market_model.specs.LimitRows.{rows, row_id}
 use Rattle.market_model.specs.Reserves.{reserve_units}
-use Rattle.market_system.specs.Growth.{BestFor, Growth}
+use Rattle.market_model.specs.Optimality.{BestFor}
+use Rattle.market_system.specs.Growth.{Growth}
 use Rattle.market_system.proofs.GrowthLaws.{growth_again, growth_more, growth_none, rows_few}
 use Rattle.market_dict.specs.Holding.{HoldsMarket}
 use Rattle.market_dict.specs.PricesAndBounds.{ArePricesAndBounds}

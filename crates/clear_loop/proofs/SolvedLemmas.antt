@@ -16,9 +16,9 @@ use Rattle.market_model.specs.Market.{IsMarket}
 use Rattle.market_model.specs.NamedSums.{IsRefusedIn}
 use Rattle.market_model.proofs.SumParts.{flow_carried}
 use Rattle.market_model.specs.SumTables.{IsFlowRefusal, IsRefusedAmong, factor_of_pickup, flow_of_row, limited_row, FlowSum, flow_in_limits, PriceSum, reserve_in_room, RoomSum, IsRefusedInPrices, left_of_all, paid_by_load, paid_for_reserve, paid_to_unit, rent_of_row, SettledSum, own_price_of_unit, paid_output, paid_price, demand_of_bus, payment, paid_row, WelfareSum}
-use Rattle.market_model.specs.Optimality.{names_row, Feasible, Supports, ProperDuals, bus_price, own_terms, ArePricesOf}
+use Rattle.market_model.specs.Optimality.{names_row, Feasible, Supports, ProperDuals, bus_price, own_terms, ArePricesOf, BestFor}
 use Rattle.market_model.specs.Settlement.{load_terms, rent_terms, reserve_term, surplus_terms, unit_terms}
-use Rattle.market_system.specs.Growth.{BestFor, PricesOnly}
+use Rattle.market_system.specs.Growth.{PricesOnly}
 use Rattle.market_system.specs.MarketNumbers.{IsRightChoice, IsInjecting, factor_of, of_flow, of_price, of_reserve, of_welfare, of_settlement}
 use Rattle.market_system.specs.MarketSystem.{system_of, choice_dispatch}
 use Rattle.market_system.specs.PairLaw.{RefusalsArePairs}

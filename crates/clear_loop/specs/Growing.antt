@@ -4,7 +4,8 @@ use Rattle.fraction_theory.specs.Order.{◌<ℚ◌}
 use Rattle.market_model.specs.declared.participants.Parts.{Parts}
 use Rattle.market_model.specs.Dispatch.{Dispatch}
 use Rattle.market_model.specs.Reserves.{room, room_used}
-use Rattle.market_system.specs.Growth.{BestFor, Broken}
+use Rattle.market_model.specs.Optimality.{BestFor}
+use Rattle.market_system.specs.Growth.{Broken}
 use Rattle.market_dict.specs.Takings.{IsTaking, limits_of, rooms_of, taken_of}
 use Rattle.market_dict.specs.declared.taking.Taking.{Taking}
 use Rattle.market_dict.specs.declared.taking.Taking.TheVariants as taking

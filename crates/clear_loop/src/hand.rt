@@ -3,7 +3,8 @@
 ghost use Rattle.std.specs.Prelude.{◌≡◌, List, [], ◌∷◌, ◌++◌, Contains, IfOk, IfErr, Some, false};
 ghost use Rattle.market_model.specs.Dispatch.{Dispatch};
 ghost use Rattle.market_model.specs.LimitRows.{rows};
-ghost use Rattle.market_system.specs.Growth.{BestFor, Growth};
+ghost use Rattle.market_model.specs.Optimality.{BestFor};
+ghost use Rattle.market_system.specs.Growth.{Growth};
 ghost use Rattle.market_dict.specs.Holding.{HoldsMarket};
 ghost use Rattle.market_dict.specs.PricesAndBounds.{ArePricesAndBounds};
 ghost use Rattle.market_dict.specs.Takings.{IsTaking, limits_of, taken_of};

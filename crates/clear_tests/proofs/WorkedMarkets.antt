@@ -24,7 +24,7 @@ abbrev line_free : ℕ → Line
 line_free row = hard_line row None None (pos 0)
 
 abbrev line_limited : ℤ → ℤ → Line
-line_limited price excess = record (hard_line 2 (Some (pos 40000000000)) (Some (pos 1000000000000)) (pos 0)) { base_price = price; base_excess = excess }
+line_limited price excess = record (hard_line 2 (Some (pos 40000000000)) (Some (pos 1000000000000)) (pos 0)) { base_price = price; base_most_excess = excess }
 
 abbrev pub worked : ℤ → ℤ → Parts
 worked price excess = record participants {

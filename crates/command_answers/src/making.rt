@@ -1,7 +1,7 @@
 //! Rings that are made and cleared.
 
 ghost use Rattle.std.specs.Prelude.{◌≡◌, ◌≤◌, ◌<◌, ◌^◌, ◌++◌, [], IfOk, decimal};
-ghost use Rattle.case_maker.specs.Rings.{IsRingSize, ring_of};
+ghost use Rattle.case_maker.specs.Rings.{ring_of};
 ghost use Rattle.market_model.specs.Valued.{answer_at, outcome_at};
 ghost use Rattle.command_answers.specs.Clearing.{AreSidesWithin, most_size};
 ghost use Rattle.command_answers.specs.Making.{MakesTo, counts, summary, title};
@@ -11,6 +11,7 @@ ghost use Rattle.market_model.specs.Fitting.{FitsOutcome};
 ghost use Rattle.market_model.specs.Market.{IsMarket};
 ghost use Rattle.market_system.specs.Outcomes.{IsRightOutcome};
 ghost use Rattle.report_text.specs.Reports.{report_text};
+ghost use Rattle.market_data.specs.Scales.{IsRingSize};
 
 use crate::clearing::cleared;
 use crate::status::Status;

@@ -16,10 +16,11 @@ use Rattle.clap.specs.declared.builder.value_parser.Reading.{Reading}
 use Rattle.clap.specs.declared.builder.value_parser.Reading.TheVariants as reading
 use Rattle.clap.specs.declared.builder.value_parser.ValueParser.TheVariants.{Names}
 use Rattle.clap.proofs.WalkLemmas.{both}
-use Rattle.command_words.specs.Words.{AsksMake, Enters, IsRingSize, ReadsSeed, Writes, size_named, size_of, size_words, spelled}
+use Rattle.command_words.specs.Words.{AsksMake, Enters, ReadsSeed, Writes, size_named, size_of, size_words, spelled}
 use Rattle.command_words.proofs.EnteredLemmas.{make_rules, seed-given, size-given}
 use Rattle.command_words.proofs.GivenLemmas.{IsReadSo, Passes}
 use Rattle.command_words.proofs.WordsLemmas.{names-apart}
+use Rattle.market_data.specs.Scales.{IsRingSize}
 
 -- ---- the size
 

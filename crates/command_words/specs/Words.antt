@@ -9,6 +9,7 @@ use Rattle.clap.specs.declared.builder.value_parser.ValueParser.{ValueParser}
 use Rattle.clap.specs.declared.builder.value_parser.ValueParser.TheVariants.{Names, Signed}
 use Rattle.market_data.specs.declared.scales.FactorPlaces.{FactorPlaces}
 use Rattle.market_data.specs.declared.scales.FactorPlaces.TheVariants as factor_places
+use Rattle.market_data.specs.Scales.{IsRingSize}
 use Rattle.market_tables.specs.declared.GridTables.{GridTables}
 use Rattle.net_case.specs.declared.live_parts.PostRating.{PostRating}
 use Rattle.net_case.specs.declared.live_parts.PostRating.TheVariants as post
@@ -291,10 +292,6 @@ pub record AsksFactors (words : List Text) (names : FactorNames) : Type 0 where
   pub enters : Enters words (codes "factors") rows
   pub given : AreGiven (codes "case" ∷ codes "ptdf-out" ∷ []) rows
   pub names_are : names ≡ factor_names rows
-
--- a ring may have this many buses
-abbrev pub IsRingSize : ℕ → Type 0
-IsRingSize buses = (buses ≡ 4) ⊎ (buses ≡ 8) ⊎ (buses ≡ 16) ⊎ (buses ≡ 32) ⊎ (buses ≡ 64)
 
 -- the text writes this number in decimal digits, before which a plus may stand
 abbrev pub Writes : Text → ℕ → Type 0

@@ -2,8 +2,9 @@
 
 ghost use Rattle.std.specs.Prelude.{◌≡◌, ◌≢◌, ◌≤◌, codes, map, string_bytes, IfOk, IfErr};
 ghost use Rattle.clap.specs.Words.{first_of, found_of, rows_of};
-ghost use Rattle.command_words.specs.Words.{AsksNothing, IsRingSize, ReadsSeed, check_names, factor_names, file_of, grid_names, market_names, places_of, rating_of, size_of};
+ghost use Rattle.command_words.specs.Words.{AsksNothing, ReadsSeed, check_names, factor_names, file_of, grid_names, market_names, places_of, rating_of, size_of};
 ghost use Rattle.command_words.specs.Requests.{Asks, names_of_factors, names_of_grid, names_of_market, names_to_check, text_of_name};
+ghost use Rattle.market_data.specs.Scales.{IsRingSize};
 
 use crate::command::sced_command;
 use clap::ArgMatches;

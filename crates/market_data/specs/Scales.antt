@@ -1,5 +1,5 @@
 -- The units in which data are whole numbers, and the most of what is given.
-use Rattle.std.specs.Prelude.{ℕ, ◌+◌, ◌*◌, ◌^◌}
+use Rattle.std.specs.Prelude.{◌≡◌, ◌⊎◌, ℕ, ◌+◌, ◌*◌, ◌^◌}
 use Rattle.market_data.specs.declared.scales.FactorPlaces.{FactorPlaces}
 use Rattle.market_data.specs.declared.scales.FactorPlaces.TheVariants.{Six, Nine}
 
@@ -114,3 +114,7 @@ most_penalties = 2 * most_lines
 -- records of reserve: an offer of each unit, and a need
 abbrev pub most_reserves : ℕ
 most_reserves = most_units + 1
+
+-- how many buses a ring that is made may have: at these sizes each of its factors is a whole number of 10^-6
+abbrev pub IsRingSize : ℕ → Type 0
+IsRingSize buses = (buses ≡ 4) ⊎ (buses ≡ 8) ⊎ (buses ≡ 16) ⊎ (buses ≡ 32) ⊎ (buses ≡ 64)

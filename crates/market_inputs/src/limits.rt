@@ -40,9 +40,9 @@ fn line_of(branch: &NetBranch, offsets: &Offsets, penalties: &Penalties) -> Line
         base: branch.base,
         post: branch.post,
         base_price: base.price,
-        base_excess: base.excess,
+        base_most_excess: base.excess,
         post_price: post.price,
-        post_excess: post.excess,
+        post_most_excess: post.excess,
         offset: offsets.offset(branch.row).unwrap_or(0),
     }
 }

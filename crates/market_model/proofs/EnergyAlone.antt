@@ -22,7 +22,7 @@ use Rattle.market_model.specs.Frame.{SameFrame}
 use Rattle.market_model.specs.Market.{IsMarket}
 use Rattle.market_model.specs.Infeasibility.{block_most, farkas_terms, limit_terms, nothing_terms, offer_most, reserve_left_terms}
 use Rattle.market_model.specs.LimitRows.{rows, flow, most_flow, row_id}
-use Rattle.market_model.specs.Optimality.{AreWithin, FeasibleFor, Taken, BlockSupported, Gains, IsOneSided, Loses, NeedSupported, ProperDuals, RowSupported, Supports, energy_worth, named_rooms, named_rows, names_room, penalty_terms, price, room_price, room_price_in, unit_price, value_terms, welfare_terms_for}
+use Rattle.market_model.specs.Optimality.{AreWithin, FeasibleFor, Taken, BlockSupported, Gains, IsOneSided, Loses, NeedSupported, ProperDuals, RowSupported, Supports, energy_worth, named_rooms, named_rows, names_room, penalty_terms, price, room_price, room_price_in, unit_price, block_value_terms, welfare_terms_for}
 use Rattle.market_model.specs.Reserves.{no_reserve, offer_places, offers_among, reserve, reserve_cost_terms, reserve_need, offer_price, reserve_units, reserved_term, room}
 use Rattle.market_model.specs.Settlement.{pay_of_reserve}
 use Rattle.market_model.specs.Valued.{energy_duals}
@@ -132,8 +132,8 @@ module _ (m : Parts) (alone : m.reserve ≡ no_reserve) where
   pub no_cost : (x : Dispatch) → reserve_cost_terms m x ≡ []
   no_cost x = ap (λ (ns : List ℕ). map (λ n. Product (neg_ℚ (offer_price m n)) (reserved x n)) ns) no_places
 
-  pub welfare_alone : (g : List Row) (x : Dispatch) → welfare_terms_for m g x ≡ value_terms m x ++ penalty_terms m g x
-  welfare_alone g x = ap (λ (ts : List Term). value_terms m x ++ penalty_terms m g x ++ ts) (no_cost x) ∙ append-nil (value_terms m x ++ penalty_terms m g x)
+  pub welfare_alone : (g : List Row) (x : Dispatch) → welfare_terms_for m g x ≡ block_value_terms m x ++ penalty_terms m g x
+  welfare_alone g x = ap (λ (ts : List Term). block_value_terms m x ++ penalty_terms m g x ++ ts) (no_cost x) ∙ append-nil (block_value_terms m x ++ penalty_terms m g x)
 
   pub nothing_left : (d : Duals Fraction) → reserve_left_terms m d ≡ []
   nothing_left d =

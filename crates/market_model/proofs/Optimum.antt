@@ -17,7 +17,7 @@ use Rattle.market_model.specs.declared.participants.Side.TheVariants.{Sell, Buy}
 use Rattle.market_model.specs.declared.answered.Duals.{Duals}
 use Rattle.market_model.specs.Market.{IsMarket}
 use Rattle.market_model.specs.Dispatch.{Dispatch, places, block_at, offer_at, signed_by_side, accepted, quantity, reserved, reserve_quantity, raised_by, balance, output, demand}
-use Rattle.market_model.specs.Optimality.{Feasible, Supports, Gains, Loses, price, block_value, value_terms, penalty_terms, welfare_for, welfare, net_shadow_price, bus_price, unit_price, energy_worth, reserve_worth}
+use Rattle.market_model.specs.Optimality.{Feasible, Supports, Gains, Loses, price, block_value, block_value_terms, penalty_terms, welfare_for, welfare, net_shadow_price, bus_price, unit_price, energy_worth, reserve_worth}
 use Rattle.market_model.specs.Overrun.{excess}
 use Rattle.market_model.specs.Reserves.{offer_places, reserve, reserve_cost_terms, reserve_need, offer_price}
 use Rattle.market_model.specs.Settlement.{surplus}
@@ -39,9 +39,9 @@ value_of_blocks m x = sum_by (λ j. block_value m j *ℚ accepted x j) (places (
 pub welfare-by_parts : (m : Parts) (x : Dispatch) → IsMarket m → welfare m x ≡ (value_of_blocks m x -ℚ row_penalties m x) -ℚ cost_of_reserve m x
 unfolding welfare_for
 welfare-by_parts m x market =
-    total-append (value_terms m x ++ penalty_terms m (rows m) x) (reserve_cost_terms m x)
+    total-append (block_value_terms m x ++ penalty_terms m (rows m) x) (reserve_cost_terms m x)
     ∙ ap₂ ◌+ℚ◌
-    (total-append (value_terms m x) (penalty_terms m (rows m) x)
+    (total-append (block_value_terms m x) (penalty_terms m (rows m) x)
     ∙ ap₂ ◌+ℚ◌ (total-Product (block_value m) (accepted x) (places (length m.blocks)))
     (total-Product (λ r. neg_ℚ (penalty m r)) (excess m x) (filter (is_soft m) (rows m))
     ∙ sum_by-filter (λ r. neg_ℚ (penalty m r) *ℚ excess m x r) (is_soft m) (rows m)

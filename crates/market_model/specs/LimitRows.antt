@@ -42,8 +42,12 @@ has_limit post line = is_some (limit_of post line)
 abbrev pub penalty_of : Bool → Line → ℤ
 penalty_of post line = if post then line.post_price else line.base_price
 
+-- a limit with a penalty above 0 gives way (it is soft)
+abbrev pub gives_way : Bool → Line → Bool
+gives_way post line = is_positive (penalty_of post line)
+
 abbrev pub most_excess_of : Bool → Line → ℤ
-most_excess_of post line = if post then line.post_excess else line.base_excess
+most_excess_of post line = if post then line.post_most_excess else line.base_most_excess
 
 -- whether a cause is an outage; limits, penalties and excesses after an outage are the same after each
 abbrev pub is_outage : Cause → Bool
@@ -125,9 +129,9 @@ most_excess m r = whole (most_excess_of (is_outage r.cause) (line_at m r.line))
 abbrev pub most_flow : Parts → Row → Fraction
 most_flow m r = limit m r +ℚ most_excess m r
 
--- a limit that gives way at a penalty above 0
+-- its limit gives way
 abbrev pub is_soft : Parts → Row → Bool
-is_soft m r = is_positive (penalty_of (is_outage r.cause) (line_at m r.line))
+is_soft m r = gives_way (is_outage r.cause) (line_at m r.line)
 
 -- ---- factors and offsets
 -- what a factor stands for
@@ -247,10 +251,19 @@ unit_factor_under m l (UnitOutage k) u at_bus = if lost_unit m k == u then taker
 abbrev pub unit_factor : Parts → Row → ℕ → Fraction
 unit_factor m r u = unit_factor_under m r.line r.cause u (row_factor m r (unit_at m u).bus)
 
+-- ---- as lists
+-- the flow of each line, where buses put in p
+abbrev pub line_flows_by : Parts → (ℕ → Fraction) → List Fraction
+line_flows_by m p = map (line_flow m p) (places (length m.lines))
+
+-- what is carried: the flows of lines, and then the outputs of lost units
+abbrev pub carried_list : Parts → Carried → List Fraction
+carried_list m c = map c.line (places (length m.lines)) ++ map c.lost (places (length m.unit_outages))
+
 -- ---- at a dispatch
 -- the flow of each line
 abbrev pub line_flows : Parts → Dispatch → List Fraction
-line_flows m x = map (line_flow m (injection m x)) (places (length m.lines))
+line_flows m x = line_flows_by m (injection m x)
 
 -- the output of the unit of an outage
 abbrev pub lost_output : Parts → Dispatch → ℕ → Fraction

@@ -35,8 +35,8 @@ pub record IsLine (line : Line) : Type 0 where
   pub row : 1 ≤ line.row
   pub base : IfSome line.base (λ mw. pos 0 ≤ℤ mw)
   pub post : IfSome line.post (λ mw. pos 0 ≤ℤ mw)
-  pub base_penalty : IsPenalty line.base_price line.base_excess
-  pub post_penalty : IsPenalty line.post_price line.post_excess
+  pub base_penalty : IsPenalty line.base_price line.base_most_excess
+  pub post_penalty : IsPenalty line.post_price line.post_most_excess
   pub offset : IsDatum line.offset
 
 -- a factor of one of so many lines, for one of so many buses or lost lines

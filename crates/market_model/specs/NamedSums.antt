@@ -1,6 +1,6 @@
 -- The operations that add up the terms of a sum in their order.
 use Rattle.std.specs.Prelude.{◌≡◌, ℕ, ◌+◌, ◌<◌, pos, List, length, slice_index_or, ◌⊎◌, [], ◌∷◌}
-use Rattle.fraction_theory.specs.Fraction.{Fraction, whole, neg_ℚ}
+use Rattle.fraction_theory.specs.Fraction.{Fraction, whole, neg_ℚ, ◌-ℚ◌}
 use Rattle.fraction_theory.specs.Sums.{Term, Plain, Product, term_value, prefix}
 use Rattle.exact_fraction.specs.declared.Op.{Op}
 use Rattle.exact_fraction.specs.declared.Op.TheVariants.{Plus, Minus, Times}
@@ -57,3 +57,7 @@ pub record IsRefusal (op : Op) (left right : Fraction) (bound : ℕ) (p : Passed
 -- an operation refused on the way to a sum with a product, which is too large
 abbrev pub IsShareRefusal : Fraction → Fraction → Fraction → ℕ → Passed Fraction → Type 0
 IsShareRefusal sum k x bound p = IsShareRefused bound sum k x p.op p.left p.right
+
+-- what a number leaves of the most that it may be, or what a price makes of that on the way to a sum
+abbrev pub IsMarginRefusal : Fraction → Fraction → Fraction → Fraction → ℕ → Passed Fraction → Type 0
+IsMarginRefusal sum price most x bound p = IsRefusal Minus most x bound p ⊎ IsShareRefusal sum price (most -ℚ x) bound p

@@ -57,15 +57,15 @@ price m j = whole (block_at m j).price
 abbrev pub block_value : Parts → ℕ → Fraction
 block_value m j = neg_ℚ (signed_by_side (block_at m j).side (price m j))
 
-abbrev pub value_terms : Parts → Dispatch → List Term
-value_terms m x = map (λ j. Product (block_value m j) (accepted x j)) (places (length m.blocks))
+abbrev pub block_value_terms : Parts → Dispatch → List Term
+block_value_terms m x = map (λ j. Product (block_value m j) (accepted x j)) (places (length m.blocks))
 
 -- what the soft limits among some rows cost: each its penalty for the excess of its flow
 abbrev pub penalty_terms : Parts → List Row → Dispatch → List Term
 penalty_terms m g x = map (λ r. Product (neg_ℚ (penalty m r)) (excess m x r)) (filter (is_soft m) g)
 
 abbrev pub welfare_terms_for : Parts → List Row → Dispatch → List Term
-welfare_terms_for m g x = value_terms m x ++ penalty_terms m g x ++ reserve_cost_terms m x
+welfare_terms_for m g x = block_value_terms m x ++ penalty_terms m g x ++ reserve_cost_terms m x
 
 -- the value of what is bought less the cost of what is sold, and less the penalties of these rows and the cost of reserve
 unfoldable pub welfare_for : Parts → List Row → Dispatch → Fraction
@@ -77,6 +77,11 @@ welfare_terms m x = welfare_terms_for m (rows m) x
 
 abbrev pub welfare : Parts → Dispatch → Fraction
 welfare m x = welfare_for m (rows m) x
+
+-- feasible for these rows and rooms, and of the greatest welfare of all dispatches that are
+pub record BestFor (m : Parts) (t : Taken) (x : Dispatch) : Type 0 where
+  pub feasible : FeasibleFor m t x
+  pub best : (y : Dispatch) → FeasibleFor m t y → welfare_for m t.limits y ≤ℚ welfare_for m t.limits x
 
 -- ---- duals
 abbrev pub same_id : RowId → RowId → Bool
@@ -254,3 +259,9 @@ pub record SupportsOver (m : Parts) (Counts : Row → Type 0) (x : Dispatch) (d 
 -- all rows of the market
 abbrev pub Supports : Parts → Dispatch → Duals Fraction → Type 0
 Supports m x d = SupportsOver m (λ r. Contains (rows m) r) x d
+
+-- the prices at buses are those of duals that support the dispatch, which is feasible
+pub record IsSupportedAt (m : Parts) (x : Dispatch) (price : ℕ → Fraction) (d : Duals Fraction) : Type 0 where
+  pub prices : ArePricesOf m d price
+  pub feasible : Feasible m x
+  pub supported : Supports m x d

@@ -1,12 +1,12 @@
 -- What buses put in, by lists of numbers, and what may be refused of that.
-use Rattle.std.specs.Prelude.{◌≡◌, ◌⊎◌, ℕ, ◌+◌, List, ◌++◌, length, map, slice_index_or}
+use Rattle.std.specs.Prelude.{◌≡◌, ◌⊎◌, ℕ, ◌+◌, List, length, map, slice_index_or}
 use Rattle.fraction_theory.specs.Fraction.{Fraction, whole, ◌-ℚ◌}
 use Rattle.exact_fraction.specs.declared.Op.TheVariants.{Minus}
 use Rattle.exact_fraction.specs.declared.Passed.{Passed}
 use Rattle.market_data.specs.declared.participants.Bus.{Bus}
 use Rattle.market_model.specs.declared.participants.Parts.{Parts}
 use Rattle.market_model.specs.Dispatch.{Dispatch, zero, places, injection, dispatch_by}
-use Rattle.market_model.specs.LimitRows.{Carried, line_flows, lost_outputs}
+use Rattle.market_model.specs.LimitRows.{Carried, carried, carried_list}
 use Rattle.market_model.specs.NamedSums.{IsRefusal}
 
 -- the accepted MW of each block, as numbers, and no reserve
@@ -23,11 +23,14 @@ carried_in m mws = record { line = put_in mws; lost = λ k. put_in mws (length m
 
 -- the list of what is carried at a dispatch
 abbrev pub AreCarried : Parts → Dispatch → List Fraction → Type 0
-AreCarried m x mws = mws ≡ line_flows m x ++ lost_outputs m x
+AreCarried m x mws = mws ≡ carried_list m (carried m x)
 
 -- what each bus puts in at a dispatch
+abbrev pub injections_at : Parts → Dispatch → List Fraction
+injections_at m x = map (injection m x) (places (length m.buses))
+
 abbrev pub AreInjections : Parts → Dispatch → List Fraction → Type 0
-AreInjections m x mws = mws ≡ map (injection m x) (places (length m.buses))
+AreInjections m x mws = mws ≡ injections_at m x
 
 -- a difference refused where a sum is lowered by a bus's load, and then by its shunt
 abbrev pub IsDemandRefusal : Fraction → Bus → ℕ → Passed Fraction → Type 0

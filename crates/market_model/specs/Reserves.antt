@@ -2,7 +2,7 @@
 -- Wood and Wollenberg, Power Generation, Operation and Control: spinning reserve. A unit's energy and its reserve share its room.
 use Rattle.std.specs.Prelude.{◌==◌, ◌||◌, ℕ, pos, Bool, false, List, [], ◌∷◌, ◌++◌, length, map, filter, Contains}
 use Rattle.fraction_theory.specs.Fraction.{Fraction, whole, neg_ℚ}
-use Rattle.fraction_theory.specs.Order.{◌≤ℚ◌}
+use Rattle.fraction_theory.specs.Order.{◌≤ℚ◌, ◌<ℚ◌}
 use Rattle.fraction_theory.specs.Sums.{Term, Plain, Product, total}
 use Rattle.market_model.specs.declared.participants.Parts.{Parts}
 use Rattle.market_model.specs.declared.participants.Reserve.{Reserve}
@@ -61,6 +61,10 @@ room_used m x u = total (room_terms m x u)
 -- its room: by how much it may raise its fixed part in all
 abbrev pub room : Parts → ℕ → Fraction
 room m u = whole (unit_at m u).up
+
+-- a unit uses more than its room
+abbrev pub IsRoomPassed : Parts → Dispatch → ℕ → Type 0
+IsRoomPassed m x u = room m u <ℚ room_used m x u
 
 -- these units use no more than their rooms
 abbrev pub KeepRooms : Parts → List ℕ → Dispatch → Type 0

@@ -1,5 +1,5 @@
 -- What an answer says, and when it is right for its market.
-use Rattle.std.specs.Prelude.{◌≡◌, ℕ, length, map, slice_index_or}
+use Rattle.std.specs.Prelude.{◌≡◌, ℕ, List, length, map, slice_index_or}
 use Rattle.fraction_theory.specs.Fraction.{Fraction, ◌+ℚ◌}
 use Rattle.fraction_theory.specs.Sums.{total}
 use Rattle.exact_fraction.specs.declared.Passed.{Passed}
@@ -68,13 +68,17 @@ price_of_parts energy congestion = record { energy = energy; congestion = conges
 abbrev pub price_made : Parts → Duals Fraction → ℕ → Price Fraction
 price_made m d i = price_of_parts d.energy (congestion m d i)
 
+-- those at all buses
+abbrev pub prices_made : Parts → Duals Fraction → List (Price Fraction)
+prices_made m d = map (price_made m d) (places (length m.buses))
+
 -- a dispatch and duals, with the prices, the welfare and the settlement that they make
 abbrev pub answer_of : Parts → Dispatch → Duals Fraction → Answer Fraction
 answer_of m x d = record {
   dispatch = x.blocks;
   reserve = x.reserve;
   duals = d;
-  prices = map (price_made m d) (places (length m.buses));
+  prices = prices_made m d;
   welfare = welfare m x;
   money = settlement_at m x (bus_price m d) d;
 }

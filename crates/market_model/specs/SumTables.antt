@@ -42,16 +42,19 @@ pub data RowFlowSum (m : Parts) (c : Carried) (r : Row) : List Term → Type 0 w
 pub data LostOutputSum (m : Parts) (x : Dispatch) : List Term → Type 0 where
   output_of_lost : (k : ℕ) → k < length m.unit_outages → LostOutputSum m x (output_terms m x (lost_unit m k))
 
--- what a bus puts in, the flow of a line, and the output of a lost unit
+-- what the network carries: the flow of a line, and the output of a lost unit
 pub data CarriedSum (m : Parts) (x : Dispatch) : List Term → Type 0 where
-  carried_from_bus : (terms : List Term) → InjectionSum m x terms → CarriedSum m x terms
   carried_on_line : (terms : List Term) → LineFlowSum m (injection m x) terms → CarriedSum m x terms
   carried_by_unit : (terms : List Term) → LostOutputSum m x terms → CarriedSum m x terms
 
--- the flow of a line, the output of a lost unit, and the flow of a row of the market
+-- that, and what a bus puts in
+pub data NetworkSum (m : Parts) (x : Dispatch) : List Term → Type 0 where
+  put_in_at_bus : (terms : List Term) → InjectionSum m x terms → NetworkSum m x terms
+  carried_by_network : (terms : List Term) → CarriedSum m x terms → NetworkSum m x terms
+
+-- what the network carries, and the flow of a row of the market
 pub data LimitFlowSum (m : Parts) (x : Dispatch) : List Term → Type 0 where
-  limited_line : (terms : List Term) → LineFlowSum m (injection m x) terms → LimitFlowSum m x terms
-  limited_unit : (terms : List Term) → LostOutputSum m x terms → LimitFlowSum m x terms
+  limited_by_carried : (terms : List Term) → CarriedSum m x terms → LimitFlowSum m x terms
   limited_row : (r : Row) (terms : List Term) → Contains (rows m) r → RowFlowSum m (carried m x) r terms → LimitFlowSum m x terms
 
 -- all of these
@@ -136,6 +139,10 @@ IsRefusedInPrices m d bound p = IsRefusedAmong (PriceSum m d) bound p ⊎ IsFact
 -- the same of the prices at buses alone
 abbrev pub IsRefusedInBusPrices : Parts → Duals Fraction → ℕ → Passed Fraction → Type 0
 IsRefusedInBusPrices m d bound p = ((i : ℕ) × (i < length m.buses) × IsRefusedAmong (BusPriceSum m d i) bound p) ⊎ IsBusFactorRefusal m (named_rows m d) bound p
+
+-- the same of the own prices of units alone, where buses have prices
+abbrev pub IsRefusedInOwnPrices : Parts → Duals Fraction → (ℕ → Fraction) → ℕ → Passed Fraction → Type 0
+IsRefusedInOwnPrices m d price bound p = IsRefusedAmong (OwnPriceSum m d price) bound p ⊎ IsPickupRefusal m (named_rows m d) bound p
 
 -- the bound of duals that are to show that nothing is feasible
 pub data BoundSum (m : Parts) (d : Duals Fraction) : List Term → Type 0 where

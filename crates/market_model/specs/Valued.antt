@@ -23,12 +23,16 @@ dual_at value d = record { row = d.row; up = value d.up; down = value d.down }
 abbrev pub room_dual_at : {N : Type 0} → (N → Fraction) → RoomDual N → RoomDual Fraction
 room_dual_at value d = record { unit = d.unit; price = value d.price }
 
+-- duals of their parts
+abbrev pub duals_with : {N : Type 0} → N → List (Dual N) → N → List (RoomDual N) → Duals N
+duals_with energy limits reserve rooms = record { energy = energy; limits = limits; reserve = reserve; rooms = rooms }
+
 -- duals of energy alone
 abbrev pub energy_duals : Fraction → List (Dual Fraction) → Duals Fraction
-energy_duals energy limits = record { energy = energy; limits = limits; reserve = zero; rooms = [] }
+energy_duals energy limits = duals_with energy limits zero []
 
 abbrev pub duals_at : {N : Type 0} → (N → Fraction) → Duals N → Duals Fraction
-duals_at value d = record { energy = value d.energy; limits = map (dual_at value) d.limits; reserve = value d.reserve; rooms = map (room_dual_at value) d.rooms }
+duals_at value d = duals_with (value d.energy) (map (dual_at value) d.limits) (value d.reserve) (map (room_dual_at value) d.rooms)
 
 abbrev pub price_at : {N : Type 0} → (N → Fraction) → Price N → Price Fraction
 price_at value p = record { energy = value p.energy; congestion = value p.congestion; total = value p.total }

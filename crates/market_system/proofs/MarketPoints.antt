@@ -25,7 +25,7 @@ use Rattle.market_model.specs.declared.limits.Cause.TheVariants.{Base, Branch, U
 use Rattle.market_model.specs.declared.limits.Row.{Row}
 use Rattle.market_model.specs.LimitRows.{rows, limit, is_soft, loses_unit, lost_output, lost_unit, penalty, picked_up, pickup_factor, most_excess, most_flow, row_factor, row_offset, row_pickup, unit_factor, flow}
 use Rattle.market_model.specs.Market.{IsMarket}
-use Rattle.market_model.specs.Optimality.{FeasibleFor, Taken, block_value, value_terms, penalty_terms, welfare_for}
+use Rattle.market_model.specs.Optimality.{FeasibleFor, Taken, block_value, block_value_terms, penalty_terms, welfare_for}
 use Rattle.market_model.specs.Reserves.{offer_places, reserve, reserve_cost_terms, reserve_need, offer_price, reserve_units, room, room_used}
 use Rattle.market_model.specs.Overrun.{excess, excess_by, Within}
 use Rattle.market_model.proofs.EnergyAlone.{no_need, nothing_reserved}
@@ -283,9 +283,9 @@ module _ (m : Parts) (apart : RowsApart m) (g : Taken) where
       +ℚ sum_by (λ n. neg_ℚ (offer_price m n) *ℚ reserved x n) (offer_places m)
   unfolding welfare_for
   welfare-in_order are x =
-      total-append (value_terms m x ++ penalty_terms m g.limits x) (reserve_cost_terms m x)
+      total-append (block_value_terms m x ++ penalty_terms m g.limits x) (reserve_cost_terms m x)
       ∙ ap₂ ◌+ℚ◌
-      (total-append (value_terms m x) (penalty_terms m g.limits x)
+      (total-append (block_value_terms m x) (penalty_terms m g.limits x)
       ∙ ap₂ ◌+ℚ◌
       (total-Product (block_value m) (accepted x) (places (length m.blocks)))
       (total-Product (λ r. neg_ℚ (penalty m r)) (excess m x) (filter (is_soft m) g.limits) ∙ sum_by-in_order m apart (λ r. neg_ℚ (penalty m r) *ℚ excess m x r) (is_soft m) g.limits are))

@@ -34,7 +34,7 @@ use Rattle.market_model.specs.Dispatch.{Dispatch, IsDispatch, zero, places, bloc
 use Rattle.market_model.specs.Infeasibility.{block_weight, farkas_terms}
 use Rattle.market_model.specs.declared.limits.Row.{Row}
 use Rattle.market_model.specs.LimitRows.{rows, row_id, loses_unit, lost_unit, row_factor, row_pickup, share_value}
-use Rattle.market_model.specs.Optimality.{Taken, bus_price, block_value, energy_worth, congestion_terms, names_row, named_rows, own_price, own_terms, price_terms, net_shadow_price, penalty_terms, unit_price, value_terms as block_terms, welfare_terms}
+use Rattle.market_model.specs.Optimality.{Taken, bus_price, block_value, energy_worth, congestion_terms, names_row, named_rows, own_price, own_terms, price_terms, net_shadow_price, penalty_terms, unit_price, block_value_terms, welfare_terms}
 use Rattle.market_model.specs.Reserves.{no_reserve, reserved_term}
 use Rattle.market_model.specs.Settlement.{surplus_terms}
 use Rattle.market_model.specs.SumTables.{injection_at, balance_from_bus, balance_of_all, flow_of_line, limited_line, limited_row, output_of_lost, limited_unit, FlowSum, flow_in_balance, flow_in_limits, output_of_unit, BusPriceSum, own_price_of_unit, PriceSum, price_of_bus, price_of_unit, congestion_at, price_at, ReserveSum, reserve_of_all, reserve_in_room, used_of_room, WorthSum, energy_of_unit, reserve_of_unit, farkas_bound_of_all, left_of_all, paid_by_load, paid_to_unit, rent_of_row, paid_for_reserve, SettledSum, paid_output, paid_price, demand_of_bus, payment, paid_row, reserve_accepted, welfare_of_all}
@@ -275,7 +275,7 @@ module _ (m : Parts) (market : IsMarket m) (lines : m.lines ≡ []) (energy : m.
     number_small kind x (of_opposite same y n) = turned_small y (number_small same y n)
 
     -- the first terms of the welfare, and of what is settled
-    welfare_each : IsRightChoice m g h → TermsWithin (modest_price * most_output) (block_terms m (choice_dispatch m g h))
+    welfare_each : IsRightChoice m g h → TermsWithin (modest_price * most_output) (block_value_terms m (choice_dispatch m g h))
     welfare_each best = map_within (modest_price * most_output) (λ j. Product (block_value m j) (accepted (choice_dispatch m g h) j)) (places (length m.blocks))
         (λ j c. let lt = Contains-from_places (length m.blocks) j c in
         times_within modest_price most_output (block_value m j) (accepted (choice_dispatch m g h) j) (block_value_within m market modest j lt)
@@ -305,12 +305,12 @@ module _ (m : Parts) (market : IsMarket m) (lines : m.lines ≡ []) (energy : m.
     Fits terms = (k : ℕ) → IsWholeWithin most (prefix k terms)
 
     -- no limits, no penalties, and no reserve, no cost of it
-    welfare-bare : (x : Dispatch) → welfare_terms m x ≡ block_terms m x
-    welfare-bare x = welfare_alone m energy (rows m) x ∙ ap (λ (rs : List Row). block_terms m x ++ penalty_terms m rs x) bare ∙ append-nil (block_terms m x)
+    welfare-bare : (x : Dispatch) → welfare_terms m x ≡ block_value_terms m x
+    welfare-bare x = welfare_alone m energy (rows m) x ∙ ap (λ (rs : List Row). block_value_terms m x ++ penalty_terms m rs x) bare ∙ append-nil (block_value_terms m x)
 
     welfare_fits : IsRightChoice m g h → Fits (welfare_terms m (choice_dispatch m g h))
     welfare_fits best = subst Fits (sym (welfare-bare (choice_dispatch m g h)))
-        (sums_within (block_terms m (choice_dispatch m g h)) (modest_price * most_output)
+        (sums_within (block_value_terms m (choice_dispatch m g h)) (modest_price * most_output)
         (Prim.omega (arith, market.block_count, length-map (places (length m.blocks)) (λ j. Product (block_value m j) (accepted (choice_dispatch m g h) j)), length-range_with_len 0 (length m.blocks)))
         (welfare_each best) (Prim.omega arith))
 

@@ -25,7 +25,7 @@ use Rattle.market_model.specs.Dispatch.{Dispatch, zero as nil, places, block_at,
 use Rattle.market_model.specs.declared.limits.Row.{Row}
 use Rattle.market_model.specs.LimitRows.{rows, limit, is_soft, penalty, most_excess, unit_factor, flow}
 use Rattle.market_model.specs.Market.{IsMarket}
-use Rattle.market_model.specs.Optimality.{Taken, block_value, price, net_shadow_price, up_of, down_of, unit_price, energy_worth, reserve_worth, room_price, welfare_for, Gains, Loses, BlockSupported, OfferSupported, NeedSupported, RoomSupported, SideSupported, RowSupported, Supports, ProperDuals, congestion_by, price_by}
+use Rattle.market_model.specs.Optimality.{Taken, block_value, price, net_shadow_price, up_of, down_of, unit_price, energy_worth, reserve_worth, room_price, welfare_for, Gains, Loses, BlockSupported, OfferSupported, NeedSupported, RoomSupported, SideSupported, RowSupported, Supports, ProperDuals, congestion_by, price_by, BestFor}
 use Rattle.market_model.specs.Reserves.{offer_places, offers_of, reserve, reserve_need, offer_price, reserve_units, offers_reserve, room, room_used}
 use Rattle.market_model.proofs.Excesses.{penalty_least}
 use Rattle.market_model.proofs.PlaceSums.{sum_by-one_place}
@@ -34,7 +34,6 @@ use Rattle.market_model.proofs.ReserveSums.{offer_unit-in, reserve-by_offers, ro
 use Rattle.market_model.proofs.RoomLemmas.{listed-inside}
 use Rattle.market_model.proofs.RowLaws.{unit_price-by_factors}
 use Rattle.market_system.specs.declared.variables.Variable.TheVariants.{Block, Balance, Limit, Over, Under, Offer, Need, Room}
-use Rattle.market_system.specs.Growth.{BestFor}
 use Rattle.market_system.specs.MarketSystem.{low, balance_name, row_name, over_name, under_name, offer_name, need_name, room_name, at_row, at_unit, is_in, in_order, is_among, rooms_in_order, taken_in_order, block_sign, block_coefficient, system_of, choice_dispatch, duals_by_cost, choice_duals}
 use Rattle.market_system.specs.SolvedLaws.{AreTaken, SupportsFor, state_at}
 use Rattle.market_system.proofs.Clamps.{all_reach, room_low-blocks, room_low-offers, where_low, raised-low, raised-least, block_clamped-full, block_clamped-empty, offer_clamped-full, offer_clamped-empty, buys_fit}

@@ -4,11 +4,10 @@
 use Rattle.std.specs.Prelude.{◌≡◌, ℕ, List, [], ◌∷◌, ◌++◌}
 use Rattle.std.specs.List.{Contains}
 use Rattle.fraction_theory.specs.Fraction.{Fraction}
-use Rattle.fraction_theory.specs.Order.{◌≤ℚ◌}
 use Rattle.market_model.specs.declared.answered.Duals.{Duals}
 use Rattle.market_model.specs.declared.participants.Parts.{Parts}
 use Rattle.market_model.specs.Dispatch.{Dispatch, zero}
-use Rattle.market_model.specs.Optimality.{Taken, FeasibleFor, welfare_for, up_of, down_of}
+use Rattle.market_model.specs.Optimality.{up_of, down_of, BestFor}
 use Rattle.market_model.specs.declared.limits.Row.{Row}
 use Rattle.market_model.specs.LimitRows.{rows, flow, limit}
 use Rattle.market_model.specs.Overrun.{Within}
@@ -16,11 +15,6 @@ use Rattle.market_model.specs.Overrun.{Within}
 -- the flow passes the limit on one side
 abbrev pub Broken : Parts → Dispatch → Row → Type 0
 Broken m x r = ¬ (Within (limit m r) (flow m x r))
-
--- feasible for these rows and rooms, and of the greatest welfare of all dispatches that are
-pub record BestFor (m : Parts) (t : Taken) (x : Dispatch) : Type 0 where
-  pub feasible : FeasibleFor m t x
-  pub best : (y : Dispatch) → FeasibleFor m t y → welfare_for m t.limits y ≤ℚ welfare_for m t.limits x
 
 -- for these rows and the rooms of some units
 abbrev pub IsBestOver : Parts → List Row → Dispatch → Type 0

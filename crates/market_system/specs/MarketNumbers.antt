@@ -15,11 +15,11 @@ use Rattle.market_model.specs.declared.answered.Duals.{Duals}
 use Rattle.market_model.specs.Dispatch.{Dispatch, zero, bus_at, unit_at, empty}
 use Rattle.market_model.specs.declared.limits.Row.{Row}
 use Rattle.market_model.specs.LimitRows.{rows, limit, most_flow, shift_factor, loss_factor, share_value, line_offset}
-use Rattle.market_model.specs.Optimality.{Taken, Feasible, Supports, up_of, down_of, net_shadow_price, room_price, bus_price}
+use Rattle.market_model.specs.Optimality.{Taken, Feasible, Supports, up_of, down_of, net_shadow_price, room_price, bus_price, BestFor}
 use Rattle.market_model.specs.Reserves.{reserve_need, reserve_units}
 use Rattle.market_model.specs.Infeasibility.{ShowsInfeasible}
 use Rattle.market_system.specs.MarketSystem.{balance_name, need_name, room_name, row_name, system_of, choice_dispatch, choice_duals}
-use Rattle.market_system.specs.Growth.{BestFor, PricesOnly}
+use Rattle.market_system.specs.Growth.{PricesOnly}
 use Rattle.market_model.specs.NamedSums.{SameSize}
 use Rattle.market_model.specs.SumTables.{FlowSum, OffsetSum, FactorSum, OutputSum, PriceSum, BoundSum, ReserveSum, SettledSum, WorthSum, WelfareSum}
 

@@ -15,10 +15,10 @@ use Rattle.market_model.specs.Infeasibility.{IsFarkas, farkas_bound}
 use Rattle.market_model.specs.declared.limits.Row.{Row}
 use Rattle.market_model.specs.LimitRows.{rows, limit, flow}
 use Rattle.market_model.specs.Market.{IsMarket}
-use Rattle.market_model.specs.Optimality.{Taken, FeasibleFor, Feasible, Supports, ProperDuals, block_value, unit_price, welfare_for, SupportsOver}
+use Rattle.market_model.specs.Optimality.{Taken, FeasibleFor, Feasible, Supports, ProperDuals, block_value, unit_price, welfare_for, SupportsOver, BestFor}
 use Rattle.market_model.specs.Reserves.{offer_places, reserve_units}
 use Rattle.market_model.specs.RightAnswers.{IsRight, answer_of}
-use Rattle.market_system.specs.Growth.{Broken, BestFor, IsBestOver, Growth}
+use Rattle.market_system.specs.Growth.{Broken, IsBestOver, Growth}
 use Rattle.market_system.specs.MarketNumbers.{IsFarkasOf}
 use Rattle.market_system.specs.MarketSystem.{system_of, offer_name, point_dispatch, choice_dispatch, duals_by_cost, choice_duals}
 use Rattle.market_model.specs.Overrun.{Within, IsBeyond}

@@ -22,7 +22,7 @@ use Rattle.market_model.specs.LimitRows.{carried, flow_by, is_outage, is_soft, p
 use Rattle.market_model.specs.Lines.{hard_line}
 use Rattle.market_model.specs.Market.{IsMarket}
 use Rattle.market_model.specs.NamedSums.{IsShareRefusal}
-use Rattle.market_model.specs.Optimality.{block_value, penalty_terms, value_terms, welfare, welfare_for, welfare_terms}
+use Rattle.market_model.specs.Optimality.{block_value, penalty_terms, block_value_terms, welfare, welfare_for, welfare_terms}
 use Rattle.market_model.specs.Overrun.{excess, excess_by}
 use Rattle.market_model.specs.PutIn.{dispatch_of}
 use Rattle.market_model.specs.Reserves.{offer_price, reserve_cost_terms}
@@ -64,8 +64,8 @@ module _ {N : Type 0} (value : N → Fraction) (m : Parts) (ds : List N) where
         welfare_terms m x,
         welfare_of_all,
         share_at (welfare_terms m x) (map f (places k)) ((r.0 ++ penalty_terms m (rows m) x) ++ reserve_cost_terms m x) (f k)
-            (in_front (value_terms m x ++ penalty_terms m (rows m) x) (map f (places k)) (r.0 ++ penalty_terms m (rows m) x) (reserve_cost_terms m x) (f k)
-            (in_front (value_terms m x) (map f (places k)) r.0 (penalty_terms m (rows m) x) (f k) r.1))
+            (in_front (block_value_terms m x ++ penalty_terms m (rows m) x) (map f (places k)) (r.0 ++ penalty_terms m (rows m) x) (reserve_cost_terms m x) (f k)
+            (in_front (block_value_terms m x) (map f (places k)) r.0 (penalty_terms m (rows m) x) (f k) r.1))
             bound p sum worth (value d) (ap₂ Product (sym (value_is k block worth same w)) (accepted_is value ds k d lt at)) is h,
       )
 
@@ -73,21 +73,21 @@ module _ {N : Type 0} (value : N → Fraction) (m : Parts) (ds : List N) where
 module _ (m : Parts) (x : Dispatch) where
   -- the terms of the welfare in front of what reserve costs, where these rows count
   abbrev pub energy_terms : List Row → List Term
-  energy_terms g = value_terms m x ++ penalty_terms m g x
+  energy_terms g = block_value_terms m x ++ penalty_terms m g x
 
   abbrev cost_term : Row → Term
   cost_term r = Product (neg_ℚ (penalty m r)) (excess m x r)
 
-  pub worth_of_values : total (value_terms m x) ≡ total (energy_terms [])
-  worth_of_values = ap total (sym (append-nil (value_terms m x)))
+  pub worth_of_values : total (block_value_terms m x) ≡ total (energy_terms [])
+  worth_of_values = ap total (sym (append-nil (block_value_terms m x)))
 
   module _ (g : List Row) (r : Row) where
     -- the terms with one row more
     terms_more : (b : Bool) → is_soft m r ≡ b → energy_terms (g ++ r ∷ []) ≡ energy_terms g ++ map cost_term (cond b (r ∷ []) [])
     terms_more b e =
-        ap (λ rs. value_terms m x ++ map cost_term rs) (filter-append (is_soft m) g (r ∷ []) ∙ ap (λ (t : Bool). filter (is_soft m) g ++ cond t (r ∷ []) []) e)
-        ∙ ap (λ ts. value_terms m x ++ ts) (map-append cost_term (filter (is_soft m) g) (cond b (r ∷ []) []))
-        ∙ sym (append_assoc (value_terms m x) (penalty_terms m g x) (map cost_term (cond b (r ∷ []) [])))
+        ap (λ rs. block_value_terms m x ++ map cost_term rs) (filter-append (is_soft m) g (r ∷ []) ∙ ap (λ (t : Bool). filter (is_soft m) g ++ cond t (r ∷ []) []) e)
+        ∙ ap (λ ts. block_value_terms m x ++ ts) (map-append cost_term (filter (is_soft m) g) (cond b (r ∷ []) []))
+        ∙ sym (append_assoc (block_value_terms m x) (penalty_terms m g x) (map cost_term (cond b (r ∷ []) [])))
 
     -- a row whose limit does not costs nothing
     pub worth_same : is_soft m r ≡ false → (sum : Fraction) → sum ≡ total (energy_terms g) → sum ≡ total (energy_terms (g ++ r ∷ []))
@@ -128,7 +128,7 @@ module _ (m : Parts) (x : Dispatch) where
           split : welfare_terms m x ≡ energy_terms g ++ cost_term r ∷ (penalty_terms m left x ++ reserve_cost_terms m x)
           split =
               in_front (energy_terms (rows m)) (energy_terms g) (penalty_terms m left x) (reserve_cost_terms m x) (cost_term r)
-              (behind (value_terms m x) (penalty_terms m (rows m) x) (penalty_terms m g x) (penalty_terms m left x) (cost_term r) costs)
+              (behind (block_value_terms m x) (penalty_terms m (rows m) x) (penalty_terms m g x) (penalty_terms m left x) (cost_term r) costs)
 
 -- ---- markets in which no limit gives way
 none_kept : {T : Type 0} (p : T → Bool) (xs : List T) → ((x : T) → Contains xs x → p x ≡ false) → filter p xs ≡ []
@@ -155,8 +155,8 @@ module _ (m : Parts) (none : list_any has_soft_limit m.lines ≡ false) where
       neither_soft (line_at m r.line) (is_outage r.cause) (line_hard r.line (row_parts m r c).line (has_soft_limit (line_at m r.line)) refl)
 
   -- all that counts is what blocks are worth
-  pub worth_of_blocks : (x : Dispatch) (values : Fraction) → values ≡ total (value_terms m x) → values ≡ total (energy_terms m x (rows m))
-  worth_of_blocks x values is = is ∙ worth_of_values m x ∙ ap (λ (rs : List Row). total (value_terms m x ++ map (cost_term m x) rs)) (sym (none_kept (is_soft m) (rows m) row_hard))
+  pub worth_of_blocks : (x : Dispatch) (values : Fraction) → values ≡ total (block_value_terms m x) → values ≡ total (energy_terms m x (rows m))
+  worth_of_blocks x values is = is ∙ worth_of_values m x ∙ ap (λ (rs : List Row). total (block_value_terms m x ++ map (cost_term m x) rs)) (sym (none_kept (is_soft m) (rows m) row_hard))
 
 -- ---- reserve
 module _ {N : Type 0} (value : N → Fraction) (m : Parts) (rs : List N) where

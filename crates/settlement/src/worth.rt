@@ -7,7 +7,7 @@ ghost use Rattle.fraction_theory.specs.Sums.{total};
 ghost use Rattle.market_model.specs.Dispatch.{Dispatch, dispatch_with};
 ghost use Rattle.market_model.specs.LimitRows.{IsCauseOf, flow_by, penalty, rows as rows_of};
 ghost use Rattle.market_model.specs.NamedSums.{IsShareRefusal};
-ghost use Rattle.market_model.specs.Optimality.{penalty_terms, value_terms, welfare as welfare_of};
+ghost use Rattle.market_model.specs.Optimality.{penalty_terms, block_value_terms, welfare as welfare_of};
 ghost use Rattle.market_model.specs.Overrun.{excess_by};
 ghost use Rattle.market_model.specs.PutIn.{dispatch_of};
 ghost use Rattle.market_model.specs.SumTables.{IsFlowRefusal, IsRefusedAmong, WelfareSum};
@@ -25,7 +25,7 @@ use market_model::{Line, Market, Row, block_value, datum, offer_value};
 /// The value of what is bought less the cost of what is sold, in block order.
 fn values<N: Exact>(market: &Market, dispatch: &[N]) -> Result<N, Passed<N>>
     requires { length dispatch.now ≡ length market.now.blocks }
-    ensures values { IfOk result (λ values. N.value values ≡ total (value_terms market.now (dispatch_of N.value dispatch.now))) }
+    ensures values { IfOk result (λ values. N.value values ≡ total (block_value_terms market.now (dispatch_of N.value dispatch.now))) }
     ensures cause { (reserve : List Fraction) → IfErr result (λ passed. IsRefusedAmong (WelfareSum market.now (dispatch_with (map N.value dispatch.now) reserve)) N.bound (passed_at N.value passed)) }
 {
     let mut sum: N = datum(0);
@@ -69,9 +69,9 @@ fn has_soft_limits(market: &Market) -> bool
 /// such a limit.
 fn less_penalties<N: Exact>(market: &Market, flows: &[N], values: N) -> Result<N, Passed<N>>
     requires { length flows.now ≡ length market.now.buses + length market.now.lines + length market.now.unit_outages }
-    ensures worth { (x : Dispatch) → map N.value flows.now ≡ flows_at market.now x → N.value values ≡ total (value_terms market.now x)
-        → IfOk result (λ worth. N.value worth ≡ total (value_terms market.now x ++ penalty_terms market.now (rows_of market.now) x)) }
-    ensures cause { (x : Dispatch) → map N.value flows.now ≡ flows_at market.now x → N.value values ≡ total (value_terms market.now x)
+    ensures worth { (x : Dispatch) → map N.value flows.now ≡ flows_at market.now x → N.value values ≡ total (block_value_terms market.now x)
+        → IfOk result (λ worth. N.value worth ≡ total (block_value_terms market.now x ++ penalty_terms market.now (rows_of market.now) x)) }
+    ensures cause { (x : Dispatch) → map N.value flows.now ≡ flows_at market.now x → N.value values ≡ total (block_value_terms market.now x)
         → IfErr result (λ passed. IsWelfareRefusal market.now x N.bound (passed_at N.value passed)) }
 {
     let _buses = market.buses();
@@ -94,9 +94,9 @@ fn less_reserve_costs<N: Exact>(
     of_energy: N,
 ) -> Result<N, Passed<N>>
     requires { length reserve.now ≡ length market.now.reserve.offers }
-    ensures worth { (blocks : List Fraction) → let x = dispatch_with blocks (map N.value reserve.now) in N.value of_energy ≡ total (value_terms market.now x ++ penalty_terms market.now (rows_of market.now) x)
+    ensures worth { (blocks : List Fraction) → let x = dispatch_with blocks (map N.value reserve.now) in N.value of_energy ≡ total (block_value_terms market.now x ++ penalty_terms market.now (rows_of market.now) x)
         → IfOk result (λ worth. N.value worth ≡ welfare_of market.now x) }
-    ensures cause { (blocks : List Fraction) → let x = dispatch_with blocks (map N.value reserve.now) in N.value of_energy ≡ total (value_terms market.now x ++ penalty_terms market.now (rows_of market.now) x)
+    ensures cause { (blocks : List Fraction) → let x = dispatch_with blocks (map N.value reserve.now) in N.value of_energy ≡ total (block_value_terms market.now x ++ penalty_terms market.now (rows_of market.now) x)
         → IfErr result (λ passed. IsRefusedAmong (WelfareSum market.now x) N.bound (passed_at N.value passed)) }
 {
     let mut sum = of_energy;

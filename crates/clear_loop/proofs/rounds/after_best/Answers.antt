@@ -3,7 +3,7 @@ use Rattle.std.proofs.lemmas.Result.{err_from_is_err_and}
 use Rattle.linear_dict.specs.Dictionaries.{choice_of}
 use Rattle.market_model.specs.Dispatch.{Dispatch, dispatch_with}
 use Rattle.market_model.specs.Stops.{StopsBy}
-use Rattle.market_system.specs.Growth.{BestFor}
+use Rattle.market_model.specs.Optimality.{BestFor}
 use Rattle.market_system.specs.MarketSystem.{choice_duals}
 use Rattle.market_dict.specs.Takings.{IsTaking, limits_of, taken_of}
 use Rattle.clear_loop.specs.Growing.{IsNew, IsPassedTaking}
