@@ -5,9 +5,9 @@ ghost use Rattle.fraction_theory.specs.Fraction.{Fraction, ◌+ℚ◌};
 ghost use Rattle.market_model.specs.Dispatch.{places, unit_at};
 ghost use Rattle.market_model.specs.LimitRows.{loses_unit, row_pickup, IsCauseOf};
 ghost use Rattle.market_model.specs.NamedSums.{IsShareRefusal};
-ghost use Rattle.market_model.specs.Optimality.{named_rows, own_price, ProperDuals};
+ghost use Rattle.market_model.specs.Optimality.{own_price, ProperDuals};
 ghost use Rattle.market_model.specs.Stops.{StopsBy};
-ghost use Rattle.market_model.specs.SumTables.{IsPickupRefusal, IsRefusedAmong, OwnPriceSum, PickupSum};
+ghost use Rattle.market_model.specs.SumTables.{IsRefusedAmong, PickupSum, IsRefusedInOwnPrices};
 ghost use Rattle.market_model.specs.Valued.{duals_at, passed_at, total_at};
 ghost use Rattle.bus_prices.specs.PriceParts.{added_to_own};
 
@@ -64,8 +64,7 @@ fn own<N: Exact>(
     requires out { length out.old ≡ length market.now.units }
     ensures count { length out.new ≡ length out.old }
     ensures own { IfOk result (λ _. map N.value out.new ≡ map (own_price market.now (duals_at N.value duals.now) (total_at N.value prices.now)) (places (length market.now.units))) }
-    ensures cause { IfErr result (λ passed. IsRefusedAmong (OwnPriceSum market.now (duals_at N.value duals.now) (total_at N.value prices.now)) N.bound (passed_at N.value passed)
-        ⊎ IsPickupRefusal market.now (named_rows market.now (duals_at N.value duals.now)) N.bound (passed_at N.value passed)) }
+    ensures cause { IfErr result (λ passed. IsRefusedInOwnPrices market.now (duals_at N.value duals.now) (total_at N.value prices.now) N.bound (passed_at N.value passed)) }
 {
     let _lines = market.lines();
     put_bus_prices(market, prices, out);
@@ -89,7 +88,7 @@ pub fn own_prices<N: Exact>(
     requires duals { ProperDuals market.now (duals_at N.value duals.now) }
     requires prices { length prices.now ≡ length market.now.buses }
     ensures own { IfOk result (λ own. map N.value own.items ≡ map (own_price market.now (duals_at N.value duals.now) (total_at N.value prices.now)) (places (length market.now.units))) }
-    ensures cause { let d = duals_at N.value duals.now in IfErr result (StopsBy N.value (λ p. IsRefusedAmong (OwnPriceSum market.now d (total_at N.value prices.now)) N.bound p ⊎ IsPickupRefusal market.now (named_rows market.now d) N.bound p)) }
+    ensures cause { IfErr result (StopsBy N.value (IsRefusedInOwnPrices market.now (duals_at N.value duals.now) (total_at N.value prices.now) N.bound)) }
 {
     let mut by_unit = zeros(alloc, market.units().len())?;
     own(market, duals, prices, &mut by_unit)?;

@@ -7,7 +7,7 @@ ghost use Rattle.market_model.specs.Dispatch.{places, zero};
 ghost use Rattle.market_model.specs.LimitRows.{row_factor, IsCauseOf};
 ghost use Rattle.market_model.specs.NamedSums.{IsRefusal, IsShareRefusal};
 ghost use Rattle.market_model.specs.Optimality.{IsOneSided, ProperDuals};
-ghost use Rattle.market_model.specs.RightAnswers.{price_made, price_of_parts};
+ghost use Rattle.market_model.specs.RightAnswers.{price_of_parts, prices_made};
 ghost use Rattle.market_model.specs.SumTables.{IsRefusedInBusPrices, BusFactorSum, IsRefusedAmong};
 ghost use Rattle.market_model.specs.Valued.{dual_at, duals_at, passed_at, price_at};
 ghost use Rattle.bus_prices.specs.PriceParts.{HaveParts};
@@ -94,7 +94,7 @@ pub fn prices<N: Exact>(
     requires duals { ProperDuals market.now (duals_at N.value duals.now) }
     requires out { length out.old ≡ length market.now.buses }
     ensures count { length out.new ≡ length out.old }
-    ensures prices { IfOk result (λ _. map (price_at N.value) out.new ≡ map (price_made market.now (duals_at N.value duals.now)) (places (length market.now.buses))) }
+    ensures prices { IfOk result (λ _. map (price_at N.value) out.new ≡ prices_made market.now (duals_at N.value duals.now)) }
     ensures cause { IfErr result (λ passed. IsRefusedInBusPrices market.now (duals_at N.value duals.now) N.bound (passed_at N.value passed)) }
 {
     let _lines = market.lines();

@@ -18,7 +18,7 @@ use Rattle.market_model.specs.Dispatch.{Dispatch, places, balance, balance_terms
 use Rattle.market_model.specs.Infeasibility.{block_most, block_weight, energy_left_terms, limit_terms, nothing_terms, farkas_terms, offer_most, reserve_left_terms}
 use Rattle.market_model.specs.declared.limits.Row.{Row}
 use Rattle.market_model.specs.LimitRows.{rows, row_id, most_flow, flow}
-use Rattle.market_model.specs.NamedSums.{IsRefusal, IsRefusedIn, IsShareRefusal}
+use Rattle.market_model.specs.NamedSums.{IsRefusal, IsRefusedIn, IsShareRefusal, IsMarginRefusal}
 use Rattle.market_model.specs.Optimality.{up_of, down_of, names_row, named_rows}
 use Rattle.market_model.specs.Reserves.{offer_places}
 use Rattle.market_model.proofs.FarkasLaw.{total-flat_map}
@@ -28,10 +28,10 @@ use Rattle.market_model.proofs.SumSteps.{product_at, share_at, terms_at, behind,
 use Rattle.limit_rows.proofs.DualLemmas.{sum_named, filter_at}
 use Rattle.limit_rows.proofs.NamedLimits.{energy_left-by_named, limit_unnamed}
 use Rattle.cert_sums.specs.Named.{PricedRow, priced_by}
-use Rattle.cert_sums.specs.Pairs.{IsFarkasPair, in_flow as flow_pair, in_bound as bound_pair, in_pickup, in_price, in_worth, of_limit_less, of_limit_more, of_most}
-use Rattle.market_model.specs.SumTables.{IsRefusedAmong, InjectionSum, balance_from_bus, balance_of_all, limited_line, limited_row, limited_unit, flow_in_balance, flow_in_limits, farkas_bound_of_all}
+use Rattle.cert_sums.specs.Pairs.{IsFarkasPair, in_flow as flow_pair, in_bound as bound_pair, in_worth, of_limit_less, of_limit_more, of_most}
+use Rattle.market_model.specs.SumTables.{IsRefusedAmong, InjectionSum, balance_from_bus, balance_of_all, limited_row, flow_in_balance, flow_in_limits, farkas_bound_of_all, limited_by_carried, factor_of_pickup}
 use Rattle.market_model.specs.PutIn.{AreCarried, AreInjections}
-use Rattle.cert_sums.specs.Refusals.{IsAboveRefusal, IsBelowRefusal, IsCarriedRefusal, IsRowShareRefusal, IsWorthRefusal, in_most, in_flow, in_above, in_below}
+use Rattle.cert_sums.specs.Refusals.{IsBelowRefusal, IsCarriedRefusal, IsRowShareRefusal, in_most, in_flow, in_above, in_below}
 use Rattle.cert_sums.proofs.BlockFlows.{carried_of_blocks, carried_refusal, injection_refusal, injections_by_blocks, injections_of_blocks}
 use Rattle.cert_sums.proofs.NamedLemmas.{IsNamedAt, is_named_row, is_row}
 
@@ -47,8 +47,8 @@ left_sum m d e sum above more l f priced is flows first second =
 
 -- a refusal on either side of a row, by the most that its flow may be and the flow that were read
 module _ (m : Parts) (x : Dispatch) (e : PricedRow) (sum l f : Fraction) (bound : ℕ) (p : Passed Fraction) (is : l ≡ most_flow m e.row) (flows : f ≡ flow m x e.row) where
-  pub above_side : IsAboveRefusal sum e.up l f bound p → IsRowShareRefusal m x e sum bound p
-  above_side h = in_above (subst₂ (λ a b. IsAboveRefusal sum e.up a b bound p) is flows h)
+  pub above_side : IsMarginRefusal sum e.up l f bound p → IsRowShareRefusal m x e sum bound p
+  above_side h = in_above (subst₂ (λ a b. IsMarginRefusal sum e.up a b bound p) is flows h)
 
   pub below_side : (above : Fraction) → above ≡ sum +ℚ e.up *ℚ (l -ℚ f) → IsBelowRefusal above e.down l f bound p → IsRowShareRefusal m x e sum bound p
   below_side above first h =
@@ -135,7 +135,7 @@ module _ (m : Parts) (d : Duals Fraction) where
       in_bound : IsRefusedIn (farkas_terms m d) bound p → IsFarkasPair m d bound p
       in_bound why = bound_pair (_, farkas_bound_of_all, why)
 
-      above_refused : IsAboveRefusal sum e.up (most_flow m e.row) (flow m (empty m) e.row) bound p → IsFarkasPair m d bound p
+      above_refused : IsMarginRefusal sum e.up (most_flow m e.row) (flow m (empty m) e.row) bound p → IsFarkasPair m d bound p
       above_refused (inl c) = of_limit_less e.row (is_named_row m d k e h) c
       above_refused (inr c) = in_bound
           (share_at (farkas_terms m d) s.front (below ∷ s.rest) above s.split bound p sum e.up room_above (ap (λ u. Product u room_above) (sym h.up)) (before ∙ sym s.sum) c)
@@ -155,7 +155,7 @@ module _ (m : Parts) (d : Duals Fraction) where
 
       pub limit_refused : IsRowShareRefusal m (empty m) e sum bound p → IsFarkasPair m d bound p
       limit_refused (in_flow (inl (terms, part, c))) = flow_pair (terms, flow_in_limits terms (limited_row e.row terms (is_row m d k e h) part), c)
-      limit_refused (in_flow (inr c)) = in_pickup e.row (is_named_row m d k e h) c
+      limit_refused (in_flow (inr (terms, part, c))) = in_worth (inl (inr (inr (e.row, is_named_row m d k e h, (terms, factor_of_pickup terms part, c)))))
       limit_refused (in_most c) = of_most e.row (is_named_row m d k e h) c
       limit_refused (in_above c) = above_refused c
       limit_refused (in_below c) = below_refused c
@@ -221,8 +221,7 @@ module _ (m : Parts) (blocks : List Fraction) (is : dispatch_with blocks (replic
         let sum = subst (λ y. IsRefusedAmong (InjectionSum m y) bound p) is (injection_refusal m blocks none bound p h) in flow_pair (sum.0, flow_in_balance sum.0 (balance_from_bus sum.0 sum.1), sum.2)
 
     carried_pair : IsCarriedRefusal m (empty m) bound p → IsFarkasPair m d bound p
-    carried_pair (inl (terms, sum, h)) = flow_pair (terms, flow_in_limits terms (limited_line terms sum), h)
-    carried_pair (inr (terms, sum, h)) = flow_pair (terms, flow_in_limits terms (limited_unit terms sum), h)
+    carried_pair (terms, sum, h) = flow_pair (terms, flow_in_limits terms (limited_by_carried terms sum), h)
 
     pub carried_pair_of : IsCarriedRefusal m (dispatch_by blocks) bound p → IsFarkasPair m d bound p
     carried_pair_of h = carried_pair (subst (λ y. IsCarriedRefusal m y bound p) is (carried_refusal m blocks none bound p h))
@@ -230,11 +229,6 @@ module _ (m : Parts) (blocks : List Fraction) (is : dispatch_with blocks (replic
 module _ (m : Parts) (d : Duals Fraction) (bound : ℕ) (p : Passed Fraction) where
   pub balance_pair : IsRefusedIn (balance_terms m (empty m)) bound p → IsFarkasPair m d bound p
   balance_pair h = flow_pair (_, flow_in_balance _ balance_of_all, h)
-
-  -- in what a MW of a unit's energy is worth
-  pub worth_pair : IsWorthRefusal m d bound p → IsFarkasPair m d bound p
-  worth_pair (inl h) = in_price h
-  worth_pair (inr h) = in_worth h
 
   pub bound_pair_of : IsRefusedIn (farkas_terms m d) bound p → IsFarkasPair m d bound p
   bound_pair_of h = bound_pair (_, farkas_bound_of_all, h)

@@ -11,17 +11,14 @@ use Rattle.market_model.specs.Dispatch.{empty}
 use Rattle.market_model.specs.LimitRows.{flow, most_flow, limit}
 use Rattle.market_model.specs.NamedSums.{IsRefusal}
 use Rattle.market_model.specs.Optimality.{named_rows}
-use Rattle.market_model.specs.SumTables.{IsRefusedAmong, BoundSum, FlowSum, PickupSum, WorthSum}
+use Rattle.market_model.specs.SumTables.{IsRefusedAmong, BoundSum, FlowSum}
 use Rattle.limit_rows.specs.Refusals.{IsMostFlowRefusal}
-use Rattle.cert_sums.specs.Refusals.{IsUnitPriceRefusal}
+use Rattle.cert_sums.specs.Refusals.{IsWorthRefusal}
 
--- in a flow or a lost output where nothing is accepted, in a row's pickup factor, in the price of a unit or in what a MW of one is worth, in
--- the bound, of a row's limit and most excess, or of the most that its flow may be and what it is where nothing is accepted, on either side
+-- in a flow or a lost output where nothing is accepted, in the price of a unit or in what a MW of one is worth, in the bound, of a row's limit and most excess, or of the most that its flow may be and what it is where nothing is accepted, on either side
 pub data IsFarkasPair (m : Parts) (d : Duals Fraction) (bound : ℕ) (p : Passed Fraction) : Type 0 where
   in_flow : IsRefusedAmong (FlowSum m (empty m)) bound p → IsFarkasPair m d bound p
-  in_pickup : (r : Row) → Contains (named_rows m d) r → IsRefusedAmong (PickupSum m r) bound p → IsFarkasPair m d bound p
-  in_price : IsUnitPriceRefusal m d bound p → IsFarkasPair m d bound p
-  in_worth : IsRefusedAmong (WorthSum m d) bound p → IsFarkasPair m d bound p
+  in_worth : IsWorthRefusal m d bound p → IsFarkasPair m d bound p
   in_bound : IsRefusedAmong (BoundSum m d) bound p → IsFarkasPair m d bound p
   of_most : (r : Row) → Contains (named_rows m d) r → IsMostFlowRefusal m r bound p → IsFarkasPair m d bound p
   of_limit_less : (r : Row) → Contains (named_rows m d) r → IsRefusal Minus (most_flow m r) (flow m (empty m) r) bound p → IsFarkasPair m d bound p

@@ -6,12 +6,12 @@ use Rattle.exact_fraction.specs.declared.Op.TheVariants.{Plus, Minus}
 use Rattle.exact_fraction.specs.declared.Passed.{Passed}
 use Rattle.market_model.specs.declared.answered.Duals.{Duals}
 use Rattle.market_model.specs.declared.participants.Parts.{Parts}
-use Rattle.market_model.specs.Dispatch.{Dispatch, injection}
+use Rattle.market_model.specs.Dispatch.{Dispatch}
 use Rattle.market_model.specs.declared.limits.Row.{Row}
 use Rattle.market_model.specs.LimitRows.{carried, flow, limit, most_flow}
-use Rattle.market_model.specs.NamedSums.{IsRefusal, IsShareRefusal}
+use Rattle.market_model.specs.NamedSums.{IsRefusal, IsShareRefusal, IsMarginRefusal}
 use Rattle.market_model.specs.Optimality.{up_of, down_of, named_rows}
-use Rattle.market_model.specs.SumTables.{IsFactorRefusal, IsFlowRefusal, IsRefusedAmong, LineFlowSum, LostOutputSum, PriceSum, WorthSum}
+use Rattle.market_model.specs.SumTables.{IsFactorRefusal, IsFlowRefusal, IsRefusedAmong, PriceSum, WorthSum, CarriedSum}
 use Rattle.limit_rows.specs.Refusals.{IsMostFlowRefusal}
 use Rattle.cert_sums.specs.Named.{PricedRow}
 
@@ -33,17 +33,14 @@ IsWorthRefusal m d bound p = IsUnitPriceRefusal m d bound p ⊎ IsRefusedAmong (
 
 -- in what the network carries at a dispatch: the flow of a line, or the output of a lost unit
 abbrev pub IsCarriedRefusal : Parts → Dispatch → ℕ → Passed Fraction → Type 0
-IsCarriedRefusal m x bound p = IsRefusedAmong (LineFlowSum m (injection m x)) bound p ⊎ IsRefusedAmong (LostOutputSum m x) bound p
+IsCarriedRefusal m x bound p = IsRefusedAmong (CarriedSum m x) bound p
 
 -- ---- the same step by step
 -- the two prices of a row, or what they take by a factor
 abbrev pub IsNetPriceRefusal : Fraction → Fraction → Fraction → Fraction → ℕ → Passed Fraction → Type 0
 IsNetPriceRefusal sum up down k bound p = IsRefusal Minus up down bound p ⊎ IsShareRefusal sum (neg_ℚ (up -ℚ down)) k bound p
 
--- what a flow leaves of the most that it may be, or what a price makes of that
-abbrev pub IsAboveRefusal : Fraction → Fraction → Fraction → Fraction → ℕ → Passed Fraction → Type 0
-IsAboveRefusal sum price limit flow bound p = IsRefusal Minus limit flow bound p ⊎ IsShareRefusal sum price (limit -ℚ flow) bound p
-
+-- what a flow leaves of the most that it may be on the lower side, or what a price makes of that
 abbrev pub IsBelowRefusal : Fraction → Fraction → Fraction → Fraction → ℕ → Passed Fraction → Type 0
 IsBelowRefusal sum price limit flow bound p = IsRefusal Plus limit flow bound p ⊎ IsShareRefusal sum price (limit +ℚ flow) bound p
 
@@ -51,5 +48,5 @@ IsBelowRefusal sum price limit flow bound p = IsRefusal Plus limit flow bound p 
 pub data IsRowShareRefusal (m : Parts) (x : Dispatch) (e : PricedRow) (sum : Fraction) (bound : ℕ) (p : Passed Fraction) : Type 0 where
   in_most : IsMostFlowRefusal m e.row bound p → IsRowShareRefusal m x e sum bound p
   in_flow : IsFlowRefusal m (carried m x) e.row bound p → IsRowShareRefusal m x e sum bound p
-  in_above : IsAboveRefusal sum e.up (most_flow m e.row) (flow m x e.row) bound p → IsRowShareRefusal m x e sum bound p
+  in_above : IsMarginRefusal sum e.up (most_flow m e.row) (flow m x e.row) bound p → IsRowShareRefusal m x e sum bound p
   in_below : IsBelowRefusal (sum +ℚ e.up *ℚ (most_flow m e.row -ℚ flow m x e.row)) e.down (most_flow m e.row) (flow m x e.row) bound p → IsRowShareRefusal m x e sum bound p

@@ -10,11 +10,11 @@ ghost use Rattle.market_model.specs.Infeasibility.{block_most, energy_left_terms
 ghost use Rattle.market_model.specs.LimitRows.{IsCauseOf, flow, limit};
 ghost use Rattle.market_model.specs.Stops.{StopsBy};
 ghost use Rattle.market_model.specs.Valued.{passed_at};
-ghost use Rattle.market_model.specs.NamedSums.{IsShareRefusal};
+ghost use Rattle.market_model.specs.NamedSums.{IsShareRefusal, IsMarginRefusal};
 ghost use Rattle.market_model.specs.PutIn.{AreCarried};
 ghost use Rattle.cert_sums.specs.Named.{AreNamed, AreNamedRooms, priced_at, priced_by};
 ghost use Rattle.cert_sums.specs.Pairs.{IsFarkasPair};
-ghost use Rattle.cert_sums.specs.Refusals.{IsAboveRefusal, IsBelowRefusal, IsRowShareRefusal};
+ghost use Rattle.cert_sums.specs.Refusals.{IsBelowRefusal, IsRowShareRefusal};
 ghost use Rattle.fraction_theory.specs.Signs.{part_above};
 
 use crate::bounding_reserve::{with_need, with_offers, with_rooms};
@@ -27,7 +27,7 @@ use std::alloc::Global;
 /// A sum with what the price of an upper limit makes of what a flow leaves of it. A price of 0 makes nothing.
 fn with_above<N: Exact>(sum: N, price: N, limit: N, flow: N) -> Result<N, Passed<N>>
     ensures sum { IfOk result (λ more. N.value more ≡ N.value sum +ℚ N.value price *ℚ (N.value limit -ℚ N.value flow)) }
-    ensures cause { IfErr result (λ passed. IsAboveRefusal (N.value sum) (N.value price) (N.value limit) (N.value flow) N.bound (passed_at N.value passed)) }
+    ensures cause { IfErr result (λ passed. IsMarginRefusal (N.value sum) (N.value price) (N.value limit) (N.value flow) N.bound (passed_at N.value passed)) }
 {
     if price.sign() == Sign::Zero {
         return Ok(sum);

@@ -72,7 +72,10 @@ law_of_the_verdict m c apart = (yes_shows m c, shows_yes m c apart)
 pub law_of_the_best : LawOfTheBest
 law_of_the_best m blocks energy limits places reserve market apart told =
     let h = (yes_shows m (Optimal blocks energy limits places reserve) told).shown in
-    (h.feasible, λ y f. law_of_the_optimum m (duals_of (Optimal blocks energy limits places reserve)) (dispatched blocks reserve) y market h.feasible h.supported f)
+    record {
+      feasible = h.feasible;
+      best = λ y f. law_of_the_optimum m (duals_of (Optimal blocks energy limits places reserve)) (dispatched blocks reserve) y market h.feasible h.supported f;
+    }
 
 pub law_of_nothing_feasible : LawOfNothingFeasible
 law_of_nothing_feasible m energy limits places reserve market apart told y =

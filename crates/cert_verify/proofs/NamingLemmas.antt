@@ -16,14 +16,13 @@ use Rattle.market_model.specs.declared.participants.Parts.{Parts}
 use Rattle.market_model.specs.declared.limits.Row.{Row}
 use Rattle.market_model.specs.LimitRows.{row_id}
 use Rattle.market_model.specs.Optimality.{names_row, same_id, up_in, down_in}
-use Rattle.market_model.specs.Valued.{dual_at}
+use Rattle.market_model.specs.Valued.{dual_at, duals_with}
 use Rattle.market_model.specs.Dispatch.{places}
 use Rattle.market_model.proofs.MorePlaces.{places_more}
 use Rattle.limit_rows.proofs.PlaceLemmas.{same_name}
 use Rattle.cert_format.specs.Certificates.{NamesNoRowTwice, name_of, same_triple}
 use Rattle.cert_sums.specs.declared.pricing.NamedRow.{NamedRow}
 use Rattle.cert_sums.specs.Named.{PricedRow, priced_at, priced_by}
-use Rattle.cert_verify.specs.Certificates.{all_duals}
 use Rattle.cert_verify.specs.Naming.{IsNamedAt, entry_of, prices_of}
 use Rattle.cert_verify.proofs.VerdictLemmas.{other_id, own_id}
 
@@ -112,7 +111,7 @@ entries_more {N} ds i e lt at =
 module _ {N : Type 0} (value : N → Fraction) (m : Parts) where
   -- what is found under the name of a row
   pub named_is : (ds : List (Dual N)) (energy price : Fraction) (rooms : List (RoomDual Fraction)) (row : Row) (e : Dual N) → lookup (same_triple (name_of (row_id m row))) (map entry_of ds) ≡ Some e
-      → IsNamedAt value m (all_duals energy (map (dual_at value) ds) price rooms) row (Some (record { row = row; up = e.up; down = e.down }))
+      → IsNamedAt value m (duals_with energy (map (dual_at value) ds) price rooms) row (Some (record { row = row; up = e.up; down = e.down }))
   named_is ds energy price rooms row e found =
       let is = dual_named value (row_id m row) ds e found in
       (is.named, ap₂ (λ (u w : Fraction). record { row = row; up = u; down = w }) (sym is.up) (sym is.down))

@@ -14,7 +14,7 @@ use Rattle.market_model.specs.declared.limits.Row.{Row}
 use Rattle.market_model.specs.LimitRows.{carried, rows, row_id, limit, penalty, is_soft, most_flow, flow}
 use Rattle.market_model.specs.Market.{IsMarket}
 use Rattle.market_model.specs.Optimality.{names_row}
-use Rattle.market_model.specs.SumTables.{IsFlowRefusal, limited_line, limited_row, limited_unit}
+use Rattle.market_model.specs.SumTables.{IsFlowRefusal, limited_row, limited_by_carried}
 use Rattle.market_model.proofs.Excesses.{hard_costs_nothing, penalty_least}
 use Rattle.market_model.proofs.WholeDispatch.{whole-<ℚ}
 use Rattle.limit_rows.proofs.ApartLemmas.{same_row}
@@ -129,13 +129,12 @@ module _ (m : Parts) (market : IsMarket m) (x : Dispatch) (ds : List (Dual Fract
 -- ---- refusals
 -- what is carried at a dispatch
 pub carried_pair : (m : Parts) (x : Dispatch) (bound : ℕ) (p : Passed Fraction) → IsCarriedRefusal m x bound p → IsLimitPair m x bound p
-carried_pair m x bound p (inl (terms, sum, why)) = of_flow (terms, limited_line terms sum, why)
-carried_pair m x bound p (inr (terms, sum, why)) = of_flow (terms, limited_unit terms sum, why)
+carried_pair m x bound p (terms, sum, why) = of_flow (terms, limited_by_carried terms sum, why)
 
 -- a flow of a row of the market, of what is carried at a dispatch
 pub limit_pair : (m : Parts) (x : Dispatch) (r : Row) (bound : ℕ) (p : Passed Fraction) → Contains (rows m) r → IsFlowRefusal m (carried m x) r bound p → IsLimitPair m x bound p
 limit_pair m x r bound p listed (inl (terms, sum, why)) = of_flow (terms, limited_row r terms listed sum, why)
-limit_pair m x r bound p listed (inr why) = of_pickup r listed why
+limit_pair m x r bound p listed (inr why) = of_pickup (r, listed, why)
 
 -- where nothing is wrong with the parts, none of the reasons up to these holds where these do not
 module _ (m : Parts) (x : Dispatch) (d : Duals Fraction) (before : NoneOf (part_reasons m x d)) (balanced : balance_reason m x ≡ None) where

@@ -12,7 +12,7 @@ use Rattle.market_model.specs.declared.limits.Row.{Row}
 use Rattle.market_model.specs.LimitRows.{rows, row_id}
 use Rattle.market_model.specs.Optimality.{Feasible, Supports}
 use Rattle.market_model.specs.Reserves.{reserve_units}
-use Rattle.market_model.specs.Valued.{energy_duals}
+use Rattle.market_model.specs.Valued.{energy_duals, duals_with}
 use Rattle.cert_format.specs.declared.certificate.Cert.{Cert}
 use Rattle.cert_format.specs.declared.certificate.Cert.TheVariants.{Optimal, Farkas}
 use Rattle.cert_format.specs.declared.certificate.ClearedReserve.{ClearedReserve}
@@ -21,14 +21,10 @@ use Rattle.cert_format.specs.Certificates.{places_of, reserve_of}
 use Rattle.cert_verify.specs.Reasons.{first_of, optimal_reasons, farkas_reasons, places_reason}
 use Rattle.cert_verify.specs.declared.verdicts.Reason.{Reason}
 
--- a price of energy, those of rows, that of reserve and those of rooms
-abbrev pub all_duals : Fraction → List (Dual Fraction) → Fraction → List (RoomDual Fraction) → Duals Fraction
-all_duals energy limits price rooms = record { energy = energy; limits = limits; reserve = price; rooms = rooms }
-
--- the last two where a certificate has a part on reserve; else it is of energy alone
+-- a price of energy and those of rows, and where a certificate has a part on reserve its price and those of rooms; else it is of energy alone
 abbrev pub named_duals : Fraction → List (Dual Fraction) → Option (ReserveDuals Fraction) → Duals Fraction
 named_duals energy limits None = energy_duals energy limits
-named_duals energy limits (Some d) = all_duals energy limits d.price d.rooms
+named_duals energy limits (Some d) = duals_with energy limits d.price d.rooms
 
 -- the quantities of blocks, and where a certificate has a part on reserve those of its offers
 abbrev pub dispatched : List Fraction → Option (ClearedReserve Fraction) → Dispatch

@@ -1,7 +1,6 @@
 -- What the verdict on a certificate means.
 use Rattle.std.specs.Prelude.{◌≡◌, ◌↔◌, List, Option}
 use Rattle.fraction_theory.specs.Fraction.{Fraction}
-use Rattle.fraction_theory.specs.Order.{◌≤ℚ◌}
 use Rattle.market_data.specs.declared.scales.FactorPlaces.{FactorPlaces}
 use Rattle.market_model.specs.declared.answered.Answer.{Answer}
 use Rattle.market_model.specs.declared.answered.Dual.{Dual}
@@ -10,7 +9,7 @@ use Rattle.market_model.specs.declared.participants.Parts.{Parts}
 use Rattle.market_model.specs.Dispatch.{Dispatch}
 use Rattle.market_model.specs.Infeasibility.{IsFarkas}
 use Rattle.market_model.specs.Market.{IsMarket}
-use Rattle.market_model.specs.Optimality.{Feasible, welfare}
+use Rattle.market_model.specs.Optimality.{Feasible, BestFor, all_of}
 use Rattle.market_model.specs.RightAnswers.{IsRight}
 use Rattle.cert_format.specs.declared.certificate.Cert.{Cert}
 use Rattle.cert_format.specs.declared.certificate.Cert.TheVariants.{Optimal, Farkas}
@@ -29,7 +28,7 @@ LawOfTheVerdict = (m : Parts) (c : Cert Fraction) → RowsAreDistinct c → (ver
 abbrev pub LawOfTheBest : Type 0
 LawOfTheBest =
     (m : Parts) (blocks : List Fraction) (energy : Fraction) (limits : List (Dual Fraction)) (places : FactorPlaces) (reserve : Option (ClearedReserve Fraction)) → IsMarket m → RowsAreDistinct (Optimal blocks energy limits places reserve)
-    → verdict_of (first_reason m (Optimal blocks energy limits places reserve)) ≡ Yes → Feasible m (dispatched blocks reserve) × ((y : Dispatch) → Feasible m y → welfare m y ≤ℚ welfare m (dispatched blocks reserve))
+    → verdict_of (first_reason m (Optimal blocks energy limits places reserve)) ≡ Yes → BestFor m (all_of m) (dispatched blocks reserve)
 
 -- or, of the other kind, nothing is feasible
 abbrev pub LawOfNothingFeasible : Type 0

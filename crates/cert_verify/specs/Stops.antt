@@ -10,7 +10,7 @@ use Rattle.market_model.specs.declared.stops.Stop.{Stop}
 use Rattle.market_model.specs.declared.stops.Stop.TheVariants as stop
 use Rattle.market_model.specs.Dispatch.{Dispatch}
 use Rattle.market_model.specs.LimitRows.{rows, limit}
-use Rattle.market_model.specs.SumTables.{IsRefusedAmong, BalanceSum, LimitFlowSum, PickupSum, RoomSum, AcceptedSum}
+use Rattle.market_model.specs.SumTables.{IsRefusedAmong, BalanceSum, LimitFlowSum, RoomSum, AcceptedSum, IsPickupRefusal}
 use Rattle.market_model.specs.Valued.{passed_at}
 use Rattle.limit_rows.specs.Refusals.{IsMostFlowRefusal}
 use Rattle.cert_format.specs.declared.certificate.Cert.{Cert}
@@ -27,7 +27,7 @@ use Rattle.cert_verify.specs.Reasons.{NoneOf, balance_reason, dual_reasons, flow
 -- its most excess
 pub data IsLimitPair (m : Parts) (x : Dispatch) (bound : ℕ) (p : Passed Fraction) : Type 0 where
   of_flow : IsRefusedAmong (LimitFlowSum m x) bound p → IsLimitPair m x bound p
-  of_pickup : (r : Row) → Contains (rows m) r → IsRefusedAmong (PickupSum m r) bound p → IsLimitPair m x bound p
+  of_pickup : IsPickupRefusal m (rows m) bound p → IsLimitPair m x bound p
   of_most : (r : Row) → Contains (rows m) r → IsMostFlowRefusal m r bound p → IsLimitPair m x bound p
 
 -- An operation is refused that a reason asks for, and none of the reasons before that one holds: the balance is added up where nothing is

@@ -9,12 +9,11 @@ ghost use Rattle.market_model.specs.Optimality.{energy_worth};
 ghost use Rattle.market_model.specs.Reserves.{reserve};
 ghost use Rattle.market_model.specs.Stops.{StopsBy};
 ghost use Rattle.market_model.specs.SumTables.{IsRefusedAmong, RoomSum};
-ghost use Rattle.market_model.specs.Valued.{dual_at, passed_at, room_dual_at};
+ghost use Rattle.market_model.specs.Valued.{dual_at, passed_at, room_dual_at, duals_with};
 ghost use Rattle.cert_format.specs.Certificates.{NamesNoRowTwice};
 ghost use Rattle.cert_sums.specs.Named.{AreNamed, AreNamedRooms};
 ghost use Rattle.cert_sums.specs.Pairs.{IsFarkasPair};
 ghost use Rattle.cert_sums.specs.Refusals.{IsWorthRefusal};
-ghost use Rattle.cert_verify.specs.Certificates.{all_duals};
 ghost use Rattle.cert_verify.specs.declared.verdicts.Reason.TheVariants as reason;
 ghost use Rattle.cert_verify.specs.Reasons.{NoneOf, bound_reason, dual_reasons, farkas_reasons, first_of, flow_reasons, is_below, need_slack_reason, optimal_reasons, part_reasons, reserve_support_reason, room_slack_reason, support_reason, where_so};
 ghost use Rattle.cert_verify.specs.Stops.{IsFarkasStop, IsOptimalStop};
@@ -40,7 +39,7 @@ fn wrong_dual<N: Exact>(
     price: N,
     rooms: &[RoomDual<N>],
 ) -> Option<Reason>
-    ensures { (energy : Fraction) → result ≡ first_of (dual_reasons market.now (all_duals energy (map (dual_at N.value) limits.now) (N.value price) (map (room_dual_at N.value) rooms.now))) }
+    ensures { (energy : Fraction) → result ≡ first_of (dual_reasons market.now (duals_with energy (map (dual_at N.value) limits.now) (N.value price) (map (room_dual_at N.value) rooms.now))) }
 {
     if let Some(reason) = missing_row(market, limits) {
         return Some(reason);
@@ -66,7 +65,7 @@ fn wrong_part<N: Exact>(
     price: N,
     rooms: &[RoomDual<N>],
 ) -> Option<Reason>
-    ensures { (energy : Fraction) → result ≡ first_of (part_reasons market.now (dispatch_with (map N.value blocks.now) (map N.value quantities.now)) (all_duals energy (map (dual_at N.value) limits.now) (N.value price) (map (room_dual_at N.value) rooms.now))) }
+    ensures { (energy : Fraction) → result ≡ first_of (part_reasons market.now (dispatch_with (map N.value blocks.now) (map N.value quantities.now)) (duals_with energy (map (dual_at N.value) limits.now) (N.value price) (map (room_dual_at N.value) rooms.now))) }
 {
     if let Some(reason) = other_count(market, blocks, quantities) {
         return Some(reason);
@@ -115,9 +114,9 @@ fn wrong_flow<N: Exact>(
     requires blocks { length blocks.now ≡ length market.now.blocks }
     requires quantities { length quantities.now ≡ length market.now.reserve.offers }
     requires distinct { NamesNoRowTwice (map (dual_at N.value) limits.now) }
-    ensures first { (energy : Fraction) → IfOk result (λ first. first ≡ first_of (flow_reasons market.now (dispatch_with (map N.value blocks.now) (map N.value quantities.now)) (all_duals energy (map (dual_at N.value) limits.now) (N.value price) (map (room_dual_at N.value) rooms.now)))) }
-    ensures cause { (energy : Fraction) → NoneOf (part_reasons market.now (dispatch_with (map N.value blocks.now) (map N.value quantities.now)) (all_duals energy (map (dual_at N.value) limits.now) (N.value price) (map (room_dual_at N.value) rooms.now)))
-        → IfErr result (StopsBy N.value (IsOptimalStop market.now (dispatch_with (map N.value blocks.now) (map N.value quantities.now)) (all_duals energy (map (dual_at N.value) limits.now) (N.value price) (map (room_dual_at N.value) rooms.now)) N.bound)) }
+    ensures first { (energy : Fraction) → IfOk result (λ first. first ≡ first_of (flow_reasons market.now (dispatch_with (map N.value blocks.now) (map N.value quantities.now)) (duals_with energy (map (dual_at N.value) limits.now) (N.value price) (map (room_dual_at N.value) rooms.now)))) }
+    ensures cause { (energy : Fraction) → NoneOf (part_reasons market.now (dispatch_with (map N.value blocks.now) (map N.value quantities.now)) (duals_with energy (map (dual_at N.value) limits.now) (N.value price) (map (room_dual_at N.value) rooms.now)))
+        → IfErr result (StopsBy N.value (IsOptimalStop market.now (dispatch_with (map N.value blocks.now) (map N.value quantities.now)) (duals_with energy (map (dual_at N.value) limits.now) (N.value price) (map (room_dual_at N.value) rooms.now)) N.bound)) }
 {
     let by_bus = put_in(alloc, market, blocks)?;
     if let Some(reason) = wrong_balance(market, &by_bus)? {
@@ -148,8 +147,8 @@ fn named_parts<N: Exact>(
     rooms: &[RoomDual<N>],
 ) -> Result<(List<NamedRow<N>>, List<NamedRoom<N>>), Stop<N>>
     requires { NamesNoRowTwice (map (dual_at N.value) limits.now) }
-    ensures rows { (energy price : Fraction) → IfOk result (λ p. AreNamed N.value market.now (all_duals energy (map (dual_at N.value) limits.now) price (map (room_dual_at N.value) rooms.now)) p.0) }
-    ensures rooms { (energy price : Fraction) → IfOk result (λ p. AreNamedRooms N.value market.now (all_duals energy (map (dual_at N.value) limits.now) price (map (room_dual_at N.value) rooms.now)) p.1) }
+    ensures rows { (energy price : Fraction) → IfOk result (λ p. AreNamed N.value market.now (duals_with energy (map (dual_at N.value) limits.now) price (map (room_dual_at N.value) rooms.now)) p.0) }
+    ensures rooms { (energy price : Fraction) → IfOk result (λ p. AreNamedRooms N.value market.now (duals_with energy (map (dual_at N.value) limits.now) price (map (room_dual_at N.value) rooms.now)) p.1) }
     ensures cause { IfErr result (λ why. why ≡ stop.Memory) }
 {
     let rows = match named_rows(alloc, market, limits) {
@@ -200,9 +199,9 @@ fn wrong_support<N: Exact>(
     requires blocks { length blocks.now ≡ length market.now.blocks }
     requires quantities { length quantities.now ≡ length market.now.reserve.offers }
     requires distinct { NamesNoRowTwice (map (dual_at N.value) limits.now) }
-    ensures first { IfOk result (λ first. first ≡ first_of (support_reason market.now (dispatch_with (map N.value blocks.now) (map N.value quantities.now)) (all_duals (N.value energy) (map (dual_at N.value) limits.now) (N.value price) (map (room_dual_at N.value) rooms.now))
-        ∷ reserve_support_reason market.now (dispatch_with (map N.value blocks.now) (map N.value quantities.now)) (all_duals (N.value energy) (map (dual_at N.value) limits.now) (N.value price) (map (room_dual_at N.value) rooms.now)) ∷ [])) }
-    ensures cause { IfErr result (StopsBy N.value (IsWorthRefusal market.now (all_duals (N.value energy) (map (dual_at N.value) limits.now) (N.value price) (map (room_dual_at N.value) rooms.now)) N.bound)) }
+    ensures first { IfOk result (λ first. first ≡ first_of (support_reason market.now (dispatch_with (map N.value blocks.now) (map N.value quantities.now)) (duals_with (N.value energy) (map (dual_at N.value) limits.now) (N.value price) (map (room_dual_at N.value) rooms.now))
+        ∷ reserve_support_reason market.now (dispatch_with (map N.value blocks.now) (map N.value quantities.now)) (duals_with (N.value energy) (map (dual_at N.value) limits.now) (N.value price) (map (room_dual_at N.value) rooms.now)) ∷ [])) }
+    ensures cause { IfErr result (StopsBy N.value (IsWorthRefusal market.now (duals_with (N.value energy) (map (dual_at N.value) limits.now) (N.value price) (map (room_dual_at N.value) rooms.now)) N.bound)) }
 {
     let (rows, named) = named_parts(alloc, market, limits, rooms)?;
     let worths = energy_worths(alloc, market, energy, rows.slice(), named.slice())?;
@@ -224,8 +223,8 @@ pub(crate) fn against_optimal<N: Exact>(
     rooms: &[RoomDual<N>],
 ) -> Result<Option<Reason>, Stop<N>>
     requires { NamesNoRowTwice (map (dual_at N.value) limits.now) }
-    ensures first { IfOk result (λ first. first ≡ first_of (optimal_reasons market.now (dispatch_with (map N.value blocks.now) (map N.value quantities.now)) (all_duals (N.value energy) (map (dual_at N.value) limits.now) (N.value price) (map (room_dual_at N.value) rooms.now)))) }
-    ensures cause { IfErr result (StopsBy N.value (IsOptimalStop market.now (dispatch_with (map N.value blocks.now) (map N.value quantities.now)) (all_duals (N.value energy) (map (dual_at N.value) limits.now) (N.value price) (map (room_dual_at N.value) rooms.now)) N.bound)) }
+    ensures first { IfOk result (λ first. first ≡ first_of (optimal_reasons market.now (dispatch_with (map N.value blocks.now) (map N.value quantities.now)) (duals_with (N.value energy) (map (dual_at N.value) limits.now) (N.value price) (map (room_dual_at N.value) rooms.now)))) }
+    ensures cause { IfErr result (StopsBy N.value (IsOptimalStop market.now (dispatch_with (map N.value blocks.now) (map N.value quantities.now)) (duals_with (N.value energy) (map (dual_at N.value) limits.now) (N.value price) (map (room_dual_at N.value) rooms.now)) N.bound)) }
 {
     if let Some(reason) = wrong_part(market, blocks, quantities, limits, price, rooms) {
         return Ok(Some(reason));
@@ -259,8 +258,8 @@ fn wrong_bound<N: Exact>(
     rooms: &[RoomDual<N>],
 ) -> Result<Option<Reason>, Stop<N>>
     requires { NamesNoRowTwice (map (dual_at N.value) limits.now) }
-    ensures first { IfOk result (λ first. first ≡ bound_reason market.now (all_duals (N.value energy) (map (dual_at N.value) limits.now) (N.value price) (map (room_dual_at N.value) rooms.now))) }
-    ensures cause { IfErr result (StopsBy N.value (IsFarkasPair market.now (all_duals (N.value energy) (map (dual_at N.value) limits.now) (N.value price) (map (room_dual_at N.value) rooms.now)) N.bound)) }
+    ensures first { IfOk result (λ first. first ≡ bound_reason market.now (duals_with (N.value energy) (map (dual_at N.value) limits.now) (N.value price) (map (room_dual_at N.value) rooms.now))) }
+    ensures cause { IfErr result (StopsBy N.value (IsFarkasPair market.now (duals_with (N.value energy) (map (dual_at N.value) limits.now) (N.value price) (map (room_dual_at N.value) rooms.now)) N.bound)) }
 {
     let (rows, named) = named_parts(alloc, market, limits, rooms)?;
     let bound = farkas_bound(alloc, market, energy, rows.slice(), price, named.slice())?;
@@ -277,8 +276,8 @@ pub(crate) fn against_farkas<N: Exact>(
     rooms: &[RoomDual<N>],
 ) -> Result<Option<Reason>, Stop<N>>
     requires { NamesNoRowTwice (map (dual_at N.value) limits.now) }
-    ensures first { IfOk result (λ first. first ≡ first_of (farkas_reasons market.now (all_duals (N.value energy) (map (dual_at N.value) limits.now) (N.value price) (map (room_dual_at N.value) rooms.now)))) }
-    ensures cause { IfErr result (StopsBy N.value (IsFarkasStop market.now (all_duals (N.value energy) (map (dual_at N.value) limits.now) (N.value price) (map (room_dual_at N.value) rooms.now)) N.bound)) }
+    ensures first { IfOk result (λ first. first ≡ first_of (farkas_reasons market.now (duals_with (N.value energy) (map (dual_at N.value) limits.now) (N.value price) (map (room_dual_at N.value) rooms.now)))) }
+    ensures cause { IfErr result (StopsBy N.value (IsFarkasStop market.now (duals_with (N.value energy) (map (dual_at N.value) limits.now) (N.value price) (map (room_dual_at N.value) rooms.now)) N.bound)) }
 {
     if let Some(reason) = wrong_dual(market, limits, price, rooms) {
         return Ok(Some(reason));

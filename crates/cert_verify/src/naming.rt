@@ -4,11 +4,10 @@ ghost use Rattle.std.specs.Prelude.{◌≡◌, ◌<◌, List, [], ◌∷◌, ◌
 ghost use Rattle.std.specs.Map.{lookup};
 ghost use Rattle.fraction_theory.specs.Fraction.{Fraction};
 ghost use Rattle.market_model.specs.declared.answered.RoomDual.{RoomDual};
-ghost use Rattle.market_model.specs.Valued.{dual_at};
+ghost use Rattle.market_model.specs.Valued.{dual_at, duals_with};
 ghost use Rattle.market_model.specs.LimitRows.{IsCauseOf};
 ghost use Rattle.cert_format.specs.Certificates.{NamesNoRowTwice, name_of, same_triple};
 ghost use Rattle.cert_sums.specs.Named.{AreNamed};
-ghost use Rattle.cert_verify.specs.Certificates.{all_duals};
 ghost use Rattle.cert_verify.specs.Naming.{IsNamedAt, entry_of};
 
 use cert_sums::NamedRow;
@@ -64,7 +63,7 @@ pub(crate) fn named_at<N: Exact>(
 ) -> Option<NamedRow<N>>
     requires line { row.line < length market.now.lines }
     requires lost { IsCauseOf market.now row.cause }
-    ensures { (ds : List (Dual N)) (energy price : Fraction) (rooms : List (RoomDual Fraction)) → duals.now.entries ≡ map entry_of ds → IsNamedAt N.value market.now (all_duals energy (map (dual_at N.value) ds) price rooms) row result }
+    ensures { (ds : List (Dual N)) (energy price : Fraction) (rooms : List (RoomDual Fraction)) → duals.now.entries ≡ map entry_of ds → IsNamedAt N.value market.now (duals_with energy (map (dual_at N.value) ds) price rooms) row result }
 {
     match dual_of(duals, name_at(market, row)) {
         Some(dual) => Some(NamedRow {
@@ -83,7 +82,7 @@ pub(crate) fn named_rows<N: Exact>(
     limits: &[Dual<N>],
 ) -> Result<List<NamedRow<N>>, Memory>
     requires { NamesNoRowTwice (map (dual_at N.value) limits.now) }
-    ensures { IfOk result (λ named. (energy price : Fraction) (rooms : List (RoomDual Fraction)) → AreNamed N.value market.now (all_duals energy (map (dual_at N.value) limits.now) price rooms) named) }
+    ensures { IfOk result (λ named. (energy price : Fraction) (rooms : List (RoomDual Fraction)) → AreNamed N.value market.now (duals_with energy (map (dual_at N.value) limits.now) price rooms) named) }
 {
     let duals = by_name(alloc, limits)?;
     let mut named = List::new(alloc);

@@ -20,7 +20,7 @@ use Rattle.market_model.specs.Dispatch.{places, zero, balance, empty, quantity, 
 use Rattle.market_model.specs.Infeasibility.{block_most, block_weight, energy_left_terms, farkas_bound, farkas_terms, limit_terms, need_terms, nothing_terms, offer_most, offer_weight, reserve_left_terms}
 use Rattle.market_model.specs.LimitRows.{flow, most_flow, row_id, rows}
 use Rattle.market_model.specs.Market.{IsMarket}
-use Rattle.market_model.specs.NamedSums.{IsRefusal, IsRefusedIn, IsShareRefusal}
+use Rattle.market_model.specs.NamedSums.{IsRefusal, IsRefusedIn, IsShareRefusal, IsMarginRefusal}
 use Rattle.market_model.specs.Optimality.{down_of, named_rows, names_row, own_price, reserve_worth_terms, room_price, room_price_in, unit_price, up_of, worth_terms, ArePricesOf}
 use Rattle.market_model.specs.Reserves.{offer_places, offers_reserve, reserve_need, reserve_units, room}
 use Rattle.market_model.specs.SumTables.{IsPickupRefusal, IsRefusedAmong, IsRefusedInBusPrices, IsRefusedInPrices, OwnPriceSum, energy_of_unit, factor_of_pickup, farkas_bound_of_all, flow_in_limits, limited_row, own_price_of_unit, price_of_bus, price_of_unit, reserve_of_unit, factor_of_bus}
@@ -32,15 +32,15 @@ use Rattle.market_model.proofs.SumSteps.{product_at, share_at, terms_at, tested_
 use Rattle.limit_rows.proofs.DualLemmas.{IsRowOfDual, sum_named, filter_at}
 use Rattle.market_model.proofs.UnitPrices.{at_unit, own_at}
 use Rattle.limit_rows.proofs.NamedLimits.{energy_left-by_named, limit_unnamed}
-use Rattle.clear_loop.specs.Bounding.{IsBoundRefusal, IsRowStepRefusal, IsSideRefusal, in_bound, in_factor, in_flow, in_lower, in_most, in_price, in_row_flow, in_row_most, in_upper, in_worth, of_lower, of_most, of_upper}
+use Rattle.clear_loop.specs.Bounding.{IsBoundRefusal, IsRowStepRefusal, in_bound, in_flow, in_lower, in_most, in_row_flow, in_row_most, in_upper, in_worth, of_lower, of_most, of_upper, in_prices}
 
 -- ---- limit by limit
 -- the lower side, by the flow turned round
 pub lower_side : (m : Parts) (r : Row) (up down sum above l f g : Fraction) (bound : ℕ) (p : Passed Fraction) → above ≡ sum +ℚ up *ℚ (l -ℚ f) → l ≡ most_flow m r → f ≡ flow m (empty m) r → g ≡ neg_ℚ f
-    → IsSideRefusal above down l g bound p → IsRowStepRefusal m r up down sum bound p
+    → IsMarginRefusal above down l g bound p → IsRowStepRefusal m r up down sum bound p
 lower_side m r up down sum above l f g bound p first is flows turned h =
     in_lower
-    (subst₂ (λ a b. IsSideRefusal (sum +ℚ up *ℚ (a -ℚ b)) down a (neg_ℚ b) bound p) is flows (subst₂ (λ a b. IsSideRefusal a down l b bound p) first turned h))
+    (subst₂ (λ a b. IsMarginRefusal (sum +ℚ up *ℚ (a -ℚ b)) down a (neg_ℚ b) bound p) is flows (subst₂ (λ a b. IsMarginRefusal a down l b bound p) first turned h))
 
 -- the room of a unit that offers no reserve takes nothing
 pub no_room_price : (m : Parts) (d : Duals Fraction) (u : ℕ) (x : Fraction) → offers_reserve m u ≡ false → x ≡ x -ℚ room_price m d u
@@ -157,7 +157,7 @@ module _ (m : Parts) (d : Duals Fraction) where
       added : IsRefusedIn (farkas_terms m d) bound p → IsBoundRefusal m d bound p
       added why = in_bound (_, farkas_bound_of_all, why)
 
-      upper_refused : IsSideRefusal sum e.up (most_flow m r) (flow m (empty m) r) bound p → IsBoundRefusal m d bound p
+      upper_refused : IsMarginRefusal sum e.up (most_flow m r) (flow m (empty m) r) bound p → IsBoundRefusal m d bound p
       upper_refused (inl c) = in_most r named_here (of_upper c)
       upper_refused (inr c) = added (share_at (farkas_terms m d) front (below ∷ rest) above split bound p sum e.up room_above (ap (λ u. Product u room_above) h.up) sum_is c)
 
@@ -172,14 +172,14 @@ module _ (m : Parts) (d : Duals Fraction) where
       turned_back : most_flow m r -ℚ neg_ℚ (flow m (empty m) r) ≡ room_below
       turned_back = by_ring ring_ℚ (most_flow m r ∷ flow m (empty m) r ∷ []) (at 0 ⊕ pneg (pneg (at 1))) (at 0 ⊕ at 1) refl
 
-      lower_refused : IsSideRefusal (sum +ℚ e.up *ℚ room_above) e.down (most_flow m r) (neg_ℚ (flow m (empty m) r)) bound p → IsBoundRefusal m d bound p
+      lower_refused : IsMarginRefusal (sum +ℚ e.up *ℚ room_above) e.down (most_flow m r) (neg_ℚ (flow m (empty m) r)) bound p → IsBoundRefusal m d bound p
       lower_refused (inl c) = in_most r named_here (of_lower c)
       lower_refused (inr c) = added
           (share_at (farkas_terms m d) (front ++ above ∷ []) rest below second bound p (sum +ℚ e.up *ℚ room_above) e.down (most_flow m r -ℚ neg_ℚ (flow m (empty m) r)) (ap₂ Product h.down (sym turned_back)) with_above c)
 
       pub limit_refused : IsRowStepRefusal m r e.up e.down sum bound p → IsBoundRefusal m d bound p
       limit_refused (in_row_flow (inl (terms, part, c))) = in_flow (terms, flow_in_limits terms (limited_row r terms h.row part), c)
-      limit_refused (in_row_flow (inr (terms, part, c))) = in_factor (r, named_here, (terms, factor_of_pickup terms part, c))
+      limit_refused (in_row_flow (inr (terms, part, c))) = in_prices (inr (r, named_here, (terms, factor_of_pickup terms part, c)))
       limit_refused (in_row_most c) = in_most r named_here (of_most c)
       limit_refused (in_upper c) = upper_refused c
       limit_refused (in_lower c) = lower_refused c
@@ -318,9 +318,3 @@ module _ (m : Parts) (d : Duals Fraction) where
               bound p sum (part_above weight) mw (ap₂ (λ w q. Product (part_above w) q) (sym weighs) (sym is))
               (before ∙ sym (total-append before_offers (map (offer_most m d) (places k)))) why,
         )
-
--- ---- what is refused in prices
-module _ (m : Parts) (d : Duals Fraction) (bound : ℕ) (p : Passed Fraction) where
-  pub prices_refused : IsRefusedInPrices m d bound p → IsBoundRefusal m d bound p
-  prices_refused (inl why) = in_price why
-  prices_refused (inr why) = in_factor why

@@ -32,7 +32,6 @@ use Rattle.limit_rows.proofs.ApartLemmas.{names_apart}
 use Rattle.limit_screen.proofs.ScreenLemmas.{flow_refusal_same, row_terms}
 use Rattle.limit_screen.specs.Flows.{carried_at, flows_at, IsFlowsRefusal}
 use Rattle.market_model.proofs.UnitPrices.{at_unit, left_at, own_at}
-use Rattle.settlement.specs.Paying.{ArePricesOf}
 use Rattle.limit_rows.specs.Refusals.{IsAnyFlowRefusal}
 use Rattle.settlement.specs.Refusals.{IsMoneyRefusal, IsWelfareRefusal}
 use Rattle.market_dict.specs.Findings.{IsSolvedBy}

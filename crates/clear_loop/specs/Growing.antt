@@ -1,9 +1,8 @@
 -- How what is taken of a market grows, limits and rooms alike: one by one, each because a best dispatch for those before it passes it.
 use Rattle.std.specs.Prelude.{◌≡◌, List, [], ◌∷◌, ◌++◌, Contains}
-use Rattle.fraction_theory.specs.Order.{◌<ℚ◌}
 use Rattle.market_model.specs.declared.participants.Parts.{Parts}
 use Rattle.market_model.specs.Dispatch.{Dispatch}
-use Rattle.market_model.specs.Reserves.{room, room_used}
+use Rattle.market_model.specs.Reserves.{room, IsRoomPassed}
 use Rattle.market_model.specs.Optimality.{BestFor}
 use Rattle.market_system.specs.Growth.{Broken}
 use Rattle.market_dict.specs.Takings.{IsTaking, limits_of, rooms_of, taken_of}
@@ -18,7 +17,7 @@ IsNew ts (taking.Room u) = ¬ (Contains (rooms_of ts) u)
 -- a dispatch passes it
 abbrev pub IsPassedTaking : Parts → Dispatch → Taking → Type 0
 IsPassedTaking m x (taking.Limit r) = Broken m x r
-IsPassedTaking m x (taking.Room u) = room m u <ℚ room_used m x u
+IsPassedTaking m x (taking.Room u) = IsRoomPassed m x u
 
 -- what is taken with one limit or room more of the market behind, which is not among it, and which a best dispatch for it passes
 abbrev pub GrowsByOne : Parts → List Taking → List Taking → Type 0

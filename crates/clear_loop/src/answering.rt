@@ -1,10 +1,10 @@
 //! The answer of a dispatch and duals.
 
-ghost use Rattle.std.specs.Prelude.{◌≡◌, List, length, map, IfOk, IfErr};
-ghost use Rattle.market_model.specs.Dispatch.{dispatch_with, places};
+ghost use Rattle.std.specs.Prelude.{◌≡◌, List, map, IfOk, IfErr};
+ghost use Rattle.market_model.specs.Dispatch.{dispatch_with};
 ghost use Rattle.market_model.specs.Fitting.{FitsMarket};
 ghost use Rattle.market_model.specs.Optimality.{ProperDuals};
-ghost use Rattle.market_model.specs.RightAnswers.{IsRight, price_made};
+ghost use Rattle.market_model.specs.RightAnswers.{IsRight, prices_made};
 ghost use Rattle.market_model.specs.Stops.{StopsBy};
 ghost use Rattle.market_model.specs.SumTables.{IsRefusedInPrices};
 ghost use Rattle.market_model.specs.Valued.{answer_at, duals_at, price_at};
@@ -27,7 +27,7 @@ pub(crate) fn bus_prices<N: Exact>(
     duals: &Duals<N>,
 ) -> Result<List<Price<N>>, Stop<N>>
     requires { ProperDuals market.now (duals_at N.value duals.now) }
-    ensures prices { IfOk result (λ prices. map (price_at N.value) prices ≡ map (price_made market.now (duals_at N.value duals.now)) (places (length market.now.buses))) }
+    ensures prices { IfOk result (λ prices. map (price_at N.value) prices ≡ prices_made market.now (duals_at N.value duals.now)) }
     ensures cause { IfErr result (StopsBy N.value (IsRefusedInPrices market.now (duals_at N.value duals.now) N.bound)) }
 {
     let none: N = datum(0);

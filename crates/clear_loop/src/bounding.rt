@@ -11,8 +11,9 @@ ghost use Rattle.market_model.specs.LimitRows.{rows};
 ghost use Rattle.market_model.specs.Optimality.{ProperDuals, down_of, unit_price, up_of};
 ghost use Rattle.market_model.specs.Stops.{StopsBy};
 ghost use Rattle.market_model.specs.Valued.{duals_at, passed_at};
+ghost use Rattle.market_model.specs.NamedSums.{IsMarginRefusal};
 ghost use Rattle.limit_screen.specs.Flows.{flows_at};
-ghost use Rattle.clear_loop.specs.Bounding.{IsBoundRefusal, IsRowStepRefusal, IsSideRefusal};
+ghost use Rattle.clear_loop.specs.Bounding.{IsBoundRefusal, IsRowStepRefusal};
 
 use crate::bounding_reserve::{with_need, with_offers, with_rooms};
 use crate::worths::{unit_prices, with_blocks};
@@ -25,7 +26,7 @@ use std::alloc::Global;
 /// A sum with what a price makes of what a flow leaves of the most that it may be. A price of 0 makes nothing.
 fn with_side<N: Exact>(sum: N, price: N, most: N, flow: N) -> Result<N, Passed<N>>
     ensures sum { IfOk result (λ more. N.value more ≡ N.value sum +ℚ N.value price *ℚ (N.value most -ℚ N.value flow)) }
-    ensures cause { IfErr result (λ passed. IsSideRefusal (N.value sum) (N.value price) (N.value most) (N.value flow) N.bound (passed_at N.value passed)) }
+    ensures cause { IfErr result (λ passed. IsMarginRefusal (N.value sum) (N.value price) (N.value most) (N.value flow) N.bound (passed_at N.value passed)) }
 {
     if price.sign() == Sign::Zero {
         return Ok(sum);

@@ -5,7 +5,7 @@ ghost use Rattle.fraction_theory.specs.Fraction.{over, ◌+ℚ◌, ◌*ℚ◌};
 ghost use Rattle.market_data.specs.Scales.{factor_one, most_factor};
 ghost use Rattle.market_model.specs.declared.limits.Cause.TheVariants as cause;
 ghost use Rattle.market_model.specs.Dispatch.{places};
-ghost use Rattle.market_model.specs.LimitRows.{IsCauseOf, flow_by, line_flow, line_offset, line_terms, lost_output, offset_terms, row_offset};
+ghost use Rattle.market_model.specs.LimitRows.{IsCauseOf, flow_by, line_flow, line_offset, line_terms, lost_output, offset_terms, row_offset, line_flows_by};
 ghost use Rattle.market_model.specs.NamedSums.{IsRefusedIn, IsShareRefusal};
 ghost use Rattle.market_model.specs.PutIn.{carried_in, dispatch_of, put_in};
 ghost use Rattle.market_model.specs.SumTables.{IsFlowRefusal, IsRefusedAmong, LineFlowSum, LostOutputSum};
@@ -83,7 +83,7 @@ pub fn put_line_flows<N: Exact>(
     requires injections { length injections.now ≡ length market.now.buses }
     requires out { length out.old ≡ length market.now.lines }
     ensures count { length out.new ≡ length out.old }
-    ensures flows { IfOk result (λ _. map N.value out.new ≡ map (line_flow market.now (put_in (map N.value injections.now))) (places (length market.now.lines))) }
+    ensures flows { IfOk result (λ _. map N.value out.new ≡ line_flows_by market.now (put_in (map N.value injections.now))) }
     ensures cause { IfErr result (λ passed. IsRefusedAmong (LineFlowSum market.now (put_in (map N.value injections.now))) N.bound (passed_at N.value passed)) }
 {
     let _buses = market.buses();

@@ -5,7 +5,7 @@ use Rattle.fraction_theory.specs.Fraction.{Fraction, ◌-ℚ◌}
 use Rattle.fraction_theory.specs.Order.{◌<ℚ◌, ◌≤ℚ◌}
 use Rattle.market_model.specs.declared.participants.Parts.{Parts}
 use Rattle.market_model.specs.Dispatch.{Dispatch, unit_at}
-use Rattle.market_model.specs.Reserves.{reserve_units, room, room_used, KeepRooms}
+use Rattle.market_model.specs.Reserves.{reserve_units, room, room_used, KeepRooms, IsRoomPassed}
 use Rattle.limit_screen.specs.declared.sharing.RoomOverrun.{RoomOverrun}
 
 -- by how much a unit uses more than its room; at most 0 where it keeps that
@@ -20,7 +20,7 @@ AllKeepRooms m x = KeepRooms m (reserve_units m) x
 pub record IsWorstRoomBefore (m : Parts) (x : Dispatch) (place u : ℕ) : Type 0 where
   pub before : u < place
   pub offers : Contains (reserve_units m) u
-  pub passed : room m u <ℚ room_used m x u
+  pub passed : IsRoomPassed m x u
   pub most : (v : ℕ) → v < place → Contains (reserve_units m) v → room_overrun m x v ≤ℚ room_overrun m x u
   pub first : (v : ℕ) → v < u → Contains (reserve_units m) v → room_overrun m x v <ℚ room_overrun m x u
 

@@ -8,7 +8,7 @@ use Rattle.exact_fraction.specs.declared.Passed.{Passed}
 use Rattle.market_model.specs.declared.participants.Parts.{Parts}
 use Rattle.market_model.specs.Dispatch.{dispatch_with, injection, output, places}
 use Rattle.market_model.specs.LimitRows.{line_flow, lost_output}
-use Rattle.market_model.specs.SumTables.{CarriedSum, InjectionSum, LineFlowSum, LostOutputSum, carried_by_unit, carried_from_bus, carried_on_line, injection_at, output_of_lost}
+use Rattle.market_model.specs.SumTables.{InjectionSum, LineFlowSum, LostOutputSum, carried_by_unit, carried_on_line, injection_at, output_of_lost, NetworkSum, put_in_at_bus, carried_by_network}
 use Rattle.limit_screen.specs.Flows.{flows_at, IsFlowsRefusal}
 
 module _ (m : Parts) (xs rs qs : List Fraction) where
@@ -30,10 +30,10 @@ module _ (m : Parts) (xs rs qs : List Fraction) where
   by_lost : (terms : List Term) → LostOutputSum m (dispatch_with xs rs) terms → LostOutputSum m (dispatch_with xs qs) terms
   by_lost _ (output_of_lost k h) = output_of_lost k h
 
-  carried_same : (terms : List Term) → CarriedSum m (dispatch_with xs rs) terms → CarriedSum m (dispatch_with xs qs) terms
-  carried_same terms (carried_from_bus _ s) = carried_from_bus terms (by_bus terms s)
-  carried_same terms (carried_on_line _ s) = carried_on_line terms (subst (λ (p : ℕ → Fraction). LineFlowSum m p terms) injection_same s)
-  carried_same terms (carried_by_unit _ s) = carried_by_unit terms (by_lost terms s)
+  carried_same : (terms : List Term) → NetworkSum m (dispatch_with xs rs) terms → NetworkSum m (dispatch_with xs qs) terms
+  carried_same terms (put_in_at_bus _ s) = put_in_at_bus terms (by_bus terms s)
+  carried_same terms (carried_by_network _ (carried_on_line _ s)) = carried_by_network terms (carried_on_line terms (subst (λ (p : ℕ → Fraction). LineFlowSum m p terms) injection_same s))
+  carried_same terms (carried_by_network _ (carried_by_unit _ s)) = carried_by_network terms (carried_by_unit terms (by_lost terms s))
 
   pub flows_refused_same : (bound : ℕ) (p : Passed Fraction) → IsFlowsRefusal m (dispatch_with xs rs) bound p → IsFlowsRefusal m (dispatch_with xs qs) bound p
   flows_refused_same bound p (terms, s, why) = (terms, carried_same terms s, why)

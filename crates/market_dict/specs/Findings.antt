@@ -1,7 +1,6 @@
 -- What a market comes to over some of its limits and rooms.
-use Rattle.std.specs.Prelude.{◌≡◌, ℕ, false, List, map}
+use Rattle.std.specs.Prelude.{◌≡◌, ℕ, List, map}
 use Rattle.fraction_theory.specs.Fraction.{Fraction}
-use Rattle.fraction_theory.specs.Order.{◌≤ℚ◌}
 use Rattle.linear_system.specs.Choices.{Choice, IsChoice}
 use Rattle.linear_dict.specs.Causes.{IsPairOf}
 use Rattle.linear_dict.specs.Dictionaries.{choice_of}
@@ -10,13 +9,12 @@ use Rattle.market_model.specs.declared.participants.Parts.{Parts}
 use Rattle.market_model.specs.declared.stops.Stop.{Stop}
 use Rattle.market_model.specs.declared.answered.Duals.{Duals}
 use Rattle.market_model.specs.Dispatch.{Dispatch, dispatch_with}
-use Rattle.market_model.specs.Infeasibility.{farkas_bound}
 use Rattle.market_model.specs.Optimality.{ProperDuals}
 use Rattle.market_model.specs.Stops.{OnPassed}
 use Rattle.market_model.specs.Valued.{duals_at}
 use Rattle.market_system.specs.MarketNumbers.{IsFarkasOf}
 use Rattle.market_system.specs.MarketSystem.{system_of, choice_dispatch, choice_duals}
-use Rattle.market_system.specs.SolvedLaws.{AnswersBy}
+use Rattle.market_system.specs.SolvedLaws.{AnswersBy, HasMargin}
 use Rattle.market_dict.specs.Holding.{HoldsMarket, HoldsSystem}
 use Rattle.market_dict.specs.Takings.{taken_of}
 use Rattle.market_dict.specs.declared.solving.Found.{Found}
@@ -31,15 +29,14 @@ pub record IsSolvedBy (m : Parts) (ts : List Taking) (x : Dispatch) (d : Duals F
   pub duals : d ≡ choice_duals m (taken_of ts) choice
   pub answers : AnswersBy m (taken_of ts) choice
 
--- The duals are those of a variable that is stuck at a choice: they show that no dispatch of the market is feasible. Their bound is at most
--- the margin, which is what the variable leaves of the bound that it violates, and in a market of energy alone it is just that.
+-- The duals are those of a variable that is stuck at a choice: they show that no dispatch of the market is feasible. The margin is what the
+-- variable leaves of the bound that it violates.
 pub record IsStuckBy (m : Parts) (ts : List Taking) (d : Duals Fraction) (margin : Fraction) : Type 0 where
   pub choice : Choice
   pub is_choice : IsChoice (system_of m (taken_of ts)) choice
   pub shows : IsFarkasOf m (taken_of ts) choice d
   pub proper : ProperDuals m d
-  pub most : farkas_bound m d ≤ℚ margin
-  pub energy_alone : m.reserve.listed ≡ false → farkas_bound m d ≡ margin
+  pub leaves : HasMargin m d margin
 
 -- a dictionary that holds the market over these limits and rooms and a best dispatch for them, which the duals of its choice support; or one
 -- that still holds it, and duals that show that no dispatch of the market is feasible

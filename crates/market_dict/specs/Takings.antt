@@ -9,7 +9,7 @@ use Rattle.market_model.specs.Optimality.{Taken}
 use Rattle.market_model.specs.Reserves.{reserve_units}
 use Rattle.market_system.specs.declared.variables.Variable.{Variable}
 use Rattle.market_system.specs.declared.variables.Variable.TheVariants as variable
-use Rattle.market_system.specs.MarketSystem.{block_columns, excess_columns, offer_columns}
+use Rattle.market_system.specs.MarketSystem.{block_columns, excess_columns, offer_columns, need_row}
 use Rattle.market_system.specs.SolvedLaws.{AreTaken}
 use Rattle.market_dict.specs.declared.taking.Taking.{Taking}
 use Rattle.market_dict.specs.declared.taking.Taking.TheVariants.{Limit, Room}
@@ -45,7 +45,7 @@ columns_put m ts = block_columns m ++ offer_columns m ++ excess_columns m (limit
 
 -- the rows that it has before anything is taken: the balance, and the need where reserve is cleared
 abbrev pub first_rows : Parts → List Variable
-first_rows m = variable.Balance ∷ (if m.reserve.listed then variable.Need ∷ [] else [])
+first_rows m = variable.Balance ∷ need_row m
 
 -- the row of what is taken
 abbrev pub row_of : Taking → Variable

@@ -34,8 +34,7 @@ law_of_the_stuck m t h b above market all choice stuck =
         proper = stuck_proper m names market t h choice b above stuck;
         bound = refl;
       };
-      bound = stuck_bound m names market t h choice b above stuck;
-      energy_bound = stuck_bound_alone m names market t h choice b above stuck;
+      leaves = record { most = stuck_bound m names market t h choice b above stuck; energy_alone = stuck_bound_alone m names market t h choice b above stuck };
       of_choice = stuck_of_choice m names market t h choice b above stuck all;
     }
 

@@ -37,7 +37,7 @@ use Rattle.market_model.specs.LimitRows.{rows, row_id, loses_unit, lost_unit, ro
 use Rattle.market_model.specs.Optimality.{Taken, bus_price, block_value, energy_worth, congestion_terms, names_row, named_rows, own_price, own_terms, price_terms, net_shadow_price, penalty_terms, unit_price, block_value_terms, welfare_terms}
 use Rattle.market_model.specs.Reserves.{no_reserve, reserved_term}
 use Rattle.market_model.specs.Settlement.{surplus_terms}
-use Rattle.market_model.specs.SumTables.{injection_at, balance_from_bus, balance_of_all, flow_of_line, limited_line, limited_row, output_of_lost, limited_unit, FlowSum, flow_in_balance, flow_in_limits, output_of_unit, BusPriceSum, own_price_of_unit, PriceSum, price_of_bus, price_of_unit, congestion_at, price_at, ReserveSum, reserve_of_all, reserve_in_room, used_of_room, WorthSum, energy_of_unit, reserve_of_unit, farkas_bound_of_all, left_of_all, paid_by_load, paid_to_unit, rent_of_row, paid_for_reserve, SettledSum, paid_output, paid_price, demand_of_bus, payment, paid_row, reserve_accepted, welfare_of_all}
+use Rattle.market_model.specs.SumTables.{injection_at, balance_from_bus, balance_of_all, flow_of_line, limited_row, output_of_lost, FlowSum, flow_in_balance, flow_in_limits, output_of_unit, BusPriceSum, own_price_of_unit, PriceSum, price_of_bus, price_of_unit, congestion_at, price_at, ReserveSum, reserve_of_all, reserve_in_room, used_of_room, WorthSum, energy_of_unit, reserve_of_unit, farkas_bound_of_all, left_of_all, paid_by_load, paid_to_unit, rent_of_row, paid_for_reserve, SettledSum, paid_output, paid_price, demand_of_bus, payment, paid_row, reserve_accepted, welfare_of_all, carried_on_line, carried_by_unit, limited_by_carried}
 use Rattle.market_model.proofs.EnergyAlone.{no_offers, no_places, not_listed, no_units, no_unit, no_need, worth_is_price, welfare_alone}
 use Rattle.market_model.proofs.FarkasLaw.{farkas_terms-bare}
 use Rattle.market_model.proofs.RowLaws.{no_rows, no_row, bus_price-bare, congestion-bare, unit_price-bare}
@@ -193,8 +193,8 @@ module _ (m : Parts) (market : IsMarket m) (lines : m.lines ≡ []) (energy : m.
     flow_sum_within : (x : Dispatch) (k : ℕ) (terms : List Term) → IsInjecting m g h x → FlowSum m x terms → IsWholeWithin most_value (prefix k terms)
     flow_sum_within x k terms j (flow_in_balance same (balance_from_bus also (injection_at i lt))) = wider most_injection most_value (prefix k terms) (Prim.omega arith) (injection_within m market modest x (injecting_small x j) i k lt)
     flow_sum_within x k terms j (flow_in_balance same balance_of_all) = wider most_balance most_value (prefix k terms) (Prim.omega arith) (balance_within m market modest x (injecting_small x j) k)
-    flow_sum_within x k terms j (flow_in_limits same (limited_line also (flow_of_line l lt))) = absurd (no_line l lt)
-    flow_sum_within x k terms j (flow_in_limits same (limited_unit also (output_of_lost o lt))) =
+    flow_sum_within x k terms j (flow_in_limits same (limited_by_carried also (carried_on_line too (flow_of_line l lt)))) = absurd (no_line l lt)
+    flow_sum_within x k terms j (flow_in_limits same (limited_by_carried also (carried_by_unit too (output_of_lost o lt)))) =
         wider most_output most_value (prefix k terms) (Prim.omega arith) (output_terms_within m market modest x (injecting_small x j) (lost_unit m o) k (lost_unit-in m market o lt))
     flow_sum_within x k terms j (flow_in_limits same (limited_row r also c part)) = absurd (no_row m r bare c)
 

@@ -40,7 +40,7 @@ use Rattle.market_model.specs.NamedSums.{SameSize, term_at, IsNextTerm, IsSumSte
 use Rattle.market_model.specs.Optimality.{Taken, net_shadow_price, up_of, down_of, bus_price, own_terms, unit_price, room_price, room_price_in, worth_terms, energy_worth, reserve_worth_terms, reserve_worth}
 use Rattle.market_model.specs.Reserves.{offers_among, offers_reserve, offer_places, offers_of, reserve_need, reserve_units, reserved_term, room}
 use Rattle.market_model.specs.Infeasibility.{block_most, block_weight, offer_most, offer_weight, limit_terms, reserve_left_terms, nothing_terms, farkas_terms}
-use Rattle.market_model.specs.SumTables.{injection_at, balance_from_bus, balance_of_all, flow_of_line, flow_of_row, output_of_lost, limited_line, limited_unit, limited_row, FlowSum, flow_in_balance, flow_in_limits, offset_of_row, pickup_of_row, factor_at_bus, factor_of_pickup, output_of_unit, BusPriceSum, own_price_of_unit, PickupSum, PriceSum, price_of_bus, price_of_unit, congestion_at, price_at, ReserveSum, reserve_of_all, reserve_in_room, used_of_room, WorthSum, energy_of_unit, reserve_of_unit, farkas_bound_of_all, factor_of_bus, reserve_accepted}
+use Rattle.market_model.specs.SumTables.{injection_at, balance_from_bus, balance_of_all, flow_of_line, flow_of_row, output_of_lost, limited_row, FlowSum, flow_in_balance, flow_in_limits, offset_of_row, pickup_of_row, factor_at_bus, factor_of_pickup, output_of_unit, BusPriceSum, own_price_of_unit, PickupSum, PriceSum, price_of_bus, price_of_unit, congestion_at, price_at, ReserveSum, reserve_of_all, reserve_in_room, used_of_room, WorthSum, energy_of_unit, reserve_of_unit, farkas_bound_of_all, factor_of_bus, reserve_accepted, carried_on_line, carried_by_unit, limited_by_carried}
 use Rattle.market_model.proofs.MarketSums.{block_unit-in, unit_bus-in}
 use Rattle.market_model.proofs.ReserveSums.{offer_unit-in}
 use Rattle.market_model.proofs.RoomLemmas.{listed-inside, offers-listed}
@@ -356,14 +356,14 @@ module _ (m : Parts) (taken : List Row) (g : Taken) (reached : Growth m taken g.
 
     lined : (l : ℕ) → l < length m.lines → Number Quantity (line_flow m (injection m x) l)
     unfolding line_flow
-    lined l lt = whole_sum Quantity (line_terms m (injection m x) l) (of_flow x (line_terms m (injection m x) l) injecting (flow_in_limits _ (limited_line _ (flow_of_line l lt))))
+    lined l lt = whole_sum Quantity (line_terms m (injection m x) l) (of_flow x (line_terms m (injection m x) l) injecting (flow_in_limits _ (limited_by_carried _ (carried_on_line _ (flow_of_line l lt)))))
 
     pub row_flow_number : (r : Row) → Contains (rows m) r → Number Quantity (flow m x r)
     row_flow_number r c = whole_sum Quantity (flow_terms m (carried m x) r) (of_flow x (flow_terms m (carried m x) r) injecting (flow_in_limits _ (limited_row r _ c flow_of_row)))
 
     lost_number : (k : ℕ) → k < length m.unit_outages → Number Quantity (lost_output m x k)
     unfolding output
-    lost_number k lt = whole_sum Quantity (output_terms m x (lost_unit m k)) (of_flow x (output_terms m x (lost_unit m k)) injecting (flow_in_limits _ (limited_unit _ (output_of_lost k lt))))
+    lost_number k lt = whole_sum Quantity (output_terms m x (lost_unit m k)) (of_flow x (output_terms m x (lost_unit m k)) injecting (flow_in_limits _ (limited_by_carried _ (carried_by_unit _ (output_of_lost k lt)))))
 
     -- what is picked up of the output that a row's cause loses
     picked_up_scaled : (r : Row) → Contains (rows m) r → AreScaled Quantity (picked_up_terms m (lost_output m x) r.line r.cause)
@@ -385,13 +385,13 @@ module _ (m : Parts) (taken : List Row) (g : Taken) (reached : Growth m taken g.
         (scaled_map Quantity (fixed_term m) (units_at m i) (λ u c. tt))
         (scaled_map Quantity (block_term m x) (blocks_at m i) (λ j c. tt)))
         (tt, (tt, tt))
-    flows_scaled terms (flow_in_limits same (limited_line also (flow_of_line l lt))) = (
+    flows_scaled terms (flow_in_limits same (limited_by_carried also (carried_on_line too (flow_of_line l lt)))) = (
       tt,
       scaled_map Quantity (λ i. Product (shift_factor m l i) (injection m x i)) (places (length m.buses))
           (λ i c. let inside = below (length m.buses) i c in inl (is_shift l i lt inside, alone (injection m x i) (injected i inside))),
     )
     flows_scaled terms (flow_in_balance same balance_of_all) = scaled_map Quantity (λ i. Plain (injection m x i)) (places (length m.buses)) (λ i c. tt)
-    flows_scaled terms (flow_in_limits same (limited_unit also (output_of_lost k lt))) = (tt, scaled_map Quantity (block_term m x) (blocks_of m (lost_unit m k)) (λ j c. tt))
+    flows_scaled terms (flow_in_limits same (limited_by_carried also (carried_by_unit too (output_of_lost k lt)))) = (tt, scaled_map Quantity (block_term m x) (blocks_of m (lost_unit m k)) (λ j c. tt))
     flows_scaled terms (flow_in_limits same (limited_row r also c flow_of_row)) =
         let s = at_places m market r c in
         scaled_append Quantity (terms_under m (line_flow m (injection m x)) r.line r.cause) (picked_up_terms m (lost_output m x) r.line r.cause)

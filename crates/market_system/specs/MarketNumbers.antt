@@ -18,7 +18,7 @@ use Rattle.market_model.specs.LimitRows.{rows, limit, most_flow, shift_factor, l
 use Rattle.market_model.specs.Optimality.{Taken, Feasible, Supports, up_of, down_of, net_shadow_price, room_price, bus_price, BestFor}
 use Rattle.market_model.specs.Reserves.{reserve_need, reserve_units}
 use Rattle.market_model.specs.Infeasibility.{ShowsInfeasible}
-use Rattle.market_system.specs.MarketSystem.{balance_name, need_name, room_name, row_name, system_of, choice_dispatch, choice_duals}
+use Rattle.market_system.specs.MarketSystem.{balance_name, room_name, row_name, system_of, choice_dispatch, choice_duals, reserve_price_by}
 use Rattle.market_system.specs.Growth.{PricesOnly}
 use Rattle.market_model.specs.NamedSums.{SameSize}
 use Rattle.market_model.specs.SumTables.{FlowSum, OffsetSum, FactorSum, OutputSum, PriceSum, BoundSum, ReserveSum, SettledSum, WorthSum, WelfareSum}
@@ -32,6 +32,10 @@ pub record IsRightChoice (m : Parts) (g : Taken) (h : Choice) : Type 0 where
 abbrev pub IsInjecting : Parts → Taken → Choice → Dispatch → Type 0
 IsInjecting m g h x = (x ≡ empty m) ⊎ ((x ≡ choice_dispatch m g h) × BestFor m g x)
 
+-- what a MW costs on each variable where a basic variable is stuck: its multipliers, with the one sign
+abbrev pub stuck_cost : Choice → ℕ → Bool → ℕ → Fraction
+stuck_cost h b above w = opposite_if (not above) (multiplier h b w)
+
 -- duals that show that nothing is feasible, by one basic variable of the choice: the price of energy and those of limits are, up to sign,
 -- what shows it, a limit has one on one side at most, and rows that were not taken have none; the prices of reserve and of rooms are what shows
 -- it on the side on which the variable is stuck, each 0 where that is below 0, and without reserve its price is 0
@@ -44,8 +48,8 @@ pub record IsFarkasOf (m : Parts) (g : Taken) (h : Choice) (d : Duals Fraction) 
   pub one_sided : (r : Row) → Contains g.limits r → (up_of m d r ≡ zero) ⊎ (down_of m d r ≡ zero)
   pub no_others : PricesOnly m g.limits d
   pub above : Bool
-  pub reserve : d.reserve ≡ (if m.reserve.listed then part_above (neg_ℚ (opposite_if (not above) (multiplier h basic (need_name m)))) else zero)
-  pub rooms : (u : ℕ) → Contains g.rooms u → Contains (reserve_units m) u → room_price m d u ≡ part_above (opposite_if (not above) (multiplier h basic (room_name m u)))
+  pub reserve : d.reserve ≡ reserve_price_by m (stuck_cost h basic above)
+  pub rooms : (u : ℕ) → Contains g.rooms u → Contains (reserve_units m) u → room_price m d u ≡ part_above (stuck_cost h basic above (room_name m u))
   pub no_other_rooms : (u : ℕ) → ¬ (Contains g.rooms u) → room_price m d u ≡ zero
 
 -- The sums that may be added up at a choice: each with the kind of its first terms, its terms in order, and when it counts. What has no kind

@@ -244,12 +244,16 @@ offer_columns m = map Offer (offer_places m)
 abbrev pub columns : Parts → Taken → List Variable
 columns m t = block_columns m ++ excess_columns m t.limits ++ offer_columns m
 
--- the rows of energy, and those of reserve where it is cleared
+-- the row of the need where reserve is cleared
+abbrev pub need_row : Parts → List Variable
+need_row m = if m.reserve.listed then Need ∷ [] else []
+
+-- the rows of energy, and those of reserve
 abbrev pub energy_rows : Taken → List Variable
 energy_rows t = Balance ∷ map Limit t.limits
 
 abbrev pub reserve_rows : Parts → Taken → List Variable
-reserve_rows m t = (if m.reserve.listed then Need ∷ [] else []) ++ map Room t.rooms
+reserve_rows m t = need_row m ++ map Room t.rooms
 
 abbrev pub row_variables : Parts → Taken → List Variable
 row_variables m t = energy_rows t ++ reserve_rows m t
@@ -312,14 +316,18 @@ room_dual_by row x Below = []
 room_dual_by row x Zero = []
 room_dual_by row x Above = record { unit = row; price = x } ∷ []
 
+-- the price of reserve by what a MW costs on each variable: the opposite of that on the need, 0 where that is below 0 and without reserve
+abbrev pub reserve_price_by : Parts → (ℕ → Fraction) → Fraction
+reserve_price_by m cost = if m.reserve.listed then part_above (neg_ℚ (cost (need_name m))) else zero
+
 -- the duals of what a MW costs on each variable, by name: the price of energy is the opposite of what it costs on the balance, and the prices
--- of the rows are by what it costs on their flows, in the market's order; a row for which that is 0 is not named. The price of reserve is the
--- opposite of what it costs on the need, and the prices of rooms are what it costs on these, each 0 where that is below 0; it is 0 without reserve.
+-- of the rows are by what it costs on their flows, in the market's order; a row for which that is 0 is not named. The prices of rooms are what
+-- it costs on these, each 0 where that is below 0.
 abbrev pub duals_by_cost : Parts → Taken → (ℕ → Fraction) → Duals Fraction
 duals_by_cost m t cost = record {
   energy = neg_ℚ (cost (balance_name m));
   limits = flat_map (λ r. dual_by (row_id m r) (cost (row_name m r)) (sign_of (cost (row_name m r)))) (in_order m t.limits);
-  reserve = if m.reserve.listed then part_above (neg_ℚ (cost (need_name m))) else zero;
+  reserve = reserve_price_by m cost;
   rooms = flat_map (λ u. room_dual_by (unit_at m u).row (cost (room_name m u)) (sign_of (cost (room_name m u)))) (rooms_in_order m t.rooms);
 }
 

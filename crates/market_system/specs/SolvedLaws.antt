@@ -6,8 +6,7 @@ use Rattle.fraction_theory.specs.Order.{◌≤ℚ◌}
 use Rattle.linear_system.specs.Systems.{System, IsSystem, MeetsRows, InBounds, objective}
 use Rattle.linear_system.specs.Choices.{Choice, IsChoice, value, reduced}
 use Rattle.simplex_theory.specs.States.{State, IsSolved}
-use Rattle.simplex_theory.specs.Steps.{opposite_if}
-use Rattle.simplex_theory.specs.Stuck.{IsStuck, multiplier, margin}
+use Rattle.simplex_theory.specs.Stuck.{IsStuck, margin}
 use Rattle.market_model.specs.declared.answered.Duals.{Duals}
 use Rattle.market_model.specs.declared.participants.Parts.{Parts}
 use Rattle.market_model.specs.Dispatch.{Dispatch, accepted, reserved, places, block_at, signed_by_side as raised}
@@ -19,7 +18,7 @@ use Rattle.market_model.specs.Optimality.{Taken, FeasibleFor, Feasible, Supports
 use Rattle.market_model.specs.Reserves.{offer_places, reserve_units}
 use Rattle.market_model.specs.RightAnswers.{IsRight, answer_of}
 use Rattle.market_system.specs.Growth.{Broken, IsBestOver, Growth}
-use Rattle.market_system.specs.MarketNumbers.{IsFarkasOf}
+use Rattle.market_system.specs.MarketNumbers.{IsFarkasOf, stuck_cost}
 use Rattle.market_system.specs.MarketSystem.{system_of, offer_name, point_dispatch, choice_dispatch, duals_by_cost, choice_duals}
 use Rattle.market_model.specs.Overrun.{Within, IsBeyond}
 
@@ -78,16 +77,20 @@ abbrev pub LawOfTheAnswer : Type 0
 LawOfTheAnswer = (m : Parts) (x : Dispatch) (d : Duals Fraction) → Feasible m x → Supports m x d → ProperDuals m d → IsRight m (answer_of m x d)
 
 -- ---- nothing is feasible
--- the duals of a stuck variable are those of its multipliers, with the one sign
+-- the duals of a stuck variable
 abbrev pub stuck_duals : Parts → Taken → Choice → ℕ → Bool → Duals Fraction
-stuck_duals m t h b above = duals_by_cost m t (λ w. opposite_if (not above) (multiplier h b w))
+stuck_duals m t h b above = duals_by_cost m t (stuck_cost h b above)
 
--- Where a variable is stuck they show that no dispatch of the market is feasible. Their bound is at most what the variable leaves of the bound
--- that it violates, and in a market of energy alone just that; and they are duals of the choice, so that their numbers are the market's.
+-- the bound of duals is at most the margin, and in a market of energy alone just that
+pub record HasMargin (m : Parts) (d : Duals Fraction) (margin : Fraction) : Type 0 where
+  pub most : farkas_bound m d ≤ℚ margin
+  pub energy_alone : m.reserve.listed ≡ false → farkas_bound m d ≡ margin
+
+-- Where a variable is stuck they show that no dispatch of the market is feasible. Their margin is what the variable leaves of the bound that
+-- it violates; and they are duals of the choice, so that their numbers are the market's.
 pub record StuckShows (m : Parts) (t : Taken) (h : Choice) (b : ℕ) (above : Bool) : Type 0 where
   pub farkas : IsFarkas m (record { duals = stuck_duals m t h b above; bound = farkas_bound m (stuck_duals m t h b above) })
-  pub bound : farkas_bound m (stuck_duals m t h b above) ≤ℚ margin (system_of m t) h b above
-  pub energy_bound : m.reserve.listed ≡ false → farkas_bound m (stuck_duals m t h b above) ≡ margin (system_of m t) h b above
+  pub leaves : HasMargin m (stuck_duals m t h b above) (margin (system_of m t) h b above)
   pub of_choice : IsFarkasOf m t h (stuck_duals m t h b above)
 
 abbrev pub LawOfTheStuck : Type 0

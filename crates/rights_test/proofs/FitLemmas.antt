@@ -1,7 +1,7 @@
 -- Flows of rights, and which limit they break first.
-use Rattle.std.specs.Prelude.{◌≡◌, ℕ, ◌+◌, ◌<◌, pos, List, [], ◌∷◌, ◌++◌, length, map, replicate, All, Contains, refl}
+use Rattle.std.specs.Prelude.{◌≡◌, ℕ, ◌+◌, ◌<◌, pos, List, [], ◌∷◌, ◌++◌, length, map, replicate, All, Contains, refl, range_with_len}
 use Rattle.std.proofs.Common.{suc, zero, arith, inl, inr, ap, ap₂, sym, subst, ◌∙◌, get_or}
-use Rattle.std.proofs.lemmas.List.{get_or_append_left, get_or-append-add, length-append, length-map, length-replicate, map-append}
+use Rattle.std.proofs.lemmas.List.{get_or_append_left, get_or-append-add, length-append, length-map, map-append}
 use Rattle.std.proofs.lemmas.List.FromFn.{length-map-range_with_len}
 use Rattle.std.proofs.lemmas.List.Elements.{All-append, All-cons, All-contains, All-nil, Contains-append_left, Contains-append_right}
 use Rattle.fraction_theory.specs.Fraction.{Fraction, whole, ◌-ℚ◌}
@@ -14,7 +14,7 @@ use Rattle.market_model.specs.declared.limits.Row.{Row}
 use Rattle.market_model.specs.declared.participants.Parts.{Parts}
 use Rattle.market_model.specs.declared.participants.TransmissionRight.{TransmissionRight}
 use Rattle.market_model.specs.Dispatch.{places}
-use Rattle.market_model.specs.LimitRows.{flow_by, flow_terms, limit, line_flow, row_id, rows}
+use Rattle.market_model.specs.LimitRows.{flow_by, flow_terms, limit, line_flow, row_id, rows, carried_list}
 use Rattle.market_model.specs.Market.{IsMarket}
 use Rattle.market_model.specs.NamedSums.{IsRefusedIn}
 use Rattle.market_model.specs.Optimality.{bus_price}
@@ -30,7 +30,7 @@ use Rattle.market_model.proofs.RowMembers.{at_places}
 use Rattle.limit_rows.proofs.FlowSteps.{flow_terms-same, line_flow-same, line_terms-same}
 use Rattle.rights_test.specs.declared.right_parts.Fit.{Fit}
 use Rattle.rights_test.specs.declared.right_parts.Fit.TheVariants.{Fits, Breaks}
-use Rattle.rights_test.specs.Fits.{carried_list, IsFirstBroken, IsFitBy}
+use Rattle.rights_test.specs.Fits.{IsFirstBroken, IsFitBy}
 use Rattle.rights_test.specs.RightsLaws.{LawOfTheFit, LawOfOneFit, LawOfCoveredPayments}
 
 -- ---- what is carried
@@ -47,9 +47,12 @@ module _ (m : Parts) (rights : List TransmissionRight) where
     line_refusal bound p (_, flow_of_line l lt, why) = (_, flow_of_line l lt, subst (λ ts. IsRefusedIn ts bound p) (line_terms-same m (put_in mws) (rights_injection rights) put_is l) why)
 
   -- what is carried, read off its list
-  module _ (mws : List Fraction) (are : mws ≡ carried_list m rights) where
+  module _ (mws : List Fraction) (are : mws ≡ carried_list m (carried_for m rights)) where
     abbrev by_line : List Fraction
     by_line = map (line_flow m (rights_injection rights)) (places (length m.lines))
+
+    abbrev nothing_lost : List Fraction
+    nothing_lost = map (λ (k : ℕ). whole (pos 0)) (places (length m.unit_outages))
 
     line_count : length by_line ≡ length m.lines
     line_count = length-map-range_with_len (line_flow m (rights_injection rights)) 0 (length m.lines)
@@ -57,26 +60,21 @@ module _ (m : Parts) (rights : List TransmissionRight) where
     flow_is : (l : ℕ) → l < length m.lines → put_in mws l ≡ line_flow m (rights_injection rights) l
     flow_is l lt =
         ap (λ (ys : List Fraction). get_or ys l (whole (pos 0))) are
-        ∙ get_or_append_left by_line (replicate (length m.unit_outages) (whole (pos 0))) (whole (pos 0)) l (Prim.omega (arith, lt, line_count))
+        ∙ get_or_append_left by_line nothing_lost (whole (pos 0)) l (Prim.omega (arith, lt, line_count))
         ∙ filled_at (line_flow m (rights_injection rights)) by_line (length m.lines) (whole (pos 0)) refl l lt
 
-    nothing_at : (n k : ℕ) → get_or (replicate n (whole (pos 0))) k (whole (pos 0)) ≡ whole (pos 0)
-    nothing_at zero k = refl
-    nothing_at (suc n) zero = refl
-    nothing_at (suc n) (suc k) = nothing_at n k
-
-    lost_is : (k : ℕ) → put_in mws (length m.lines + k) ≡ whole (pos 0)
-    lost_is k =
+    lost_is : (k : ℕ) → k < length m.unit_outages → put_in mws (length m.lines + k) ≡ whole (pos 0)
+    lost_is k lt =
         let there : length m.lines + k ≡ length by_line + k = Prim.omega (arith, line_count) in
         ap (λ (ys : List Fraction). get_or ys (length m.lines + k) (whole (pos 0))) are
-        ∙ ap (λ (n : ℕ). get_or (by_line ++ replicate (length m.unit_outages) (whole (pos 0))) n (whole (pos 0))) there
-        ∙ get_or-append-add by_line (replicate (length m.unit_outages) (whole (pos 0))) k (whole (pos 0))
-        ∙ nothing_at (length m.unit_outages) k
+        ∙ ap (λ (n : ℕ). get_or (by_line ++ nothing_lost) n (whole (pos 0))) there
+        ∙ get_or-append-add by_line nothing_lost k (whole (pos 0))
+        ∙ filled_at (λ (i : ℕ). whole (pos 0)) nothing_lost (length m.unit_outages) (whole (pos 0)) refl k lt
 
     row_terms_are : IsMarket m → (r : Row) → Contains (rows m) r → flow_terms m (carried_in m mws) r ≡ flow_terms m (carried_for m rights) r
     row_terms_are market r c =
         let here = at_places m market r c in
-        flow_terms-same m (carried_in m mws) (carried_for m rights) flow_is (λ k lt. lost_is k) r here.0 here.1
+        flow_terms-same m (carried_in m mws) (carried_for m rights) flow_is lost_is r here.0 here.1
 
     pub row_flow_is : IsMarket m → (r : Row) → Contains (rows m) r → flow_by m (carried_in m mws) r ≡ flow_by m (carried_for m rights) r
     row_flow_is market r c = ap total (row_terms_are market r c)
@@ -96,19 +94,25 @@ behind_front value (x ∷ front) back n e =
     let one : length (x ∷ front) + n ≡ suc (length front + n) = Prim.omega arith in
     behind_front value front back n (ap rest (e ∙ ap (λ (k : ℕ). replicate k (whole (pos 0))) one))
 
+nothing_from : (first n : ℕ) → replicate n (whole (pos 0)) ≡ map (λ (k : ℕ). whole (pos 0)) (range_with_len first n)
+nothing_from first zero = refl
+nothing_from first (suc n) = ap (λ (xs : List Fraction). whole (pos 0) ∷ xs) (nothing_from (suc first) n)
+
 pub flows_put : {N : Type 0} (value : N → Fraction) (m : Parts) (rights : List TransmissionRight) (old front back new : List N) → map value old ≡ replicate (length m.lines + length m.unit_outages) (whole (pos 0)) → old ≡ front ++ back
-    → length front ≡ length m.lines → map value new ≡ map (line_flow m (rights_injection rights)) (places (length m.lines)) → map value (new ++ back) ≡ carried_list m rights
+    → length front ≡ length m.lines → map value new ≡ map (line_flow m (rights_injection rights)) (places (length m.lines)) → map value (new ++ back) ≡ carried_list m (carried_for m rights)
 flows_put value m rights old front back new zeros split count flows =
     let lines : length m.lines + length m.unit_outages ≡ length front + length m.unit_outages = Prim.omega (arith, count) in
     let none : map value (front ++ back) ≡ replicate (length front + length m.unit_outages) (whole (pos 0)) = ap (map value) (sym split) ∙ zeros ∙ ap (λ (k : ℕ). replicate k (whole (pos 0))) lines in
-    map-append value new back ∙ ap₂ (λ (xs ys : List Fraction). xs ++ ys) flows (behind_front value front back (length m.unit_outages) none)
+    map-append value new back ∙ ap₂ (λ (xs ys : List Fraction). xs ++ ys) flows (behind_front value front back (length m.unit_outages) none ∙ nothing_from 0 (length m.unit_outages))
 
-pub carried_count : {N : Type 0} (value : N → Fraction) (m : Parts) (rights : List TransmissionRight) (ns : List N) → map value ns ≡ carried_list m rights → length ns ≡ length m.lines + length m.unit_outages
+pub carried_count : {N : Type 0} (value : N → Fraction) (m : Parts) (rights : List TransmissionRight) (ns : List N) → map value ns ≡ carried_list m (carried_for m rights) → length ns ≡ length m.lines + length m.unit_outages
 carried_count value m rights ns are =
     let flows : List Fraction = map (line_flow m (rights_injection rights)) (places (length m.lines)) in
     let count : length flows ≡ length m.lines = length-map-range_with_len (line_flow m (rights_injection rights)) 0 (length m.lines) in
-    let all : length (map value ns) ≡ length flows + length (replicate (length m.unit_outages) (whole (pos 0))) = ap length are ∙ length-append flows (replicate (length m.unit_outages) (whole (pos 0))) in
-    Prim.omega (arith, all, count, length-map ns value, length-replicate (length m.unit_outages) (whole (pos 0)))
+    let lost : List Fraction = map (λ (k : ℕ). whole (pos 0)) (places (length m.unit_outages)) in
+    let lost_count : length lost ≡ length m.unit_outages = length-map-range_with_len (λ (k : ℕ). whole (pos 0)) 0 (length m.unit_outages) in
+    let all : length (map value ns) ≡ length flows + length lost = ap length are ∙ length-append flows lost in
+    Prim.omega (arith, all, count, lost_count, length-map ns value)
 
 -- ---- the first row that is broken
 pub broken_listed : (m : Parts) (f : Row → Fraction) (r : Row) → IsFirstBroken m f r → Contains (rows m) r
@@ -184,5 +188,5 @@ same_terms n p q same (t ∷ ts) are =
 
 pub law_of_covered_payments : LawOfTheRights → LawOfCoveredPayments
 unfolding paid_to_rights
-law_of_covered_payments law m d x price rights market feasible supports prices are fits =
-    subst (λ paid. paid ≤ℚ surplus m x d) (sym (ap total (same_terms (length m.buses) price (bus_price m d) prices rights are))) (law m d x rights market feasible supports are fits)
+law_of_covered_payments law m d x price rights market best are fits =
+    subst (λ paid. paid ≤ℚ surplus m x d) (sym (ap total (same_terms (length m.buses) price (bus_price m d) best.prices rights are))) (law m d x rights market best.feasible best.supported are fits)

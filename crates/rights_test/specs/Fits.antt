@@ -1,14 +1,13 @@
 -- Whether limits could carry rights together, and where not, the first that is broken.
 -- Hogan, Contract Networks for Electric Power Transmission (1992): the simultaneous feasibility test.
-use Rattle.std.specs.Prelude.{◌≡◌, ◌⊎◌, ℕ, ◌<◌, List, ◌∷◌, ◌++◌, length, map, replicate, All}
+use Rattle.std.specs.Prelude.{◌≡◌, ◌⊎◌, ℕ, ◌<◌, List, ◌∷◌, ◌++◌, length, All}
 use Rattle.fraction_theory.specs.Fraction.{Fraction}
 use Rattle.fraction_theory.specs.Sums.{Term}
 use Rattle.exact_fraction.specs.declared.Passed.{Passed}
 use Rattle.market_model.specs.declared.limits.Row.{Row}
 use Rattle.market_model.specs.declared.participants.Parts.{Parts}
 use Rattle.market_model.specs.declared.participants.TransmissionRight.{TransmissionRight}
-use Rattle.market_model.specs.Dispatch.{places, zero}
-use Rattle.market_model.specs.LimitRows.{flow_by, limit, line_flow, row_id, rows}
+use Rattle.market_model.specs.LimitRows.{flow_by, limit, row_id, rows}
 use Rattle.market_model.specs.Optimality.{AreWithin}
 use Rattle.market_model.specs.Overrun.{Within}
 use Rattle.market_model.specs.Rights.{rights_injection, rights_injection_terms, carried_for}
@@ -16,10 +15,6 @@ use Rattle.market_model.specs.SumTables.{IsRefusedAmong, LineFlowSum}
 use Rattle.limit_rows.specs.Refusals.{IsAnyFlowRefusal}
 use Rattle.rights_test.specs.declared.right_parts.Fit.{Fit}
 use Rattle.rights_test.specs.declared.right_parts.Fit.TheVariants.{Fits, Breaks}
-
--- what the network carries where rights are put in, as a list: the flows of lines, and then the outputs of lost units
-abbrev pub carried_list : Parts → List TransmissionRight → List Fraction
-carried_list m rights = map (line_flow m (rights_injection rights)) (places (length m.lines)) ++ replicate (length m.unit_outages) zero
 
 -- ---- which limit is broken
 -- with the flow f of each row, the first row of the market whose flow is beyond its limit on either side; its excess is left aside

@@ -8,9 +8,9 @@ use Rattle.market_model.specs.declared.participants.Parts.{Parts}
 use Rattle.market_model.specs.declared.participants.TransmissionRight.{TransmissionRight}
 use Rattle.market_model.specs.Dispatch.{Dispatch}
 use Rattle.market_model.specs.Market.{IsMarket}
-use Rattle.market_model.specs.Optimality.{Feasible, Supports, ArePricesOf}
 use Rattle.market_model.specs.Rights.{IsTransmissionRight, AreFeasibleTogether}
 use Rattle.market_model.specs.Settlement.{surplus}
+use Rattle.market_model.specs.Optimality.{IsSupportedAt}
 use Rattle.rights_test.specs.declared.right_parts.Fit.{Fit}
 use Rattle.rights_test.specs.declared.right_parts.Fit.TheVariants.{Fits}
 use Rattle.rights_test.specs.Fits.{IsFit}
@@ -26,6 +26,5 @@ LawOfOneFit = (m : Parts) (rights : List TransmissionRight) (a b : Fit Fraction)
 
 -- where they fit, at the bus prices of duals that support a feasible dispatch, they are paid at most the surplus
 abbrev pub LawOfCoveredPayments : Type 0
-LawOfCoveredPayments = (m : Parts) (d : Duals Fraction) (x : Dispatch) (price : ℕ → Fraction) (rights : List TransmissionRight) → IsMarket m → Feasible m x → Supports m x d
-    → ArePricesOf m d price → All (IsTransmissionRight (length m.buses)) rights → IsFit m rights Fits
+LawOfCoveredPayments = (m : Parts) (d : Duals Fraction) (x : Dispatch) (price : ℕ → Fraction) (rights : List TransmissionRight) → IsMarket m → IsSupportedAt m x price d → All (IsTransmissionRight (length m.buses)) rights → IsFit m rights Fits
     → (payments_of price rights).total ≤ℚ surplus m x d

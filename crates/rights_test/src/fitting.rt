@@ -2,14 +2,14 @@
 
 ghost use Rattle.std.specs.Prelude.{◌≡◌, ◌<◌, ◌+◌, ◌≤ℤ◌, pos, length, map, replicate, All, IfOk, IfErr, MatchBool};
 ghost use Rattle.market_model.specs.Dispatch.{zero};
-ghost use Rattle.market_model.specs.LimitRows.{flow_by, limit, rows};
+ghost use Rattle.market_model.specs.LimitRows.{flow_by, limit, rows, carried_list};
 ghost use Rattle.market_model.specs.Overrun.{Within};
 ghost use Rattle.market_model.specs.PutIn.{carried_in};
-ghost use Rattle.market_model.specs.Rights.{IsTransmissionRight};
+ghost use Rattle.market_model.specs.Rights.{IsTransmissionRight, carried_for};
 ghost use Rattle.market_model.specs.Stops.{StopsBy};
 ghost use Rattle.market_model.specs.SumTables.{IsRefusedAmong};
 ghost use Rattle.market_model.specs.Valued.{passed_at};
-ghost use Rattle.rights_test.specs.Fits.{carried_list, fit_at, IsFit, IsFitBy, IsFitRefusal, RightsFlowSum};
+ghost use Rattle.rights_test.specs.Fits.{fit_at, IsFit, IsFitBy, IsFitRefusal, RightsFlowSum};
 ghost use Rattle.market_model.specs.declared.limits.Row.{Row};
 ghost use Rattle.limit_rows.specs.Refusals.{IsAnyFlowRefusal};
 
@@ -31,7 +31,7 @@ fn put_flows<N: Exact>(
     requires rights { All (λ t. pos 0 ≤ℤ t.mw) rights.now }
     requires by_bus { length by_bus.old ≡ length market.now.buses }
     requires out { map N.value out.old ≡ replicate (length market.now.lines + length market.now.unit_outages) zero }
-    ensures flows { IfOk result (λ _. map N.value out.new ≡ carried_list market.now rights.now) }
+    ensures flows { IfOk result (λ _. map N.value out.new ≡ carried_list market.now (carried_for market.now rights.now)) }
     ensures cause { IfErr result (λ passed. IsRefusedAmong (RightsFlowSum market.now rights.now) N.bound (passed_at N.value passed)) }
 {
     put_rights(rights, by_bus)?;
@@ -46,7 +46,7 @@ fn carried<N: Exact>(
     rights: &[TransmissionRight],
 ) -> Result<Vec<N>, Stop<N>>
     requires { All (λ t. pos 0 ≤ℤ t.mw) rights.now }
-    ensures flows { IfOk result (λ flows. map N.value flows.items ≡ carried_list market.now rights.now) }
+    ensures flows { IfOk result (λ flows. map N.value flows.items ≡ carried_list market.now (carried_for market.now rights.now)) }
     ensures cause { IfErr result (StopsBy N.value (λ p. IsRefusedAmong (RightsFlowSum market.now rights.now) N.bound p)) }
 {
     let mut by_bus = zeros(alloc, market.buses().len())?;

@@ -65,7 +65,7 @@ module _ (m : Parts) (rights : List TransmissionRight) (t : Telling) (text : Lis
     covered a right is-fit =
         let price = total_at (λ x. x) a.prices in
         subst (λ z. (payments_of price rights).total ≤ℚ z) (sym (ap (λ (b : Answer Fraction). b.money.surplus) right.made))
-        (law_of_payments m a.duals (dispatch_in a) price rights market right.feasible right.supported (prices-of m a right) held is-fit)
+        (law_of_payments m a.duals (dispatch_in a) price rights market (record { prices = prices-of m a right; feasible = right.feasible; supported = right.supported }) held is-fit)
 
     of-answer : (a : Answer Fraction) → IsRight m a → TellsFit most_size m rights (total_at (λ x. x) a.prices) (report_text m (outcome.Cleared a)) t → IsEntitled m rights text s
     of-answer a right (fitted fit.Fits is-fit is) =

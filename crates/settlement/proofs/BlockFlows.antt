@@ -10,7 +10,7 @@ use Rattle.market_model.specs.declared.participants.Parts.{Parts}
 use Rattle.market_model.specs.Dispatch.{dispatch_by, dispatch_with, injection, output, output_terms}
 use Rattle.market_model.specs.NamedSums.{IsRefusal, IsRefusedIn}
 use Rattle.market_model.specs.Optimality.{own_price}
-use Rattle.market_model.specs.SumTables.{CarriedSum, carried_from_bus, carried_on_line, carried_by_unit, flow_of_line, injection_at, output_of_lost}
+use Rattle.market_model.specs.SumTables.{carried_on_line, carried_by_unit, flow_of_line, injection_at, output_of_lost, NetworkSum, put_in_at_bus, carried_by_network}
 use Rattle.limit_screen.specs.Flows.{IsFlowsRefusal, flows_at}
 use Rattle.settlement.specs.Refusals.{IsMoneyRefusal}
 use Rattle.settlement.proofs.PayLemmas.{unit_refusal}
@@ -24,11 +24,11 @@ module _ (m : Parts) (blocks reserve : List Fraction) where
   unfolding injection output
   flows_of_blocks = refl
 
-  flow_sum : (terms : List Term) → CarriedSum m (dispatch_by blocks) terms → CarriedSum m (dispatch_with blocks reserve) terms
+  flow_sum : (terms : List Term) → NetworkSum m (dispatch_by blocks) terms → NetworkSum m (dispatch_with blocks reserve) terms
   unfolding injection
-  flow_sum terms (carried_from_bus same (injection_at i lt)) = carried_from_bus _ (injection_at i lt)
-  flow_sum terms (carried_on_line same (flow_of_line l lt)) = carried_on_line _ (flow_of_line l lt)
-  flow_sum terms (carried_by_unit same (output_of_lost k lt)) = carried_by_unit _ (output_of_lost k lt)
+  flow_sum terms (put_in_at_bus same (injection_at i lt)) = put_in_at_bus _ (injection_at i lt)
+  flow_sum terms (carried_by_network same (carried_on_line also (flow_of_line l lt))) = carried_by_network _ (carried_on_line _ (flow_of_line l lt))
+  flow_sum terms (carried_by_network same (carried_by_unit also (output_of_lost k lt))) = carried_by_network _ (carried_by_unit _ (output_of_lost k lt))
 
   pub flows_refusal : (bound : ℕ) (p : Passed Fraction) → IsFlowsRefusal m (dispatch_by blocks) bound p → IsFlowsRefusal m (dispatch_with blocks reserve) bound p
   flows_refusal bound p (terms, sum, why) = (terms, flow_sum terms sum, why)

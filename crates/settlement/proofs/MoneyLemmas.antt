@@ -24,7 +24,7 @@ use Rattle.market_model.specs.declared.limits.Row.{Row}
 use Rattle.market_model.specs.LimitRows.{flow, lost_unit, rows, row_id, row_offset}
 use Rattle.market_model.specs.Market.{IsMarket}
 use Rattle.market_model.specs.NamedSums.{IsRefusal, IsRefusedIn}
-use Rattle.market_model.specs.Optimality.{bus_price, names_row, named_rows, own_price, ArePricesOf}
+use Rattle.market_model.specs.Optimality.{bus_price, names_row, named_rows, own_price, ArePricesOf, IsSupportedAt}
 use Rattle.market_model.specs.RightAnswers.{rent_of, settlement_at}
 use Rattle.market_model.specs.Reserves.{offer_places}
 use Rattle.market_model.specs.Settlement.{rent, surplus, pay_of_reserve, pay_of_unit, pay_of_load, surplus_terms_by, priced_flow, paid_terms}
@@ -36,7 +36,6 @@ use Rattle.market_model.proofs.UnitPrices.{at_unit, left_at, loads_same, units_s
 use Rattle.limit_rows.proofs.DualLemmas.{up_unnamed, down_unnamed, sum_named}
 use Rattle.market_model.proofs.PlaceLists.{map_same}
 use Rattle.settlement.specs.Laws.{LawOfRightMoney}
-use Rattle.settlement.specs.Paying.{IsSupportedAt}
 use Rattle.market_model.proofs.ListSteps.{map-map, mapped_at}
 use Rattle.settlement.proofs.ListLemmas.{sum_by-map}
 

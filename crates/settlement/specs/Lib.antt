@@ -1,4 +1,3 @@
 pub mod SoftLines
-pub mod Paying
 pub mod Refusals
 pub mod Laws

@@ -1,8 +1,8 @@
 -- Lines whose limits give way.
-use Rattle.std.specs.Prelude.{◌||◌, Bool}
-use Rattle.std.specs.Int.{is_positive}
+use Rattle.std.specs.Prelude.{◌||◌, Bool, true, false}
 use Rattle.market_model.specs.declared.participants.Line.{Line}
+use Rattle.market_model.specs.LimitRows.{gives_way}
 
 -- one of its limits gives way, in the base or after outages
 abbrev pub has_soft_limit : Line → Bool
-has_soft_limit line = is_positive line.base_price || is_positive line.post_price
+has_soft_limit line = gives_way false line || gives_way true line

@@ -7,13 +7,12 @@ ghost use Rattle.market_model.specs.Dispatch.{zero, dispatch_with};
 ghost use Rattle.market_model.specs.Fitting.{FitsMoney};
 ghost use Rattle.market_model.specs.Laws.{HasOffsetsWithin};
 ghost use Rattle.market_model.specs.NamedSums.{IsRefusedIn};
-ghost use Rattle.market_model.specs.Optimality.{ProperDuals};
+ghost use Rattle.market_model.specs.Optimality.{ProperDuals, IsSupportedAt};
 ghost use Rattle.market_model.specs.Valued.{duals_at, money_at, passed_at, total_at, load_at, unit_pay_at};
 ghost use Rattle.market_model.specs.PutIn.{dispatch_of};
 ghost use Rattle.market_model.specs.RightAnswers.{settlement_at};
 ghost use Rattle.market_model.specs.Settlement.{paid_terms};
 ghost use Rattle.limit_screen.specs.Flows.{flows_at};
-ghost use Rattle.settlement.specs.Paying.{IsSupportedAt};
 ghost use Rattle.settlement.specs.Refusals.{IsMoneyStop, IsSettlementStop};
 
 use crate::loads::loads;

@@ -6,8 +6,9 @@ use Rattle.market_model.specs.declared.participants.Side.TheVariants.{Sell}
 use Rattle.market_model.specs.Dispatch.{block_at, signed_by_side}
 use Rattle.market_model.specs.Optimality.{energy_worth}
 use Rattle.market_model.specs.Valued.{passed_at}
-use Rattle.cert_sums.proofs.BoundLemmas.{blocks_none, blocks_all, block_step, block_refused, worth_pair}
+use Rattle.cert_sums.proofs.BoundLemmas.{blocks_none, blocks_all, block_step, block_refused}
 use Rattle.cert_sums.proofs.bounding.with_blocks.Goals as goal
+use Rattle.cert_sums.specs.Pairs.{in_worth}
 
 pub loop-at-init : goal.loop-at-init
 loop-at-init g c = λ d energy are rooms start. blocks_none c.args.market.now d (g.N.Exact.value c.args.of_rooms) start
@@ -33,7 +34,7 @@ block_quantity-requires g c =
 pub returns-in_err-worth-clause-cause : goal.returns-in_err-worth-clause-cause
 returns-in_err-worth-clause-cause g c =
     let given : c.from_residual.result ≡ Err c.in_err-worth.field-0.0 = search rules in
-    λ d energy are rooms start. rw given (worth_pair c.args.market.now d g.N.Exact.bound (passed_at g.N.Exact.value c.in_err-worth.field-0.0) (c.in_err-worth.ensures.cause d energy are rooms))
+    λ d energy are rooms start. rw given (in_worth (c.in_err-worth.ensures.cause d energy are rooms))
 
 pub loop-at-preserved : goal.loop-at-preserved
 loop-at-preserved g c = λ d energy are rooms start.

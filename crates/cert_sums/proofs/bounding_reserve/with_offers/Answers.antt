@@ -1,4 +1,4 @@
-use Rattle.std.proofs.Common.{rules, Err, ◌≡◌, ◌∙◌, ◌<◌, List, ap, arith, length, pos, subst, sym}
+use Rattle.std.proofs.Common.{rules, Err, ◌≡◌, ◌∙◌, ◌<◌, List, ap, arith, length, pos, subst, sym, inr}
 use Rattle.std.specs.Prelude.{slice_index_or}
 use Rattle.fraction_theory.specs.Fraction.{whole}
 use Rattle.market_model.specs.declared.participants.Reserve.{Reserve}
@@ -38,7 +38,7 @@ returns-in_err-worth-clause-cause g c =
     let below : k < length m.reserve.offers = omega (arith, c.loop-offer-test.true, ap length offers) in
     let offer = ap (λ (os : List ReserveOffer). slice_index_or os k (record { unit = 0; quantity = pos 0; price = pos 0 })) offers in
     let inside = subst (λ (o : ReserveOffer). o.unit < length m.units) (sym offer) (offer_unit-in m c.units-units.ensures.market k below) in
-    in_worth (c.in_err-worth.ensures.cause m d inside price are))
+    in_worth (inr (c.in_err-worth.ensures.cause m d inside price are)))
 
 pub returns-in_err-sum-clause-cause : goal.returns-in_err-sum-clause-cause
 returns-in_err-sum-clause-cause g c =

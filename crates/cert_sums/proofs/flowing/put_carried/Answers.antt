@@ -1,8 +1,9 @@
-use Rattle.std.proofs.Common.{rules, Err, ◌≡◌, ◌++◌, ◌∙◌, ap₂, inl, inr, map}
+use Rattle.std.proofs.Common.{rules, Err, ◌≡◌, ◌++◌, ◌∙◌, ap₂, map}
 use Rattle.std.proofs.lemmas.List.{map-append}
 use Rattle.std.proofs.lemmas.Result.{IfOk-weaker, IfErr-weaker}
 use Rattle.market_model.specs.PutIn.{dispatch_of}
 use Rattle.market_model.specs.Valued.{passed_at}
+use Rattle.market_model.specs.SumTables.{carried_on_line, carried_by_unit}
 use Rattle.limit_rows.proofs.FlowSteps.{lines_put, line_refusal}
 use Rattle.cert_sums.proofs.flowing.put_carried.Goals as goal
 
@@ -23,7 +24,8 @@ returns-in_err-put_line_flows-clause-cause g c = λ puts.
     let value = g.N.Exact.value in
     let x = dispatch_of value c.args.dispatch.now in
     let given : c.from_residual.result ≡ Err c.in_err-put_line_flows.field-0.0 = search rules in
-    rw given (inl (line_refusal m x (map value c.args.injections.now) puts g.N.Exact.bound (passed_at value c.in_err-put_line_flows.field-0.0) c.in_err-put_line_flows.ensures.cause))
+    let why = line_refusal m x (map value c.args.injections.now) puts g.N.Exact.bound (passed_at value c.in_err-put_line_flows.field-0.0) c.in_err-put_line_flows.ensures.cause in
+    rw given (why.0, carried_on_line why.0 why.1, why.2)
 
 pub returns-clause-cause : goal.returns-clause-cause
-returns-clause-cause g c = λ puts. IfErr-weaker c.put_lost_outputs.result _ _ (λ p h. inr h) c.put_lost_outputs.ensures.cause
+returns-clause-cause g c = λ puts. IfErr-weaker c.put_lost_outputs.result _ _ (λ p why. (why.0, carried_by_unit why.0 why.1, why.2)) c.put_lost_outputs.ensures.cause

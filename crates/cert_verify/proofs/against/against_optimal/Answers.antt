@@ -3,9 +3,8 @@ use Rattle.std.specs.Option.{option_or}
 use Rattle.std.proofs.lemmas.List.{length-map}
 use Rattle.std.proofs.lemmas.Result.{IfErr-weaker, IfOk-weaker}
 use Rattle.market_model.specs.Dispatch.{dispatch_with}
-use Rattle.market_model.specs.Valued.{dual_at, room_dual_at}
+use Rattle.market_model.specs.Valued.{dual_at, room_dual_at, duals_with}
 use Rattle.market_model.proofs.StopLemmas.{on_passed_weaker}
-use Rattle.cert_verify.specs.Certificates.{all_duals}
 use Rattle.cert_verify.specs.Reasons.{first_of, flow_reasons, part_reasons, reserve_support_reason, support_reason}
 use Rattle.cert_verify.specs.Stops.{at_support}
 use Rattle.cert_verify.proofs.RowLemmas.{counts}
@@ -23,7 +22,7 @@ wrong_flow-requires-clause-blocks g c =
     let m = c.args.market.now in
     let energy = value c.args.energy in
     let x = dispatch_with (map value c.args.blocks.now) (map value c.args.quantities.now) in
-    let d = all_duals energy (map (dual_at value) c.args.limits.now) (value c.args.price) (map (room_dual_at value) c.args.rooms.now) in
+    let d = duals_with energy (map (dual_at value) c.args.limits.now) (value c.args.price) (map (room_dual_at value) c.args.rooms.now) in
     let told = sym (c.wrong_part.ensures energy) in
     sym (length-map c.args.blocks.now value) ∙ (counts m x d (told ∙ c.in_default.is)).0
 
@@ -33,7 +32,7 @@ wrong_flow-requires-clause-quantities g c =
     let m = c.args.market.now in
     let energy = value c.args.energy in
     let x = dispatch_with (map value c.args.blocks.now) (map value c.args.quantities.now) in
-    let d = all_duals energy (map (dual_at value) c.args.limits.now) (value c.args.price) (map (room_dual_at value) c.args.rooms.now) in
+    let d = duals_with energy (map (dual_at value) c.args.limits.now) (value c.args.price) (map (room_dual_at value) c.args.rooms.now) in
     let told = sym (c.wrong_part.ensures energy) in
     sym (length-map c.args.quantities.now value) ∙ (counts m x d (told ∙ c.in_default.is)).1
 
@@ -43,7 +42,7 @@ wrong_support-requires-clause-blocks g c =
     let m = c.args.market.now in
     let energy = value c.args.energy in
     let x = dispatch_with (map value c.args.blocks.now) (map value c.args.quantities.now) in
-    let d = all_duals energy (map (dual_at value) c.args.limits.now) (value c.args.price) (map (room_dual_at value) c.args.rooms.now) in
+    let d = duals_with energy (map (dual_at value) c.args.limits.now) (value c.args.price) (map (room_dual_at value) c.args.rooms.now) in
     let told = sym (c.wrong_part.ensures energy) in
     sym (length-map c.args.blocks.now value) ∙ (counts m x d (told ∙ c.in_default.is)).0
 
@@ -53,7 +52,7 @@ wrong_support-requires-clause-quantities g c =
     let m = c.args.market.now in
     let energy = value c.args.energy in
     let x = dispatch_with (map value c.args.blocks.now) (map value c.args.quantities.now) in
-    let d = all_duals energy (map (dual_at value) c.args.limits.now) (value c.args.price) (map (room_dual_at value) c.args.rooms.now) in
+    let d = duals_with energy (map (dual_at value) c.args.limits.now) (value c.args.price) (map (room_dual_at value) c.args.rooms.now) in
     let told = sym (c.wrong_part.ensures energy) in
     sym (length-map c.args.quantities.now value) ∙ (counts m x d (told ∙ c.in_default.is)).1
 
@@ -63,7 +62,7 @@ returns-in-Some-clause-first g c =
     let m = c.args.market.now in
     let energy = value c.args.energy in
     let x = dispatch_with (map value c.args.blocks.now) (map value c.args.quantities.now) in
-    let d = all_duals energy (map (dual_at value) c.args.limits.now) (value c.args.price) (map (room_dual_at value) c.args.rooms.now) in
+    let d = duals_with energy (map (dual_at value) c.args.limits.now) (value c.args.price) (map (room_dual_at value) c.args.rooms.now) in
     let told = sym (c.wrong_part.ensures energy) in
     let support = support_reason m x d ∷ reserve_support_reason m x d ∷ [] in
     let rest = flow_reasons m x d ++ support in
@@ -75,7 +74,7 @@ returns-in-Some-2-clause-first g c =
     let m = c.args.market.now in
     let energy = value c.args.energy in
     let x = dispatch_with (map value c.args.blocks.now) (map value c.args.quantities.now) in
-    let d = all_duals energy (map (dual_at value) c.args.limits.now) (value c.args.price) (map (room_dual_at value) c.args.rooms.now) in
+    let d = duals_with energy (map (dual_at value) c.args.limits.now) (value c.args.price) (map (room_dual_at value) c.args.rooms.now) in
     let told = sym (c.wrong_part.ensures energy) in
     let support = support_reason m x d ∷ reserve_support_reason m x d ∷ [] in
     let rest = flow_reasons m x d ++ support in
@@ -89,7 +88,7 @@ returns-clause-first g c =
     let m = c.args.market.now in
     let energy = value c.args.energy in
     let x = dispatch_with (map value c.args.blocks.now) (map value c.args.quantities.now) in
-    let d = all_duals energy (map (dual_at value) c.args.limits.now) (value c.args.price) (map (room_dual_at value) c.args.rooms.now) in
+    let d = duals_with energy (map (dual_at value) c.args.limits.now) (value c.args.price) (map (room_dual_at value) c.args.rooms.now) in
     let told = sym (c.wrong_part.ensures energy) in
     let support = support_reason m x d ∷ reserve_support_reason m x d ∷ [] in
     let rest = flow_reasons m x d ++ support in
@@ -104,7 +103,7 @@ returns-clause-cause g c =
     let m = c.args.market.now in
     let energy = value c.args.energy in
     let x = dispatch_with (map value c.args.blocks.now) (map value c.args.quantities.now) in
-    let d = all_duals energy (map (dual_at value) c.args.limits.now) (value c.args.price) (map (room_dual_at value) c.args.rooms.now) in
+    let d = duals_with energy (map (dual_at value) c.args.limits.now) (value c.args.price) (map (room_dual_at value) c.args.rooms.now) in
     let told = sym (c.wrong_part.ensures energy) in
     let flows = sym (c.in_ok-reason.ensures.first energy) in
     IfErr-weaker c.wrong_support.result _ _

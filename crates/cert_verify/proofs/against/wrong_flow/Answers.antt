@@ -1,11 +1,10 @@
 use Rattle.std.proofs.Common.{rules, Err, ◌≡◌, ◌∙◌, [], ◌∷◌, ◌++◌, ap, map, refl, sym}
 use Rattle.std.specs.Option.{option_or}
 use Rattle.market_model.specs.Dispatch.{dispatch_with}
-use Rattle.market_model.specs.Valued.{dual_at, room_dual_at}
+use Rattle.market_model.specs.Valued.{dual_at, room_dual_at, duals_with}
 use Rattle.market_model.proofs.StopLemmas.{on_passed_weaker}
 use Rattle.market_model.specs.declared.stops.Stop.TheVariants as why
 use Rattle.market_model.specs.SumTables.{reserve_of_all}
-use Rattle.cert_verify.specs.Certificates.{all_duals}
 use Rattle.cert_verify.specs.Reasons.{balance_reason, first_of, limit_reason, limit_reasons, need_reason, need_slack_reason, room_reason, room_slack_reason, slack_reason, slack_reasons, sum_reasons, unpriced_reason}
 use Rattle.cert_verify.specs.Stops.{at_balance, at_limits, at_need, at_rooms}
 use Rattle.cert_verify.proofs.RowLemmas.{before_limits, before_need, before_rooms}
@@ -19,7 +18,7 @@ returns-in-Some-clause-first g c = λ energy.
     let xs = map value c.args.blocks.now in
     let rs = map value c.args.quantities.now in
     let x = dispatch_with xs rs in
-    let d = all_duals energy (map (dual_at value) c.args.limits.now) (value c.args.price) (map (room_dual_at value) c.args.rooms.now) in
+    let d = duals_with energy (map (dual_at value) c.args.limits.now) (value c.args.price) (map (room_dual_at value) c.args.rooms.now) in
     let puts = ap (map value) c.deref.ensures.value ∙ c.in_ok-by_bus.ensures.injections rs in
     first_at [] (need_reason m x ∷ limit_reasons m x ++ slack_reasons m x d) (balance_reason m x) c.in-Some.reason refl (sym (c.in_ok-reason.ensures.first x puts) ∙ c.in-Some.is)
 
@@ -30,7 +29,7 @@ returns-in-Some-short_need-clause-first g c = λ energy.
     let xs = map value c.args.blocks.now in
     let rs = map value c.args.quantities.now in
     let x = dispatch_with xs rs in
-    let d = all_duals energy (map (dual_at value) c.args.limits.now) (value c.args.price) (map (room_dual_at value) c.args.rooms.now) in
+    let d = duals_with energy (map (dual_at value) c.args.limits.now) (value c.args.price) (map (room_dual_at value) c.args.rooms.now) in
     let puts = ap (map value) c.deref.ensures.value ∙ c.in_ok-by_bus.ensures.injections rs in
     let balanced = sym (c.in_ok-reason.ensures.first x puts) ∙ c.in_default.is in
     let sum = c.in_ok-accepted.ensures.sum m xs c.requires.quantities in
@@ -44,7 +43,7 @@ returns-in-Some-2-clause-first g c = λ energy.
     let xs = map value c.args.blocks.now in
     let rs = map value c.args.quantities.now in
     let x = dispatch_with xs rs in
-    let d = all_duals energy (map (dual_at value) c.args.limits.now) (value c.args.price) (map (room_dual_at value) c.args.rooms.now) in
+    let d = duals_with energy (map (dual_at value) c.args.limits.now) (value c.args.price) (map (room_dual_at value) c.args.rooms.now) in
     let puts = ap (map value) c.deref.ensures.value ∙ c.in_ok-by_bus.ensures.injections rs in
     let balanced = sym (c.in_ok-reason.ensures.first x puts) ∙ c.in_default.is in
     let sum = c.in_ok-accepted.ensures.sum m xs c.requires.quantities in
@@ -61,7 +60,7 @@ returns-in-Some-3-clause-first g c = λ energy.
     let xs = map value c.args.blocks.now in
     let rs = map value c.args.quantities.now in
     let x = dispatch_with xs rs in
-    let d = all_duals energy (map (dual_at value) c.args.limits.now) (value c.args.price) (map (room_dual_at value) c.args.rooms.now) in
+    let d = duals_with energy (map (dual_at value) c.args.limits.now) (value c.args.price) (map (room_dual_at value) c.args.rooms.now) in
     let puts = ap (map value) c.deref.ensures.value ∙ c.in_ok-by_bus.ensures.injections rs in
     let balanced = sym (c.in_ok-reason.ensures.first x puts) ∙ c.in_default.is in
     let sum = c.in_ok-accepted.ensures.sum m xs c.requires.quantities in
@@ -79,7 +78,7 @@ returns-in-Some-4-clause-first g c = λ energy.
     let xs = map value c.args.blocks.now in
     let rs = map value c.args.quantities.now in
     let x = dispatch_with xs rs in
-    let d = all_duals energy (map (dual_at value) c.args.limits.now) (value c.args.price) (map (room_dual_at value) c.args.rooms.now) in
+    let d = duals_with energy (map (dual_at value) c.args.limits.now) (value c.args.price) (map (room_dual_at value) c.args.rooms.now) in
     let puts = ap (map value) c.deref.ensures.value ∙ c.in_ok-by_bus.ensures.injections rs in
     let balanced = sym (c.in_ok-reason.ensures.first x puts) ∙ c.in_default.is in
     let sum = c.in_ok-accepted.ensures.sum m xs c.requires.quantities in
@@ -102,7 +101,7 @@ returns-clause-first g c = λ energy.
     let xs = map value c.args.blocks.now in
     let rs = map value c.args.quantities.now in
     let x = dispatch_with xs rs in
-    let d = all_duals energy (map (dual_at value) c.args.limits.now) (value c.args.price) (map (room_dual_at value) c.args.rooms.now) in
+    let d = duals_with energy (map (dual_at value) c.args.limits.now) (value c.args.price) (map (room_dual_at value) c.args.rooms.now) in
     let puts = ap (map value) c.deref.ensures.value ∙ c.in_ok-by_bus.ensures.injections rs in
     let balanced = sym (c.in_ok-reason.ensures.first x puts) ∙ c.in_default.is in
     let sum = c.in_ok-accepted.ensures.sum m xs c.requires.quantities in
@@ -146,7 +145,7 @@ returns-in_err-accepted-clause-cause g c = λ energy none.
     let xs = map value c.args.blocks.now in
     let rs = map value c.args.quantities.now in
     let x = dispatch_with xs rs in
-    let d = all_duals energy (map (dual_at value) c.args.limits.now) (value c.args.price) (map (room_dual_at value) c.args.rooms.now) in
+    let d = duals_with energy (map (dual_at value) c.args.limits.now) (value c.args.price) (map (room_dual_at value) c.args.rooms.now) in
     let puts = ap (map value) c.deref.ensures.value ∙ c.in_ok-by_bus.ensures.injections rs in
     let balanced = sym (c.in_ok-reason.ensures.first x puts) ∙ c.in_default.is in
     let given : c.from_residual-in_err-accepted.result ≡ Err (why.Passed c.in_err-accepted.field-0.0) = search rules in
@@ -159,7 +158,7 @@ returns-in_err-carried-clause-cause g c = λ energy none.
     let xs = map value c.args.blocks.now in
     let rs = map value c.args.quantities.now in
     let x = dispatch_with xs rs in
-    let d = all_duals energy (map (dual_at value) c.args.limits.now) (value c.args.price) (map (room_dual_at value) c.args.rooms.now) in
+    let d = duals_with energy (map (dual_at value) c.args.limits.now) (value c.args.price) (map (room_dual_at value) c.args.rooms.now) in
     let puts = ap (map value) c.deref.ensures.value ∙ c.in_ok-by_bus.ensures.injections rs in
     let balanced = sym (c.in_ok-reason.ensures.first x puts) ∙ c.in_default.is in
     let sum = c.in_ok-accepted.ensures.sum m xs c.requires.quantities in
@@ -175,7 +174,7 @@ returns-in_err-reason-2-clause-cause g c = λ energy none.
     let xs = map value c.args.blocks.now in
     let rs = map value c.args.quantities.now in
     let x = dispatch_with xs rs in
-    let d = all_duals energy (map (dual_at value) c.args.limits.now) (value c.args.price) (map (room_dual_at value) c.args.rooms.now) in
+    let d = duals_with energy (map (dual_at value) c.args.limits.now) (value c.args.price) (map (room_dual_at value) c.args.rooms.now) in
     let puts = ap (map value) c.deref.ensures.value ∙ c.in_ok-by_bus.ensures.injections rs in
     let balanced = sym (c.in_ok-reason.ensures.first x puts) ∙ c.in_default.is in
     let sum = c.in_ok-accepted.ensures.sum m xs c.requires.quantities in
@@ -192,7 +191,7 @@ returns-in_err-reason-3-clause-cause g c = λ energy none.
     let xs = map value c.args.blocks.now in
     let rs = map value c.args.quantities.now in
     let x = dispatch_with xs rs in
-    let d = all_duals energy (map (dual_at value) c.args.limits.now) (value c.args.price) (map (room_dual_at value) c.args.rooms.now) in
+    let d = duals_with energy (map (dual_at value) c.args.limits.now) (value c.args.price) (map (room_dual_at value) c.args.rooms.now) in
     let puts = ap (map value) c.deref.ensures.value ∙ c.in_ok-by_bus.ensures.injections rs in
     let balanced = sym (c.in_ok-reason.ensures.first x puts) ∙ c.in_default.is in
     let sum = c.in_ok-accepted.ensures.sum m xs c.requires.quantities in
@@ -210,7 +209,7 @@ returns-in_err-reason-4-clause-cause g c = λ energy none.
     let xs = map value c.args.blocks.now in
     let rs = map value c.args.quantities.now in
     let x = dispatch_with xs rs in
-    let d = all_duals energy (map (dual_at value) c.args.limits.now) (value c.args.price) (map (room_dual_at value) c.args.rooms.now) in
+    let d = duals_with energy (map (dual_at value) c.args.limits.now) (value c.args.price) (map (room_dual_at value) c.args.rooms.now) in
     let puts = ap (map value) c.deref.ensures.value ∙ c.in_ok-by_bus.ensures.injections rs in
     let balanced = sym (c.in_ok-reason.ensures.first x puts) ∙ c.in_default.is in
     let sum = c.in_ok-accepted.ensures.sum m xs c.requires.quantities in
@@ -229,7 +228,7 @@ returns-in_err-wrong_slack-clause-cause g c = λ energy none.
     let xs = map value c.args.blocks.now in
     let rs = map value c.args.quantities.now in
     let x = dispatch_with xs rs in
-    let d = all_duals energy (map (dual_at value) c.args.limits.now) (value c.args.price) (map (room_dual_at value) c.args.rooms.now) in
+    let d = duals_with energy (map (dual_at value) c.args.limits.now) (value c.args.price) (map (room_dual_at value) c.args.rooms.now) in
     let puts = ap (map value) c.deref.ensures.value ∙ c.in_ok-by_bus.ensures.injections rs in
     let balanced = sym (c.in_ok-reason.ensures.first x puts) ∙ c.in_default.is in
     let sum = c.in_ok-accepted.ensures.sum m xs c.requires.quantities in

@@ -1,8 +1,7 @@
 use Rattle.std.proofs.Common.{◌∙◌, [], ◌∷◌, ◌++◌, ap, map, sym}
 use Rattle.std.specs.Option.{option_or}
 use Rattle.market_model.specs.Dispatch.{dispatch_with}
-use Rattle.market_model.specs.Valued.{dual_at, room_dual_at}
-use Rattle.cert_verify.specs.Certificates.{all_duals}
+use Rattle.market_model.specs.Valued.{dual_at, room_dual_at, duals_with}
 use Rattle.cert_verify.specs.Reasons.{block_reason, dual_reasons, first_of, reserve_reason}
 use Rattle.cert_verify.proofs.TestLemmas.{first_join, or_none}
 use Rattle.cert_verify.proofs.against.wrong_part.Goals as goal
@@ -14,7 +13,7 @@ returns-in-Some-wrong_dual g c = λ energy.
     let xs = map value c.args.blocks.now in
     let rs = map value c.args.quantities.now in
     let x = dispatch_with xs rs in
-    let d = all_duals energy (map (dual_at value) c.args.limits.now) (value c.args.price) (map (room_dual_at value) c.args.rooms.now) in
+    let d = duals_with energy (map (dual_at value) c.args.limits.now) (value c.args.price) (map (room_dual_at value) c.args.rooms.now) in
     let rest = block_reason m x ∷ reserve_reason m x ∷ [] in
     let counted = ap (λ o. option_or o (first_of (dual_reasons m d ++ rest))) (sym c.other_count.ensures ∙ c.in_default.is) ∙ first_join (dual_reasons m d) rest in
     sym (counted ∙ ap (λ o. option_or o (first_of rest)) (sym (c.wrong_dual.ensures energy) ∙ c.in-Some-wrong_dual.is))
@@ -26,7 +25,7 @@ returns-in-Some-outside_block g c = λ energy.
     let xs = map value c.args.blocks.now in
     let rs = map value c.args.quantities.now in
     let x = dispatch_with xs rs in
-    let d = all_duals energy (map (dual_at value) c.args.limits.now) (value c.args.price) (map (room_dual_at value) c.args.rooms.now) in
+    let d = duals_with energy (map (dual_at value) c.args.limits.now) (value c.args.price) (map (room_dual_at value) c.args.rooms.now) in
     let rest = block_reason m x ∷ reserve_reason m x ∷ [] in
     let counted = ap (λ o. option_or o (first_of (dual_reasons m d ++ rest))) (sym c.other_count.ensures ∙ c.in_default.is) ∙ first_join (dual_reasons m d) rest in
     sym (counted ∙ ap (λ o. option_or o (first_of rest)) (sym (c.wrong_dual.ensures energy) ∙ c.in_default-wrong_dual.is)
@@ -39,7 +38,7 @@ returns g c = λ energy.
     let xs = map value c.args.blocks.now in
     let rs = map value c.args.quantities.now in
     let x = dispatch_with xs rs in
-    let d = all_duals energy (map (dual_at value) c.args.limits.now) (value c.args.price) (map (room_dual_at value) c.args.rooms.now) in
+    let d = duals_with energy (map (dual_at value) c.args.limits.now) (value c.args.price) (map (room_dual_at value) c.args.rooms.now) in
     let rest = block_reason m x ∷ reserve_reason m x ∷ [] in
     let counted = ap (λ o. option_or o (first_of (dual_reasons m d ++ rest))) (sym c.other_count.ensures ∙ c.in_default.is) ∙ first_join (dual_reasons m d) rest in
     sym (counted ∙ ap (λ o. option_or o (first_of rest)) (sym (c.wrong_dual.ensures energy) ∙ c.in_default-wrong_dual.is)

@@ -3,11 +3,10 @@ use Rattle.std.specs.Option.{option_or}
 use Rattle.std.proofs.lemmas.Result.{err_from_is_err_and}
 use Rattle.market_model.specs.Dispatch.{dispatch_with}
 use Rattle.market_model.specs.Optimality.{energy_worth}
-use Rattle.market_model.specs.Valued.{dual_at, room_dual_at}
+use Rattle.market_model.specs.Valued.{dual_at, room_dual_at, duals_with}
 use Rattle.cert_sums.specs.declared.pricing.NamedRow.{NamedRow}
 use Rattle.cert_sums.specs.declared.worths.NamedRoom.{NamedRoom}
 use Rattle.cert_sums.specs.Named.{AreNamed, AreNamedRooms}
-use Rattle.cert_verify.specs.Certificates.{all_duals}
 use Rattle.cert_verify.specs.Reasons.{first_of, reserve_support_reason}
 use Rattle.cert_verify.proofs.NamingLemmas.{counted}
 use Rattle.cert_verify.proofs.TestLemmas.{or_none}
@@ -17,7 +16,7 @@ pub energy_worths-requires : goal.energy_worths-requires
 energy_worths-requires g c =
     let m = c.args.market.now in
     let value = g.N.Exact.value in
-    let d = all_duals (value c.args.energy) (map (dual_at value) c.args.limits.now) (value c.args.price) (map (room_dual_at value) c.args.rooms.now) in
+    let d = duals_with (value c.args.energy) (map (dual_at value) c.args.limits.now) (value c.args.price) (map (room_dual_at value) c.args.rooms.now) in
     let rows = subst (λ (xs : List (NamedRow g.row.N.Denot)). AreNamed value m d xs) (sym c.slice.ensures) (c.in_ok-rows.ensures.rows (value c.args.energy) (value c.args.price)) in
     (d, rows)
 
@@ -25,7 +24,7 @@ pub returns-in_err-worths-clause-cause : goal.returns-in_err-worths-clause-cause
 returns-in_err-worths-clause-cause g c =
     let m = c.args.market.now in
     let value = g.N.Exact.value in
-    let d = all_duals (value c.args.energy) (map (dual_at value) c.args.limits.now) (value c.args.price) (map (room_dual_at value) c.args.rooms.now) in
+    let d = duals_with (value c.args.energy) (map (dual_at value) c.args.limits.now) (value c.args.price) (map (room_dual_at value) c.args.rooms.now) in
     let rows = subst (λ (xs : List (NamedRow g.row.N.Denot)). AreNamed value m d xs) (sym c.slice.ensures) (c.in_ok-rows.ensures.rows (value c.args.energy) (value c.args.price)) in
     let rooms = subst (λ (xs : List (NamedRoom g.row.N.Denot)). AreNamedRooms value m d xs) (sym c.slice-2.ensures) (c.in_ok-rows.ensures.rooms (value c.args.energy) (value c.args.price)) in
     let p = err_from_is_err_and c.from_residual-in_err-worths.result c.from_residual-in_err-worths.ensures.1 in
@@ -35,7 +34,7 @@ pub unsupported_block-requires-clause-worths : goal.unsupported_block-requires-c
 unsupported_block-requires-clause-worths g c =
     let m = c.args.market.now in
     let value = g.N.Exact.value in
-    let d = all_duals (value c.args.energy) (map (dual_at value) c.args.limits.now) (value c.args.price) (map (room_dual_at value) c.args.rooms.now) in
+    let d = duals_with (value c.args.energy) (map (dual_at value) c.args.limits.now) (value c.args.price) (map (room_dual_at value) c.args.rooms.now) in
     let rows = subst (λ (xs : List (NamedRow g.row.N.Denot)). AreNamed value m d xs) (sym c.slice.ensures) (c.in_ok-rows.ensures.rows (value c.args.energy) (value c.args.price)) in
     let rooms = subst (λ (xs : List (NamedRoom g.row.N.Denot)). AreNamedRooms value m d xs) (sym c.slice-2.ensures) (c.in_ok-rows.ensures.rooms (value c.args.energy) (value c.args.price)) in
     ap length c.slice-3.ensures ∙ counted value (energy_worth m d) c.in_ok-worths.worths (length m.units) (c.in_ok-worths.ensures.worths d refl rows rooms)
@@ -44,7 +43,7 @@ pub returns-in-Some-clause-first : goal.returns-in-Some-clause-first
 returns-in-Some-clause-first g c =
     let m = c.args.market.now in
     let value = g.N.Exact.value in
-    let d = all_duals (value c.args.energy) (map (dual_at value) c.args.limits.now) (value c.args.price) (map (room_dual_at value) c.args.rooms.now) in
+    let d = duals_with (value c.args.energy) (map (dual_at value) c.args.limits.now) (value c.args.price) (map (room_dual_at value) c.args.rooms.now) in
     let rows = subst (λ (xs : List (NamedRow g.row.N.Denot)). AreNamed value m d xs) (sym c.slice.ensures) (c.in_ok-rows.ensures.rows (value c.args.energy) (value c.args.price)) in
     let rooms = subst (λ (xs : List (NamedRoom g.row.N.Denot)). AreNamedRooms value m d xs) (sym c.slice-2.ensures) (c.in_ok-rows.ensures.rooms (value c.args.energy) (value c.args.price)) in
     let worths = ap (map value) c.slice-3.ensures ∙ c.in_ok-worths.ensures.worths d refl rows rooms in
@@ -56,7 +55,7 @@ pub returns-in_err-unsupported_offer-clause-cause : goal.returns-in_err-unsuppor
 returns-in_err-unsupported_offer-clause-cause g c =
     let m = c.args.market.now in
     let value = g.N.Exact.value in
-    let d = all_duals (value c.args.energy) (map (dual_at value) c.args.limits.now) (value c.args.price) (map (room_dual_at value) c.args.rooms.now) in
+    let d = duals_with (value c.args.energy) (map (dual_at value) c.args.limits.now) (value c.args.price) (map (room_dual_at value) c.args.rooms.now) in
     let named = subst (λ (xs : List (NamedRoom g.row.N.Denot)). AreNamedRooms value m d xs) (sym c.slice-4.ensures) (c.in_ok-rows.ensures.rooms (value c.args.energy) (value c.args.price)) in
     let p = err_from_is_err_and c.from_residual-in_err-unsupported_offer.result c.from_residual-in_err-unsupported_offer.ensures.1 in
     rw (p.1, p.2) (inr (c.in_err-unsupported_offer.ensures.cause d refl named))
@@ -65,7 +64,7 @@ pub returns-clause-first : goal.returns-clause-first
 returns-clause-first g c =
     let m = c.args.market.now in
     let value = g.N.Exact.value in
-    let d = all_duals (value c.args.energy) (map (dual_at value) c.args.limits.now) (value c.args.price) (map (room_dual_at value) c.args.rooms.now) in
+    let d = duals_with (value c.args.energy) (map (dual_at value) c.args.limits.now) (value c.args.price) (map (room_dual_at value) c.args.rooms.now) in
     let rows = subst (λ (xs : List (NamedRow g.row.N.Denot)). AreNamed value m d xs) (sym c.slice.ensures) (c.in_ok-rows.ensures.rows (value c.args.energy) (value c.args.price)) in
     let rooms = subst (λ (xs : List (NamedRoom g.row.N.Denot)). AreNamedRooms value m d xs) (sym c.slice-2.ensures) (c.in_ok-rows.ensures.rooms (value c.args.energy) (value c.args.price)) in
     let named = subst (λ (xs : List (NamedRoom g.row.N.Denot)). AreNamedRooms value m d xs) (sym c.slice-4.ensures) (c.in_ok-rows.ensures.rooms (value c.args.energy) (value c.args.price)) in

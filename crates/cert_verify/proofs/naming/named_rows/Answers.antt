@@ -1,8 +1,7 @@
 use Rattle.std.proofs.Common.{◌∙◌, ap, map}
-use Rattle.market_model.specs.Valued.{dual_at}
+use Rattle.market_model.specs.Valued.{dual_at, duals_with}
 use Rattle.limit_rows.proofs.WalkLemmas.{all_taken, taken_listed}
 use Rattle.cert_sums.specs.Named.{priced_at}
-use Rattle.cert_verify.specs.Certificates.{all_duals}
 use Rattle.cert_verify.specs.Naming.{prices_of}
 use Rattle.cert_verify.proofs.NamingLemmas.{row_kept, row_more, row_passed}
 use Rattle.cert_verify.proofs.naming.named_rows.Goals as goal
@@ -21,7 +20,7 @@ pub loop-row-preserved-in-Continue-branch-2 : goal.loop-row-preserved-in-Continu
 loop-row-preserved-in-Continue-branch-2 g c = λ energy price rooms.
     let m = c.args.market.now in
     let value = g.N.Exact.value in
-    let d = all_duals energy (map (dual_at value) c.args.limits.now) price rooms in
+    let d = duals_with energy (map (dual_at value) c.args.limits.now) price rooms in
     row_more value m d c.loop-row.yielded c.in-Some.row _ _ (c.loop-row.invariant energy price rooms)
     (ap (map (priced_at value)) c.in_ok-push.ensures ∙ row_kept value m d c.in-Some.row c.loop-row.named c.in-Some-named_at.entry (c.in-Some-named_at.ensures c.args.limits.now energy price rooms c.in_ok-duals.ensures))
 
@@ -29,13 +28,13 @@ pub loop-row-preserved : goal.loop-row-preserved
 loop-row-preserved g c = λ energy price rooms.
     let m = c.args.market.now in
     let value = g.N.Exact.value in
-    let d = all_duals energy (map (dual_at value) c.args.limits.now) price rooms in
+    let d = duals_with energy (map (dual_at value) c.args.limits.now) price rooms in
     row_more value m d c.loop-row.yielded c.in-Some.row _ _ (c.loop-row.invariant energy price rooms)
     (row_passed value m d c.in-Some.row c.loop-row.named (c.in_default.ensures c.args.limits.now energy price rooms c.in_ok-duals.ensures))
 
 pub returns : goal.returns
 returns g c = λ energy price rooms.
     let m = c.args.market.now in
-    let d = all_duals energy (map (dual_at g.N.Exact.value) c.args.limits.now) price rooms in
+    let d = duals_with energy (map (dual_at g.N.Exact.value) c.args.limits.now) price rooms in
     c.loop-row.invariant energy price rooms
     ∙ ap (prices_of m d) (all_taken m _ _ _ c.loop-row.yielded (c.into_iter-row-iterator.ensures.into_iter_gives ∙ c.rows-row-items.ensures.rows) c.loop-row.yielded_by c.next.result c.in-None.is c.next.ensures.steps)

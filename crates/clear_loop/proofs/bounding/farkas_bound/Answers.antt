@@ -1,12 +1,10 @@
 use Rattle.std.proofs.Common.{rules, Err, ◌≡◌}
-use Rattle.market_model.specs.Valued.{duals_at, passed_at}
 use Rattle.market_model.proofs.StopLemmas.{on_passed_weaker}
-use Rattle.clear_loop.proofs.FarkasSums.{prices_refused}
+use Rattle.clear_loop.specs.Bounding.{in_prices}
 use Rattle.clear_loop.proofs.bounding.farkas_bound.Goals as goal
 
 pub returns-in_err-own-clause-cause : goal.returns-in_err-own-clause-cause
 returns-in_err-own-clause-cause g c =
-    let value = g.N.Exact.value in
     let given : c.from_residual.result ≡ Err c.in_err-own.field-0.0 = search rules in
     rw given
-    (on_passed_weaker c.in_err-own.field-0.0 _ _ (λ p h. prices_refused c.args.market.now (duals_at value c.args.duals.now) g.N.Exact.bound (passed_at value p) h) c.in_err-own.ensures.cause)
+    (on_passed_weaker c.in_err-own.field-0.0 _ _ (λ p why. in_prices why) c.in_err-own.ensures.cause)

@@ -6,9 +6,10 @@ use Rattle.market_model.specs.LimitRows.{Carried, carried, flow_by}
 use Rattle.market_model.specs.SumTables.{IsFlowRefusal}
 use Rattle.market_model.specs.Valued.{passed_at}
 use Rattle.market_model.proofs.RowMembers.{at_places}
+use Rattle.market_model.specs.NamedSums.{IsMarginRefusal}
 use Rattle.limit_screen.specs.Flows.{carried_at}
 use Rattle.limit_screen.proofs.ScreenLemmas.{flow_count, flow_refusal_same, law_of_row_flows, row_terms}
-use Rattle.clear_loop.specs.Bounding.{IsSideRefusal, in_row_flow, in_upper}
+use Rattle.clear_loop.specs.Bounding.{in_row_flow, in_upper}
 use Rattle.clear_loop.proofs.FarkasSums.{lower_side, sides_sum}
 use Rattle.clear_loop.proofs.bounding.with_limit.Goals as goal
 
@@ -45,7 +46,7 @@ returns-in_err-above-clause-cause g c =
     let given : c.from_residual-in_err-above.result ≡ Err c.in_err-above.field-0.0 = search rules in
     let flow_is = c.in_ok-flow.ensures.flow ∙ ap (λ k. flow_by m k r) c.carried_flows.ensures.is ∙ law_of_row_flows m (empty m) (map value c.args.flows.now) r c.lines-lines.ensures.market c.requires.flows c.requires.row in
     rw given
-    (in_upper (subst₂ (λ l f. IsSideRefusal (value c.args.sum) (value c.args.dual.now.up) l f g.N.Exact.bound p) c.in_ok-most.ensures.most flow_is c.in_err-above.ensures.cause))
+    (in_upper (subst₂ (λ l f. IsMarginRefusal (value c.args.sum) (value c.args.dual.now.up) l f g.N.Exact.bound p) c.in_ok-most.ensures.most flow_is c.in_err-above.ensures.cause))
 
 pub returns-clause-sum : goal.returns-clause-sum
 returns-clause-sum g c = λ d up down.

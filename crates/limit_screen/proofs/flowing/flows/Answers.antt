@@ -4,7 +4,7 @@ use Rattle.std.proofs.lemmas.Result.{IfOk-weaker, IfErr-weaker}
 use Rattle.market_model.specs.PutIn.{dispatch_of}
 use Rattle.market_model.specs.Valued.{passed_at}
 use Rattle.limit_rows.proofs.FlowSteps.{lines_put, line_refusal}
-use Rattle.market_model.specs.SumTables.{carried_by_unit, carried_from_bus, carried_on_line}
+use Rattle.market_model.specs.SumTables.{carried_by_unit, carried_on_line, put_in_at_bus, carried_by_network}
 use Rattle.limit_screen.proofs.flowing.flows.Goals as goal
 
 pub returns-clause-flows : goal.returns-clause-flows
@@ -23,14 +23,14 @@ returns-clause-flows g c =
 pub returns-clause-cause : goal.returns-clause-cause
 returns-clause-cause g c =
     IfErr-weaker c.put_lost_outputs.result _ _
-    (λ e why. (why.0, carried_by_unit why.0 why.1, why.2))
+    (λ e why. (why.0, carried_by_network why.0 (carried_by_unit why.0 why.1), why.2))
     c.put_lost_outputs.ensures.cause
 
 pub returns-in_err-injections-clause-cause : goal.returns-in_err-injections-clause-cause
 returns-in_err-injections-clause-cause g c =
     let given : c.from_residual.result ≡ Err c.in_err-injections.field-0.0 = search rules in
     let why = c.in_err-injections.ensures.cause in
-    rw given (why.0, carried_from_bus why.0 why.1, why.2)
+    rw given (why.0, put_in_at_bus why.0 why.1, why.2)
 
 pub returns-in_err-put_line_flows-clause-cause : goal.returns-in_err-put_line_flows-clause-cause
 returns-in_err-put_line_flows-clause-cause g c =
@@ -39,4 +39,4 @@ returns-in_err-put_line_flows-clause-cause g c =
     let mws = map g.N.Exact.value c.injections.new.out in
     let given : c.from_residual-in_err-put_line_flows.result ≡ Err c.in_err-put_line_flows.field-0.0 = search rules in
     let why = line_refusal m x mws c.in_ok-injections.ensures.injections g.N.Exact.bound (passed_at g.N.Exact.value c.in_err-put_line_flows.field-0.0) c.in_err-put_line_flows.ensures.cause in
-    rw given (why.0, carried_on_line why.0 why.1, why.2)
+    rw given (why.0, carried_by_network why.0 (carried_on_line why.0 why.1), why.2)

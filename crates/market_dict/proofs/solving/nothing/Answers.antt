@@ -38,7 +38,6 @@ returns-clause-found g c = λ ts holds.
             is_choice = shown_choice m ts d holds c.requires.shows;
             shows = shows.of_choice;
             proper = shows.farkas.proper;
-            most = shows.bound;
-            energy_alone = shows.energy_bound;
+            leaves = shows.leaves;
           }),
     )
