@@ -1,7 +1,7 @@
 -- The promise of a run in the words of its users: laws of every run of the program, each from what `run` promises alone.
 -- Wood and Wollenberg, Power Generation, Operation and Control: dispatch within limits of the base and after outages. Schweppe and others, Spot
 -- Pricing of Electricity: prices and the surplus. Farkas: why no dispatch qualifies.
-use Rattle.std.specs.Prelude.{◌≡◌, ◌≢◌, ◌⊎◌, ℕ, List, [], ◌++◌, length, map, take, codes, is_some, slice_get, Option, Some, None, option_and_then, Ok, Err}
+use Rattle.std.specs.Prelude.{◌≡◌, ◌≢◌, ◌⊎◌, ℕ, List, [], ◌++◌, take, codes, is_some, slice_get, Option, Some, None, option_and_then, Ok, Err}
 use Rattle.std.specs.Option.{option_map_or}
 use Rattle.fraction_theory.specs.Fraction.{Fraction, ◌*ℚ◌}
 use Rattle.fraction_theory.specs.Order.{◌≤ℚ◌}
@@ -22,7 +22,7 @@ use Rattle.market_model.specs.Infeasibility.{IsFarkas}
 use Rattle.market_model.specs.LimitRows.{flow, most_flow, rows}
 use Rattle.market_model.specs.Optimality.{AreWithin, Feasible, ProperDuals, Supports, bus_price, welfare}
 use Rattle.market_model.specs.Reserves.{reserve, reserve_need, reserve_units, KeepRooms}
-use Rattle.market_model.specs.RightAnswers.{dispatch_in, price_made, settlement_at}
+use Rattle.market_model.specs.RightAnswers.{dispatch_in, settlement_at, prices_made}
 use Rattle.market_model.specs.Rights.{AreFeasibleTogether}
 use Rattle.market_model.specs.Settlement.{rent}
 use Rattle.market_model.specs.Valued.{total_at}
@@ -157,7 +157,7 @@ pub record HasGreatestWelfare (m : Parts) (x : Dispatch) : Type 0 where
 -- The prices are those of the duals, which support the dispatch and name rows and rooms of the market in its order, each with one price. The
 -- settlement is at these prices: its surplus is the sum of the rents, and offers of reserve are paid the price of reserve for the need.
 pub record IsPriced (m : Parts) (a : Answer Fraction) : Type 0 where
-  pub prices : a.prices ≡ map (price_made m a.duals) (places (length m.buses))
+  pub prices : a.prices ≡ prices_made m a.duals
   pub supported : Supports m (dispatch_in a) a.duals
   pub proper : ProperDuals m a.duals
   pub worth : a.welfare ≡ welfare m (dispatch_in a)
