@@ -3,6 +3,7 @@ ghost use Rattle.std.specs.Prelude.{◌≡◌, ◌+◌, ◌<◌, ◌≤◌, IfEr
 ghost use Rattle.exact_flows.specs.Building.{IsBuilt, IsExchanged};
 ghost use Rattle.exact_flows.specs.FlowSystems.{IsFlowStop};
 ghost use Rattle.exact_flows.specs.Lines.{network_of};
+ghost use Rattle.market_data.specs.Scales.{most_buses, most_lines};
 
 use crate::coefficients::coefficients;
 use crate::line::Line;
@@ -20,7 +21,7 @@ fn started<N: Exact>(
     lines: &[Line<N>],
 ) -> Result<Dict<N>, FlowStop<N>>
     requires reference { reference < buses }
-    requires few { buses ≤ 1000 }
+    requires few { buses ≤ most_buses }
     requires some { 0 < length lines.now }
     ensures built { IfOk result (IsBuilt (network_of N.value buses lines.now) reference 1) }
     ensures pair { IfErr result (IsFlowStop N.value N.bound (network_of N.value buses lines.now) reference) }
@@ -42,7 +43,7 @@ fn put_row<N: Exact>(
     place: usize,
 ) -> Result<(), FlowStop<N>>
     requires reference { reference < buses }
-    requires few { (buses ≤ 1000) × (length lines.now ≤ 2000) }
+    requires few { (buses ≤ most_buses) × (length lines.now ≤ most_lines) }
     requires place { place + 1 < length lines.now + buses }
     requires built { IsBuilt (network_of N.value buses lines.now) reference place dict.old }
     ensures built { IfOk result (λ _. IsBuilt (network_of N.value buses lines.now) reference (place + 1) dict.new) }
@@ -66,7 +67,7 @@ pub(crate) fn built<N: Exact>(
     lines: &[Line<N>],
 ) -> Result<Dict<N>, FlowStop<N>>
     requires reference { reference < buses }
-    requires few { (buses ≤ 1000) × (length lines.now ≤ 2000) }
+    requires few { (buses ≤ most_buses) × (length lines.now ≤ most_lines) }
     requires some { 0 < length lines.now }
     ensures built { IfOk result (IsExchanged (network_of N.value buses lines.now) reference 0) }
     ensures pair { IfErr result (IsFlowStop N.value N.bound (network_of N.value buses lines.now) reference) }

@@ -8,6 +8,7 @@ ghost use Rattle.exact_flows.specs.Lines.{branch_of, network_of};
 ghost use Rattle.exact_flows.specs.declared.rows.Row.TheVariants as kind;
 ghost use Rattle.fraction_theory.specs.Fraction.{whole, ◌*ℚ◌, ◌+ℚ◌};
 ghost use Rattle.linear_dict.specs.Adding.{AreSums};
+ghost use Rattle.market_data.specs.Scales.{most_buses};
 ghost use Rattle.network_theory.specs.Carrying.{put_through};
 
 use crate::line::Line;
@@ -89,7 +90,7 @@ pub(crate) fn coefficients<N: Exact>(
     row: Row,
 ) -> Result<List<N>, FlowStop<N>>
     requires reference { reference < buses }
-    requires few { buses ≤ 1000 }
+    requires few { buses ≤ most_buses }
     requires row { IsRowOf (network_of N.value buses lines.now) reference row }
     ensures numbers { IfOk result (λ numbers. (count : ℕ) → count + 1 ≡ buses
         → AreSums N.value numbers count (λ c. coefficient (map (branch_of N.value) lines.now) row (bus_of reference c))) }

@@ -3,6 +3,7 @@ ghost use Rattle.std.specs.Prelude.{◌≡◌, ◌+◌, ◌<◌, ◌≤◌, ℕ,
 ghost use Rattle.exact_flows.specs.Building.{IsExchanged};
 ghost use Rattle.exact_flows.specs.FlowSystems.{IsFlowStop};
 ghost use Rattle.exact_flows.specs.Lines.{AreFlows, network_of};
+ghost use Rattle.market_data.specs.Scales.{most_buses, most_lines};
 ghost use Rattle.network_theory.specs.Carrying.{IsCarried};
 ghost use Rattle.network_theory.specs.Networks.{Branch, IsConnected, IsNetwork, StandsAt};
 
@@ -50,7 +51,7 @@ pub fn exact_flows<N: Exact>(
     lines: &[Line<N>],
 ) -> Result<List<N>, FlowStop<N>>
     requires reference { reference < buses }
-    requires few { (buses ≤ 1000) × (length lines.now ≤ 2000) }
+    requires few { (buses ≤ most_buses) × (length lines.now ≤ most_lines) }
     requires network { IsNetwork (network_of N.value buses lines.now) }
     requires connected { IsConnected (network_of N.value buses lines.now) reference }
     ensures flows { IfOk result (AreFlows N.value (network_of N.value buses lines.now) reference) }

@@ -3,6 +3,7 @@ ghost use Rattle.std.specs.Prelude.{◌≡◌, ◌+◌, ◌<◌, ◌≤◌, ℕ,
 ghost use Rattle.exact_flows.specs.Building.{IsExchanged};
 ghost use Rattle.exact_flows.specs.FlowSystems.{IsFlowPassed, IsFlowStop};
 ghost use Rattle.exact_flows.specs.Lines.{network_of};
+ghost use Rattle.market_data.specs.Scales.{most_buses, most_lines};
 ghost use Rattle.network_theory.specs.Networks.{IsConnected, IsNetwork};
 
 use crate::building::built;
@@ -22,7 +23,7 @@ fn exchange<N: Exact>(
     column: usize,
 ) -> Result<(), Passed<N>>
     requires reference { reference < buses }
-    requires few { (buses ≤ 1000) × (length lines.now ≤ 2000) }
+    requires few { (buses ≤ most_buses) × (length lines.now ≤ most_lines) }
     requires network { IsNetwork (network_of N.value buses lines.now) }
     requires connected { IsConnected (network_of N.value buses lines.now) reference }
     requires column { column + 1 < buses }
@@ -41,7 +42,7 @@ pub(crate) fn solved<N: Exact>(
     lines: &[Line<N>],
 ) -> Result<Dict<N>, FlowStop<N>>
     requires reference { reference < buses }
-    requires few { (buses ≤ 1000) × (length lines.now ≤ 2000) }
+    requires few { (buses ≤ most_buses) × (length lines.now ≤ most_lines) }
     requires some { 0 < length lines.now }
     requires network { IsNetwork (network_of N.value buses lines.now) }
     requires connected { IsConnected (network_of N.value buses lines.now) reference }

@@ -10,7 +10,7 @@ use Rattle.fraction_theory.specs.Fraction.{Fraction, whole, over}
 use Rattle.fraction_theory.specs.Order.{◌≤ℚ◌}
 use Rattle.fraction_theory.specs.Signs.{abs_ℚ}
 use Rattle.exact_fraction.specs.Nearest.{IsNearest}
-use Rattle.market_data.specs.Scales.{place_count}
+use Rattle.market_data.specs.Scales.{most_buses, most_lines, place_count}
 use Rattle.market_data.specs.declared.scales.FactorPlaces.{FactorPlaces}
 use Rattle.net_case.specs.Networks.{LiveNetwork, IsNetBranch}
 use Rattle.net_case.specs.declared.live_parts.NetBranch.{NetBranch}
@@ -98,7 +98,7 @@ module _ (network : LiveNetwork) (xs : List ℤ) (lost : Option ℕ) (sound : Is
       let between = All-contains (IsNetBranch (length network.buses)) network.branches l.0 sound.network_is.branches live in
       subst (IsLink (length network.buses)) l.2 (record { from = between.from; to = between.to; reactance = above_all l.0 l.1 }))
 
-  pub few_kept : length bs ≤ 2000
+  pub few_kept : length bs ≤ most_lines
   few_kept = let h = kept_short lost network.branches in let n = sound.network_is.branch_count in omega (arith, h, n)
 
   pub given_links : (n : ℕ) (links : List Link) → n ≡ length network.buses → links ≡ map (link_of network xs) bs → All (IsLink n) links
@@ -109,7 +109,7 @@ module _ (network : LiveNetwork) (xs : List ℤ) (lost : Option ℕ) (sound : Is
     network_is : exact_network value n lines ≡ dc
     network_is = ap₂ (λ (m : ℕ) (all : List Branch). record { buses = m; branches = all }) count are
 
-    pub given_few : (n ≤ 1000) × (length lines ≤ 2000)
+    pub given_few : (n ≤ most_buses) × (length lines ≤ most_lines)
     given_few =
         let b = sound.network_is.bus_count in
         let k = few_kept in

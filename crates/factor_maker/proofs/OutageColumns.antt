@@ -8,7 +8,7 @@ use Rattle.fraction_theory.specs.Fraction.{Fraction, whole}
 use Rattle.fraction_theory.specs.Order.{◌≤ℚ◌}
 use Rattle.fraction_theory.specs.Signs.{abs_ℚ}
 use Rattle.exact_fraction.specs.Nearest.{IsNearest}
-use Rattle.market_data.specs.Scales.{place_count}
+use Rattle.market_data.specs.Scales.{most_buses, most_lines, place_count}
 use Rattle.market_data.specs.declared.scales.FactorPlaces.{FactorPlaces}
 use Rattle.net_case.specs.Networks.{LiveNetwork, IsNetBranch}
 use Rattle.net_case.specs.declared.live_parts.NetBranch.{NetBranch}
@@ -34,7 +34,7 @@ pub record AreSides {N : Type 0} (value : N → Fraction) (n : Network) (referen
 
 -- few enough numbers
 pub few_flows : (network : LiveNetwork) (xs : List ℤ) (k : NetBranch) → IsSound network xs (Some k.row) → (others buses : ℕ) → others ≡ length (kept (Some k.row) network.branches) → buses ≡ length network.buses
-    → (others ≤ 2000) × (buses ≤ 1000)
+    → (others ≤ most_lines) × (buses ≤ most_buses)
 few_flows network xs k sound others buses count all =
     let few = few_kept network xs (Some k.row) sound in
     let b = sound.network_is.bus_count in

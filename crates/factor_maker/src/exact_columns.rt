@@ -6,7 +6,7 @@ ghost use Rattle.fraction_theory.specs.Fraction.{whole};
 ghost use Rattle.fraction_theory.specs.Order.{◌≤ℚ◌};
 ghost use Rattle.fraction_theory.specs.Signs.{abs_ℚ};
 ghost use Rattle.exact_fraction.specs.Nearest.{IsNearest};
-ghost use Rattle.market_data.specs.Scales.{place_count};
+ghost use Rattle.market_data.specs.Scales.{most_buses, most_lines, place_count};
 ghost use Rattle.factor_maker.specs.ExactLists.{AreDifferences, AreEntries, IsRefusedDifference};
 ghost use Rattle.factor_maker.specs.Stops.{OnMakePassed};
 
@@ -26,7 +26,7 @@ pub(crate) fn flows_from<N: Exact>(
     bus: usize,
 ) -> Result<List<N>, Memory>
     requires count { length flows.now ≡ branches * buses }
-    requires few { (branches ≤ 2000) × (buses ≤ 1000) }
+    requires few { (branches ≤ most_lines) × (buses ≤ most_buses) }
     requires bus { bus < buses }
     ensures { IfOk result (λ list. (length list ≡ branches) × AreEntries flows.now buses bus list) }
 {
