@@ -15,7 +15,7 @@ use Rattle.outage_list.specs.Listing.{IsOutage}
 use Rattle.factor_residuals.specs.Injections.{taken_flow}
 use Rattle.factor_residuals.specs.Kirchhoff.{reactance_at}
 use Rattle.factor_residuals.specs.Residuals.{AreReactances}
-use Rattle.network_theory.specs.Networks.{IsNetwork as IsTheoryNetwork, IsConnected}
+use Rattle.network_theory.specs.Networks.{IsTheoryNetwork, IsConnected}
 use Rattle.network_theory.specs.Carrying.{IsCarried, put_through}
 use Rattle.dc_network.specs.DcNetworks.{ArePositive, dc_branch, dc_network}
 

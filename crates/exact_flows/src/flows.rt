@@ -5,7 +5,7 @@ ghost use Rattle.exact_flows.specs.FlowSystems.{IsFlowStop};
 ghost use Rattle.exact_flows.specs.Lines.{AreFlows, network_of};
 ghost use Rattle.market_data.specs.Scales.{most_buses, most_lines};
 ghost use Rattle.network_theory.specs.Carrying.{IsCarried};
-ghost use Rattle.network_theory.specs.Networks.{Branch, IsConnected, IsNetwork, StandsAt};
+ghost use Rattle.network_theory.specs.Networks.{Branch, IsConnected, IsTheoryNetwork, StandsAt};
 
 use crate::line::Line;
 use crate::rows::column_of;
@@ -25,7 +25,7 @@ fn carried<N: Exact>(
     branch: usize,
     bus: usize,
 ) -> N
-    requires network { IsNetwork (network_of N.value buses lines.now) }
+    requires network { IsTheoryNetwork (network_of N.value buses lines.now) }
     requires connected { IsConnected (network_of N.value buses lines.now) reference }
     requires reference { reference < buses }
     requires branch { branch < length lines.now }
@@ -52,7 +52,7 @@ pub fn exact_flows<N: Exact>(
 ) -> Result<List<N>, FlowStop<N>>
     requires reference { reference < buses }
     requires few { (buses ≤ most_buses) × (length lines.now ≤ most_lines) }
-    requires network { IsNetwork (network_of N.value buses lines.now) }
+    requires network { IsTheoryNetwork (network_of N.value buses lines.now) }
     requires connected { IsConnected (network_of N.value buses lines.now) reference }
     ensures flows { IfOk result (AreFlows N.value (network_of N.value buses lines.now) reference) }
     ensures pair { IfErr result (IsFlowStop N.value N.bound (network_of N.value buses lines.now) reference) }

@@ -4,7 +4,7 @@ ghost use Rattle.exact_flows.specs.Building.{IsExchanged};
 ghost use Rattle.exact_flows.specs.FlowSystems.{IsFlowPassed, IsFlowStop};
 ghost use Rattle.exact_flows.specs.Lines.{network_of};
 ghost use Rattle.market_data.specs.Scales.{most_buses, most_lines};
-ghost use Rattle.network_theory.specs.Networks.{IsConnected, IsNetwork};
+ghost use Rattle.network_theory.specs.Networks.{IsConnected, IsTheoryNetwork};
 
 use crate::building::built;
 use crate::line::Line;
@@ -24,7 +24,7 @@ fn exchange<N: Exact>(
 ) -> Result<(), Passed<N>>
     requires reference { reference < buses }
     requires few { (buses ≤ most_buses) × (length lines.now ≤ most_lines) }
-    requires network { IsNetwork (network_of N.value buses lines.now) }
+    requires network { IsTheoryNetwork (network_of N.value buses lines.now) }
     requires connected { IsConnected (network_of N.value buses lines.now) reference }
     requires column { column + 1 < buses }
     requires exchanged { IsExchanged (network_of N.value buses lines.now) reference column dict.old }
@@ -44,7 +44,7 @@ pub(crate) fn solved<N: Exact>(
     requires reference { reference < buses }
     requires few { (buses ≤ most_buses) × (length lines.now ≤ most_lines) }
     requires some { 0 < length lines.now }
-    requires network { IsNetwork (network_of N.value buses lines.now) }
+    requires network { IsTheoryNetwork (network_of N.value buses lines.now) }
     requires connected { IsConnected (network_of N.value buses lines.now) reference }
     ensures solved { IfOk result (λ dict. (count : ℕ) → count + 1 ≡ buses → IsExchanged (network_of N.value buses lines.now) reference count dict) }
     ensures pair { IfErr result (IsFlowStop N.value N.bound (network_of N.value buses lines.now) reference) }

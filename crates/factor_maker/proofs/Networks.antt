@@ -16,7 +16,7 @@ use Rattle.net_case.specs.Networks.{LiveNetwork, IsNetBranch}
 use Rattle.net_case.specs.declared.live_parts.NetBranch.{NetBranch}
 use Rattle.net_paths.specs.Loops.{kept}
 use Rattle.factor_residuals.specs.Kirchhoff.{reactance_at}
-use Rattle.network_theory.specs.Networks.{Branch, Network, IsNetwork as IsTheoryNetwork, IsConnected}
+use Rattle.network_theory.specs.Networks.{Branch, Network, IsTheoryNetwork, IsConnected}
 use Rattle.network_theory.specs.Carrying.{IsCarried}
 use Rattle.dc_network.specs.DcNetworks.{dc_branch, dc_network}
 use Rattle.dc_network.specs.Laws.{IsSound}

@@ -7,7 +7,7 @@ use Rattle.exact_flows.specs.declared.line.Line.{Line}
 use Rattle.fraction_theory.specs.Fraction.{Fraction, whole}
 use Rattle.fraction_theory.specs.Order.{◌<ℚ◌}
 use Rattle.fraction_theory.proofs.ListSums.{Contains-cases}
-use Rattle.network_theory.specs.Networks.{Branch, Network, IsBranchOf, IsNetwork, IsConnected, AreJoined}
+use Rattle.network_theory.specs.Networks.{Branch, Network, IsBranchOf, IsTheoryNetwork, IsConnected, AreLinked}
 
 module _ {N : Type 0} (value : N → Fraction) (a b c d : N) where
   abbrev line : ℕ → ℕ → N → Line N
@@ -27,7 +27,7 @@ module _ {N : Type 0} (value : N → Fraction) (a b c d : N) where
   pub triangle_joined : IsConnected (network_of value 3 lines) 0
   triangle_joined = record { joined = each }
     where
-      each : (i : ℕ) → i < 3 → AreJoined net i 0
+      each : (i : ℕ) → i < 3 → AreLinked net i 0
       each zero h = record { chain = []; lead = refl }
       each (suc zero) h = record {
         chain = 0 ∷ [];
@@ -40,7 +40,7 @@ module _ {N : Type 0} (value : N → Fraction) (a b c d : N) where
       each (suc (suc (suc i))) h = absurd (Prim.omega (arith, h))
 
   module _ (ha : whole (pos 0) <ℚ value a) (hb : whole (pos 0) <ℚ value b) (hc : whole (pos 0) <ℚ value c) (hd : whole (pos 0) <ℚ value d) where
-    pub triangle_is : IsNetwork (network_of value 3 lines)
+    pub triangle_is : IsTheoryNetwork (network_of value 3 lines)
     triangle_is = record {
       branches = λ x k. one (branch_of value (line 0 1 a)) (branch_of value (line 0 2 b)) (branch_of value (line 1 2 c)) (branch_of value (line 2 1 d)) x k
           (record { from = Prim.omega arith; to = Prim.omega arith; susceptance = ha })

@@ -14,7 +14,7 @@ use Rattle.fraction_theory.proofs.Ring.{by_ring, at, pnil, pone, pneg, ◌⊕◌
 use Rattle.fraction_theory.proofs.SignLaws.{abs_above, abs_below}
 use Rattle.fraction_theory.proofs.SumLaws.{sum_by-same, sum_by-times}
 use Rattle.network_theory.specs.Carrying.{IsCarried}
-use Rattle.network_theory.specs.Networks.{Branch, Network, IsBranchOf, IsNetwork, flow, leaving, entering, injection, net_outflow, others}
+use Rattle.network_theory.specs.Networks.{Branch, Network, IsBranchOf, IsTheoryNetwork, flow, leaving, entering, injection, net_outflow, others}
 use Rattle.network_theory.proofs.Guesses.{law_of_guessed_bounds}
 use Rattle.network_theory.proofs.Solutions.{one_above}
 use Rattle.exact_fraction.specs.Nearest.{in_units}
@@ -91,7 +91,7 @@ susceptance_above x h = elim (≤ℚ-or-<ℚ (recip_ℚ (whole x)) (whole (pos 0
 ]
 
 module _ (guess : Guess) (links : List Link) (all : All (IsGuessOf guess) links) where
-  network_is : IsNetwork (network_of (length guess.angles.items) links)
+  network_is : IsTheoryNetwork (network_of (length guess.angles.items) links)
   network_is = record {
     branches = λ b c.
         let r = from_map branch_of links b c in
