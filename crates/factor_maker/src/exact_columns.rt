@@ -8,7 +8,7 @@ ghost use Rattle.fraction_theory.specs.Signs.{abs_ℚ};
 ghost use Rattle.exact_fraction.specs.Nearest.{IsNearest};
 ghost use Rattle.market_data.specs.Scales.{most_buses, most_lines, place_count};
 ghost use Rattle.factor_maker.specs.ExactLists.{AreDifferences, AreEntries, IsRefusedDifference};
-ghost use Rattle.factor_maker.specs.Stops.{OnMakePassed};
+ghost use Rattle.factor_maker.specs.Stops.{OnPassed};
 
 use crate::numbers::FactorNumber;
 use crate::stops::MakeStop;
@@ -45,7 +45,7 @@ pub(crate) fn differences<N: Exact>(
 ) -> Result<List<N>, MakeStop<N>>
     requires count { length from_source.now ≡ length from_sink.now }
     ensures are { IfOk result (AreDifferences N.value from_source.now from_sink.now) }
-    ensures stop { IfErr result (OnMakePassed (IsRefusedDifference N.value N.bound from_source.now from_sink.now)) }
+    ensures stop { IfErr result (λ stop. OnPassed stop (IsRefusedDifference N.value N.bound from_source.now from_sink.now)) }
 {
     let mut list = List::new(alloc);
     for place in 0..from_source.len() {
