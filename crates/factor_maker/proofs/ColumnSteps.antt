@@ -16,7 +16,7 @@ use Rattle.net_case.specs.declared.live_parts.NetBranch.{NetBranch}
 use Rattle.net_paths.specs.Connection.{bus_number}
 use Rattle.net_paths.specs.Detours.{IsBranchOf}
 use Rattle.net_paths.specs.Loops.{kept}
-use Rattle.factor_residuals.specs.Residuals.{places as places_below}
+use Rattle.factor_residuals.specs.Residuals.{places_below}
 use Rattle.factor_tables.specs.declared.made.MadeFactor.{MadeFactor}
 use Rattle.network_theory.specs.Carrying.{IsCarried}
 use Rattle.dc_network.specs.DcNetworks.{ArePositive, dc_branch, dc_network}

@@ -8,7 +8,7 @@ ghost use Rattle.net_paths.specs.Connection.{JoinAll};
 ghost use Rattle.net_paths.specs.Detours.{IsBranchOf, IsLiveRow};
 ghost use Rattle.net_paths.specs.Loops.{kept};
 ghost use Rattle.outage_list.specs.Listing.{AreOutages, IsOutage};
-ghost use Rattle.factor_residuals.specs.Residuals.{AreReactances, places as places_below};
+ghost use Rattle.factor_residuals.specs.Residuals.{AreReactances, places_below};
 ghost use Rattle.dc_network.specs.DcNetworks.{ArePositive, dc_network};
 ghost use Rattle.dc_network.specs.Laws.{IsSound};
 ghost use Rattle.factor_maker.specs.Columns.{AreColumn, AreLossRecords, AreOutageRecords, made_of};
