@@ -14,7 +14,7 @@ use Rattle.fraction_theory.proofs.SignLaws.{abs_above}
 use Rattle.fraction_theory.proofs.ListSums.{except, put_at-here, put_at-elsewhere, same_or_not, sum_by-members, sum_by-one, sum_by-split}
 use Rattle.net_paths.specs.Loops.{kept}
 use Rattle.network_theory.specs.Carrying.{IsCarried, one_at, put_through}
-use Rattle.network_theory.specs.Networks.{Branch, Network, IsConnected, IsNetwork, IsSolution, IsTransfer, flow, injection, places}
+use Rattle.network_theory.specs.Networks.{Branch, Network, IsConnected, IsTheoryNetwork, IsSolution, IsTransfer, flow, injection, places}
 use Rattle.network_theory.proofs.ByParts.{law_of_balance}
 use Rattle.network_theory.proofs.Existence.{law_of_solutions}
 use Rattle.network_theory.proofs.Factors.{law_of_the_factors}
@@ -55,7 +55,7 @@ module _ (n : Network) where
       ]
 
 -- ---- in a connected network
-module _ (n : Network) (r source sink : ℕ) (is : IsNetwork n) (c : IsConnected n r) (r_in : r < n.buses) (source_in : source < n.buses) (sink_in : sink < n.buses) where
+module _ (n : Network) (r source sink : ℕ) (is : IsTheoryNetwork n) (c : IsConnected n r) (r_in : r < n.buses) (source_in : source < n.buses) (sink_in : sink < n.buses) where
   -- the reference puts in what the others leave
   pub everywhere : (angle : ℕ → Fraction) → IsSolution n r (put_through source sink) angle → (i : ℕ) → i < n.buses → injection n angle i ≡ put_through source sink i
   everywhere angle s i lt = elim (same_or_not i r) [

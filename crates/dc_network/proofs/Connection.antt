@@ -14,7 +14,7 @@ use Rattle.net_paths.specs.Detours.{others}
 use Rattle.net_paths.specs.Loops.{kept}
 use Rattle.net_paths.proofs.ChainLemmas.{joined_itself, joined_sym, joined_trans, joined_step, kept_along}
 use Rattle.outage_list.specs.Listing.{IsOutage}
-use Rattle.network_theory.specs.Networks.{Branch, IsBranchOf, IsNetwork as IsTheoryNetwork, IsConnected, AreNeighbours, AreJoined as AreLinked}
+use Rattle.network_theory.specs.Networks.{Branch, IsBranchOf, IsTheoryNetwork, IsConnected, AreNeighbours, AreLinked}
 use Rattle.dc_network.specs.DcNetworks.{dc_branch, dc_network}
 use Rattle.dc_network.specs.Laws.{IsSound, LeavesJoined, LawOfTheNetwork}
 use Rattle.dc_network.proofs.Reactances.{same_row, susceptance_above}

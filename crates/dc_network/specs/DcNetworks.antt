@@ -3,6 +3,7 @@
 -- outage distribution factors (Wood and Wollenberg).
 use Rattle.std.specs.Prelude.{ℕ, ◌^◌, ℤ, pos, ◌<ℤ◌, List, length, map, All, Option, Some, None}
 use Rattle.fraction_theory.specs.Fraction.{Fraction, over, recip_ℚ}
+use Rattle.market_data.specs.Scales.{scaled_reactance_places}
 use Rattle.net_case.specs.Networks.{LiveNetwork}
 use Rattle.net_case.specs.declared.live_parts.NetBranch.{NetBranch}
 use Rattle.net_paths.specs.Loops.{kept}
@@ -10,9 +11,9 @@ use Rattle.factor_residuals.specs.Kirchhoff.{reactance_at}
 use Rattle.network_theory.specs.Networks.{Branch, Network}
 use Rattle.network_theory.specs.Carrying.{IsCarried}
 
--- A branch with 1 over its reactance times ratio, which is given in 10^-18, as its susceptance.
+-- A branch with 1 over its reactance times ratio, which is given in 10^-18 (`scaled_reactance_places`), as its susceptance.
 abbrev pub dc_branch : LiveNetwork → List ℤ → NetBranch → Branch
-dc_branch network xs l = record { from = l.from; to = l.to; susceptance = recip_ℚ (over (reactance_at network xs l.row) (10 ^ 18)) }
+dc_branch network xs l = record { from = l.from; to = l.to; susceptance = recip_ℚ (over (reactance_at network xs l.row) (10 ^ scaled_reactance_places)) }
 
 -- the live branches without the lost one, where one is lost
 abbrev pub dc_network : LiveNetwork → List ℤ → Option ℕ → Network

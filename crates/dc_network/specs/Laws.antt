@@ -5,6 +5,7 @@ use Rattle.fraction_theory.specs.Fraction.{Fraction, whole, over, ◌*ℚ◌, ne
 use Rattle.fraction_theory.specs.Order.{◌≤ℚ◌}
 use Rattle.fraction_theory.specs.Signs.{abs_ℚ}
 use Rattle.fraction_theory.specs.Sums.{sum_by}
+use Rattle.market_data.specs.Scales.{scaled_reactance_places}
 use Rattle.net_case.specs.Networks.{LiveNetwork, IsNetwork}
 use Rattle.net_case.specs.declared.live_parts.NetBranch.{NetBranch}
 use Rattle.net_paths.specs.Connection.{JoinAll}
@@ -14,7 +15,7 @@ use Rattle.outage_list.specs.Listing.{IsOutage}
 use Rattle.factor_residuals.specs.Injections.{taken_flow}
 use Rattle.factor_residuals.specs.Kirchhoff.{reactance_at}
 use Rattle.factor_residuals.specs.Residuals.{AreReactances}
-use Rattle.network_theory.specs.Networks.{IsNetwork as IsTheoryNetwork, IsConnected}
+use Rattle.network_theory.specs.Networks.{IsTheoryNetwork, IsConnected}
 use Rattle.network_theory.specs.Carrying.{IsCarried, put_through}
 use Rattle.dc_network.specs.DcNetworks.{ArePositive, dc_branch, dc_network}
 
@@ -23,7 +24,7 @@ abbrev pub directed : Bool → Fraction → Fraction
 directed forward x = if forward then x else neg_ℚ x
 
 abbrev pub loop_drop : LiveNetwork → List ℤ → (ℕ → Fraction) → List Member → Fraction
-loop_drop network xs flow members = sum_by (λ m. directed m.forward (over (reactance_at network xs m.branch) (10 ^ 18) *ℚ flow m.branch)) members
+loop_drop network xs flow members = sum_by (λ m. directed m.forward (over (reactance_at network xs m.branch) (10 ^ scaled_reactance_places) *ℚ flow m.branch)) members
 
 -- Flows by the rows of branches, of 1 that goes from one bus to another over the live branches but for one that is lost: at each bus what
 -- leaves over them is what goes in, and round each loop the drops sum to 0.

@@ -19,7 +19,7 @@ use Rattle.linear_dict.specs.Tables.{cell}
 use Rattle.linear_dict.proofs.NameLemmas.{among-tells, entry_at, lt_or_le}
 use Rattle.linear_dict.proofs.SplitLemmas.{Contains-at, basic_in, other_in}
 use Rattle.network_theory.specs.Carrying.{IsCarried}
-use Rattle.network_theory.specs.Networks.{Branch, Network, IsConnected, IsNetwork, StandsAt, injection}
+use Rattle.network_theory.specs.Networks.{Branch, Network, IsConnected, IsTheoryNetwork, StandsAt, injection}
 use Rattle.network_theory.proofs.Solutions.{apart}
 use Rattle.exact_flows.proofs.Losses.{at_rest}
 use Rattle.exact_flows.proofs.Meanings.{angle, angle_reference, angle_other, bus_row, flow_row, one_here, one_else}
@@ -49,7 +49,7 @@ module _ (d : Dictionary) (sound : IsDictionary d) (w : ℕ) (there : Contains d
   pub point_basic : (j : ℕ) → Contains d.basics j → point j ≡ (choice_of d).entry j w
   point_basic j c = column_entry-basic (choice_of d) j w (basics_are (system_in d) (choice_of d) j (basic_in d sound j c)).1
 
-module _ (n : Network) (reference : ℕ) (is : IsNetwork n) (connected : IsConnected n reference) (r : reference < n.buses) (d : Dictionary) (done : ℕ) (e : IsExchanged n reference done d) where
+module _ (n : Network) (reference : ℕ) (is : IsTheoryNetwork n) (connected : IsConnected n reference) (r : reference < n.buses) (d : Dictionary) (done : ℕ) (e : IsExchanged n reference done d) where
   at_other : (c : ℕ) → c < length d.others → (x : ℕ) → slice_index d.others c ≡ x → Contains d.others x
   at_other c h x f = subst (Contains d.others) f (Contains-at d.others c h)
 

@@ -10,7 +10,7 @@ use Rattle.fraction_theory.proofs.FieldLaws.{ring_ℚ}
 use Rattle.fraction_theory.proofs.OrderLaws.{≤ℚ_antisym, *ℚ-nil}
 use Rattle.fraction_theory.proofs.SumLaws.{sum_by-nil}
 use Rattle.fraction_theory.proofs.ListSums.{sum_by-members}
-use Rattle.network_theory.specs.Networks.{Branch, Network, places, IsNetwork, IsConnected, flow, injection}
+use Rattle.network_theory.specs.Networks.{Branch, Network, places, IsTheoryNetwork, IsConnected, flow, injection}
 use Rattle.network_theory.proofs.ByParts.{taken, injection_taken, by_parts}
 use Rattle.network_theory.proofs.Outages.{ends, taken_ends, loss, losses_above}
 use Rattle.network_theory.proofs.Places.{below_places}
@@ -20,7 +20,7 @@ use Rattle.network_theory.proofs.Solutions.{law_of_rest}
 pub nil_times : (x : Fraction) → whole (pos 0) *ℚ x ≡ whole (pos 0)
 nil_times x = by_ring ring_ℚ (x ∷ []) (pnil ⊗ at 0) pnil refl
 
-module _ (n : Network) (reference : ℕ) (angle : ℕ → Fraction) (is : IsNetwork n) (connected : IsConnected n reference)
+module _ (n : Network) (reference : ℕ) (angle : ℕ → Fraction) (is : IsTheoryNetwork n) (connected : IsConnected n reference)
     (rest : (i : ℕ) → i < n.buses → (angle i ≡ whole (pos 0)) ⊎ (injection n angle i ≡ whole (pos 0))) where
   no_losses : sum_by (loss angle) n.branches ≡ whole (pos 0)
   no_losses =

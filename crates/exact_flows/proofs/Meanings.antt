@@ -14,7 +14,7 @@ use Rattle.fraction_theory.proofs.SumLaws.{sum_by-same, sum_by-nil, sum_by-times
 use Rattle.fraction_theory.proofs.ListSums.{Distinct-increasing, except, put_at-here, put_at-elsewhere, same_or_not, sum_by-members, sum_by-one}
 use Rattle.linear_system.specs.Systems.{System, MeetsRows, activity}
 use Rattle.network_theory.specs.Carrying.{one_at, put_through}
-use Rattle.network_theory.specs.Networks.{Branch, Network, IsNetwork, StandsAt, flow, injection}
+use Rattle.network_theory.specs.Networks.{Branch, Network, IsTheoryNetwork, StandsAt, flow, injection}
 use Rattle.network_theory.proofs.ByParts.{taken, injection_taken}
 use Rattle.network_theory.proofs.Outages.{taken_ends}
 use Rattle.network_theory.proofs.SignedSums.{sum_by-minus}
@@ -32,7 +32,7 @@ read_any [] k x y h = absurd (Prim.omega (arith, h))
 read_any (z ∷ zs) zero x y h = refl
 read_any (z ∷ zs) (suc k) x y h = read_any zs k x y (Prim.omega (arith, h))
 
-module _ (n : Network) (reference : ℕ) (is : IsNetwork n) (s : System) (system : IsFlowSystem n reference s) (v : ℕ → Fraction) (meets : MeetsRows s v) where
+module _ (n : Network) (reference : ℕ) (is : IsTheoryNetwork n) (s : System) (system : IsFlowSystem n reference s) (v : ℕ → Fraction) (meets : MeetsRows s v) where
   -- its angles, with 0 at the reference
   abbrev pub angle : ℕ → Fraction
   angle = except reference v

@@ -23,6 +23,7 @@ use Rattle.linear_dict.proofs.SplitLemmas.{Contains-at, system_is}
 use Rattle.linear_dict.proofs.TableLemmas.{within}
 use Rattle.network_theory.specs.Networks.{Network}
 use Rattle.exact_flows.proofs.Places.{bus_is, place_is, bus_apart, row_before, row_after}
+use Rattle.market_data.specs.Scales.{most_buses, most_lines}
 
 abbrev nil : Fraction
 nil = whole (pos 0)
@@ -110,7 +111,7 @@ module _ (n : Network) (reference : ℕ) (r : reference < n.buses) where
   ]
 
   -- small enough for a name
-  pub small_row : (row : Row) → IsRowOf n reference row → n.buses ≤ 1000 → length n.branches ≤ 2000 → IsSmall row
+  pub small_row : (row : Row) → IsRowOf n reference row → n.buses ≤ most_buses → length n.branches ≤ most_lines → IsSmall row
   small_row (Flow l) h p q = Prim.omega (arith, h, q)
   small_row (Injection i) h p q = Prim.omega (arith, h.0, p)
 

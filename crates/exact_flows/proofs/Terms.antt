@@ -4,7 +4,7 @@ use Rattle.std.proofs.Common.{arith, ap, ap₂, sym, ◌∙◌, subst, get_or, i
 use Rattle.std.proofs.lemmas.Bool.Decides.{eqb_tells}
 use Rattle.std.proofs.lemmas.List.{get_or-map, length-map, take_all, take_more}
 use Rattle.exact_flows.specs.FlowSystems.{IsSumPair, bus_term, coefficient, flow_coefficient, no_branch}
-use Rattle.exact_flows.specs.Lines.{branch_of}
+use Rattle.exact_flows.specs.Lines.{line_branch}
 use Rattle.exact_flows.specs.declared.line.Line.{Line}
 use Rattle.exact_flows.specs.declared.rows.Row.{Row}
 use Rattle.exact_flows.specs.declared.rows.Row.TheVariants.{Flow}
@@ -61,45 +61,45 @@ term_taken i j b through term e f = f ∙ ap (λ t. put_through b.from b.to i *�
 
 -- what a row of a branch gives
 pub flow_number : {N : Type 0} (value : N → Fraction) (lines : List (Line N)) (row : Row) (l j : ℕ) (line : Line N) (x : Fraction) → row ≡ Flow l → l < length lines → line ≡ get_or lines l line
-    → x ≡ put_through line.from line.to j *ℚ value line.susceptance → x ≡ coefficient (map (branch_of value) lines) row j
+    → x ≡ put_through line.from line.to j *ℚ value line.susceptance → x ≡ coefficient (map (line_branch value) lines) row j
 unfolding flow_coefficient
 flow_number value lines row l j line x e h is f =
     f
-    ∙ ap (λ (b : Branch). put_through b.from b.to j *ℚ b.susceptance) (sym (get_or-map (branch_of value) lines l line no_branch h ∙ ap (branch_of value) (sym is)))
-    ∙ ap (λ (r : Row). coefficient (map (branch_of value) lines) r j) (sym e)
+    ∙ ap (λ (b : Branch). put_through b.from b.to j *ℚ b.susceptance) (sym (get_or-map (line_branch value) lines l line no_branch h ∙ ap (line_branch value) (sym is)))
+    ∙ ap (λ (r : Row). coefficient (map (line_branch value) lines) r j) (sym e)
 
 -- ---- sums
 module _ {N : Type 0} (value : N → Fraction) (lines : List (Line N)) (i j : ℕ) where
   abbrev pub branches : List Branch
-  branches = map (branch_of value) lines
+  branches = map (line_branch value) lines
 
-  pub sum_none : sum_by (bus_term i j) (take 0 (map (branch_of value) lines)) ≡ whole (pos 0)
+  pub sum_none : sum_by (bus_term i j) (take 0 (map (line_branch value) lines)) ≡ whole (pos 0)
   sum_none = refl
 
-  branch_at_place : (k : ℕ) (line : Line N) (b : Branch) → k < length lines → line ≡ get_or lines k line → get_or (map (branch_of value) lines) k b ≡ branch_of value line
-  branch_at_place k line b h is = get_or-map (branch_of value) lines k line b h ∙ ap (branch_of value) (sym is)
+  branch_at_place : (k : ℕ) (line : Line N) (b : Branch) → k < length lines → line ≡ get_or lines k line → get_or (map (line_branch value) lines) k b ≡ line_branch value line
+  branch_at_place k line b h is = get_or-map (line_branch value) lines k line b h ∙ ap (line_branch value) (sym is)
 
   pub sum_more : (k : ℕ) (line : Line N) → k < length lines → line ≡ get_or lines k line
-      → sum_by (bus_term i j) (take (k + 1) (map (branch_of value) lines)) ≡ sum_by (bus_term i j) (take k (map (branch_of value) lines)) +ℚ bus_term i j (branch_of value line)
+      → sum_by (bus_term i j) (take (k + 1) (map (line_branch value) lines)) ≡ sum_by (bus_term i j) (take k (map (line_branch value) lines)) +ℚ bus_term i j (line_branch value line)
   sum_more k line h is =
-      let b : Branch = branch_of value line in
-      let short : k < length (map (branch_of value) lines) = Prim.omega (arith, h, length-map lines (branch_of value)) in
-      ap (sum_by (bus_term i j)) (take_more (map (branch_of value) lines) k b short)
-      ∙ sum_by-append (bus_term i j) (take k (map (branch_of value) lines)) (get_or (map (branch_of value) lines) k b ∷ [])
-      ∙ ap (λ t. sum_by (bus_term i j) (take k (map (branch_of value) lines)) +ℚ t)
-      (ring_ℚ.plus_nil (bus_term i j (get_or (map (branch_of value) lines) k b)) ∙ ap (bus_term i j) (branch_at_place k line b h is))
+      let b : Branch = line_branch value line in
+      let short : k < length (map (line_branch value) lines) = Prim.omega (arith, h, length-map lines (line_branch value)) in
+      ap (sum_by (bus_term i j)) (take_more (map (line_branch value) lines) k b short)
+      ∙ sum_by-append (bus_term i j) (take k (map (line_branch value) lines)) (get_or (map (line_branch value) lines) k b ∷ [])
+      ∙ ap (λ t. sum_by (bus_term i j) (take k (map (line_branch value) lines)) +ℚ t)
+      (ring_ℚ.plus_nil (bus_term i j (get_or (map (line_branch value) lines) k b)) ∙ ap (bus_term i j) (branch_at_place k line b h is))
 
-  pub sum_all : (k : ℕ) → length lines ≤ k → sum_by (bus_term i j) (take k (map (branch_of value) lines)) ≡ sum_by (bus_term i j) (map (branch_of value) lines)
-  sum_all k h = ap (sum_by (bus_term i j)) (take_all k (map (branch_of value) lines) (Prim.omega (arith, h, length-map lines (branch_of value))))
+  pub sum_all : (k : ℕ) → length lines ≤ k → sum_by (bus_term i j) (take k (map (line_branch value) lines)) ≡ sum_by (bus_term i j) (map (line_branch value) lines)
+  sum_all k h = ap (sum_by (bus_term i j)) (take_all k (map (line_branch value) lines) (Prim.omega (arith, h, length-map lines (line_branch value))))
 
   -- the two sides of the sum that is refused
-  pub sum_pair : (bound k : ℕ) (sum : N) (line : Line N) (e : Passed N) → k < length lines → line ≡ get_or lines k line → value sum ≡ sum_by (bus_term i j) (take k (map (branch_of value) lines))
-      → (left : N) × (right : N) × (value left ≡ value sum) × (value right ≡ bus_term i j (branch_of value line)) × IsTooLargeAt value bound Plus left right e
-      → IsSumPair (map (branch_of value) lines) bound i j e.op (value e.left) (value e.right)
+  pub sum_pair : (bound k : ℕ) (sum : N) (line : Line N) (e : Passed N) → k < length lines → line ≡ get_or lines k line → value sum ≡ sum_by (bus_term i j) (take k (map (line_branch value) lines))
+      → (left : N) × (right : N) × (value left ≡ value sum) × (value right ≡ bus_term i j (line_branch value line)) × IsTooLargeAt value bound Plus left right e
+      → IsSumPair (map (line_branch value) lines) bound i j e.op (value e.left) (value e.right)
   sum_pair bound k sum line e h is first (left, right, l, r, large) =
       let p = large.passed in record {
         k = k;
-        within = Prim.omega (arith, h, length-map lines (branch_of value));
+        within = Prim.omega (arith, h, length-map lines (line_branch value));
         adds = p.same_op;
         first = ap value p.same_left ∙ l ∙ first;
         next = ap value p.same_right ∙ r ∙ ap (bus_term i j) (sym (branch_at_place k line no_branch h is));

@@ -8,6 +8,7 @@ use Rattle.exact_flows.specs.declared.rows.Row.{Row}
 use Rattle.exact_flows.specs.declared.rows.Row.TheVariants.{Flow, Injection}
 use Rattle.linear_dict.specs.Dictionaries.{Dictionary, IsDictionary, note_of, system_in}
 use Rattle.linear_dict.specs.Notes.{blank}
+use Rattle.market_data.specs.Scales.{most_buses, most_lines}
 use Rattle.network_theory.specs.Networks.{Network}
 
 -- the bus whose angle is the column at a place
@@ -24,8 +25,8 @@ row_at branches reference place = if nat_lt place branches then Flow place else 
 
 -- its number is small enough for a name
 abbrev pub IsSmall : Row → Type 0
-IsSmall (Flow l) = l ≤ 2000
-IsSmall (Injection i) = i ≤ 1000
+IsSmall (Flow l) = l ≤ most_lines
+IsSmall (Injection i) = i ≤ most_buses
 
 -- where it is a branch's, that is one of so many
 abbrev pub IsAmongBranches : ℕ → Row → Type 0

@@ -6,12 +6,12 @@ use Rattle.fraction_theory.specs.Fraction.{Fraction}
 use Rattle.network_theory.specs.Carrying.{IsCarried}
 use Rattle.network_theory.specs.Networks.{Branch, Network, StandsAt}
 
-abbrev pub branch_of : {N : Type 0} → (N → Fraction) → Line N → Branch
-branch_of value line = record { from = line.from; to = line.to; susceptance = value line.susceptance }
+abbrev pub line_branch : {N : Type 0} → (N → Fraction) → Line N → Branch
+line_branch value line = record { from = line.from; to = line.to; susceptance = value line.susceptance }
 
 -- so many buses with these branches between them
-abbrev pub network_of : {N : Type 0} → (N → Fraction) → ℕ → List (Line N) → Network
-network_of value buses lines = record { buses = buses; branches = map (branch_of value) lines }
+abbrev pub line_network : {N : Type 0} → (N → Fraction) → ℕ → List (Line N) → Network
+line_network value buses lines = record { buses = buses; branches = map (line_branch value) lines }
 
 -- By branch and by bus, branch by branch: what the branch carries of 1 that is put in at the bus and taken out at the reference.
 pub record AreFlows {N : Type 0} (value : N → Fraction) (n : Network) (reference : ℕ) (flows : List N) : Type 0 where

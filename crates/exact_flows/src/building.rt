@@ -2,7 +2,8 @@
 ghost use Rattle.std.specs.Prelude.{◌≡◌, ◌+◌, ◌<◌, ◌≤◌, IfErr, IfOk, length};
 ghost use Rattle.exact_flows.specs.Building.{IsBuilt, IsExchanged};
 ghost use Rattle.exact_flows.specs.FlowSystems.{IsFlowStop};
-ghost use Rattle.exact_flows.specs.Lines.{network_of};
+ghost use Rattle.exact_flows.specs.Lines.{line_network};
+ghost use Rattle.market_data.specs.Scales.{most_buses, most_lines};
 
 use crate::coefficients::coefficients;
 use crate::line::Line;
@@ -20,10 +21,10 @@ fn started<N: Exact>(
     lines: &[Line<N>],
 ) -> Result<Dict<N>, FlowStop<N>>
     requires reference { reference < buses }
-    requires few { buses ≤ 1000 }
+    requires few { buses ≤ most_buses }
     requires some { 0 < length lines.now }
-    ensures built { IfOk result (IsBuilt (network_of N.value buses lines.now) reference 1) }
-    ensures pair { IfErr result (IsFlowStop N.value N.bound (network_of N.value buses lines.now) reference) }
+    ensures built { IfOk result (IsBuilt (line_network N.value buses lines.now) reference 1) }
+    ensures pair { IfErr result (IsFlowStop N.value N.bound (line_network N.value buses lines.now) reference) }
 {
     let angles = angle_names(alloc, buses, reference)?;
     let row = Row::Flow(0);
@@ -42,11 +43,11 @@ fn put_row<N: Exact>(
     place: usize,
 ) -> Result<(), FlowStop<N>>
     requires reference { reference < buses }
-    requires few { (buses ≤ 1000) × (length lines.now ≤ 2000) }
+    requires few { (buses ≤ most_buses) × (length lines.now ≤ most_lines) }
     requires place { place + 1 < length lines.now + buses }
-    requires built { IsBuilt (network_of N.value buses lines.now) reference place dict.old }
-    ensures built { IfOk result (λ _. IsBuilt (network_of N.value buses lines.now) reference (place + 1) dict.new) }
-    ensures pair { IfErr result (IsFlowStop N.value N.bound (network_of N.value buses lines.now) reference) }
+    requires built { IsBuilt (line_network N.value buses lines.now) reference place dict.old }
+    ensures built { IfOk result (λ _. IsBuilt (line_network N.value buses lines.now) reference (place + 1) dict.new) }
+    ensures pair { IfErr result (IsFlowStop N.value N.bound (line_network N.value buses lines.now) reference) }
 {
     let row = row_at_place(lines.len(), reference, place);
     let numbers = coefficients(alloc, lines, buses, reference, row)?;
@@ -66,10 +67,10 @@ pub(crate) fn built<N: Exact>(
     lines: &[Line<N>],
 ) -> Result<Dict<N>, FlowStop<N>>
     requires reference { reference < buses }
-    requires few { (buses ≤ 1000) × (length lines.now ≤ 2000) }
+    requires few { (buses ≤ most_buses) × (length lines.now ≤ most_lines) }
     requires some { 0 < length lines.now }
-    ensures built { IfOk result (IsExchanged (network_of N.value buses lines.now) reference 0) }
-    ensures pair { IfErr result (IsFlowStop N.value N.bound (network_of N.value buses lines.now) reference) }
+    ensures built { IfOk result (IsExchanged (line_network N.value buses lines.now) reference 0) }
+    ensures pair { IfErr result (IsFlowStop N.value N.bound (line_network N.value buses lines.now) reference) }
 {
     let mut dict = started(alloc, buses, reference, lines)?;
     for place in 1..lines.len() + buses - 1 {

@@ -4,10 +4,11 @@ ghost use Rattle.exact_fraction.specs.Passes.{IsTooLargeAt};
 ghost use Rattle.exact_fraction.specs.declared.Op.TheVariants as Op;
 ghost use Rattle.exact_flows.specs.Building.{IsAmongBranches, bus_of};
 ghost use Rattle.exact_flows.specs.FlowSystems.{IsFlowStop, IsRowOf, IsSumPair, bus_term, coefficient};
-ghost use Rattle.exact_flows.specs.Lines.{branch_of, network_of};
+ghost use Rattle.exact_flows.specs.Lines.{line_branch, line_network};
 ghost use Rattle.exact_flows.specs.declared.rows.Row.TheVariants as kind;
 ghost use Rattle.fraction_theory.specs.Fraction.{whole, ◌*ℚ◌, ◌+ℚ◌};
 ghost use Rattle.linear_dict.specs.Adding.{AreSums};
+ghost use Rattle.market_data.specs.Scales.{most_buses};
 ghost use Rattle.network_theory.specs.Carrying.{put_through};
 
 use crate::line::Line;
@@ -41,8 +42,8 @@ fn is_away(from: usize, to: usize, bus: usize) -> bool
 
 /// A sum with what a branch takes out of a bus for each unit of another angle. A branch that is not at both leaves it as it is.
 fn add_branch<N: Exact>(sum: N, line: Line<N>, bus: usize, other: usize) -> Result<N, Passed<N>>
-    ensures sum { IfOk result (λ more. N.value more ≡ N.value sum +ℚ bus_term bus other (branch_of N.value line)) }
-    ensures cause { IfErr result (λ e. (left : N) × (right : N) × (N.value left ≡ N.value sum) × (N.value right ≡ bus_term bus other (branch_of N.value line))
+    ensures sum { IfOk result (λ more. N.value more ≡ N.value sum +ℚ bus_term bus other (line_branch N.value line)) }
+    ensures cause { IfErr result (λ e. (left : N) × (right : N) × (N.value left ≡ N.value sum) × (N.value right ≡ bus_term bus other (line_branch N.value line))
         × IsTooLargeAt N.value N.bound Op.Plus left right e) }
 {
     if is_away(line.from, line.to, bus) || is_away(line.from, line.to, other) {
@@ -55,8 +56,8 @@ fn add_branch<N: Exact>(sum: N, line: Line<N>, bus: usize, other: usize) -> Resu
 
 /// What is put in at a bus for each unit of an angle: the sum over the branches of what they take out of the bus.
 fn bus_coefficient<N: Exact>(lines: &[Line<N>], bus: usize, other: usize) -> Result<N, Passed<N>>
-    ensures sum { IfOk result (λ sum. N.value sum ≡ coefficient (map (branch_of N.value) lines.now) (kind.Injection bus) other) }
-    ensures cause { IfErr result (λ e. IsSumPair (map (branch_of N.value) lines.now) N.bound bus other e.op (N.value e.left) (N.value e.right)) }
+    ensures sum { IfOk result (λ sum. N.value sum ≡ coefficient (map (line_branch N.value) lines.now) (kind.Injection bus) other) }
+    ensures cause { IfErr result (λ e. IsSumPair (map (line_branch N.value) lines.now) N.bound bus other e.op (N.value e.left) (N.value e.right)) }
 {
     let mut sum = N::of_parts(0, 1);
     for k in 0..lines.len() {
@@ -68,8 +69,8 @@ fn bus_coefficient<N: Exact>(lines: &[Line<N>], bus: usize, other: usize) -> Res
 /// What a row gives for each unit of an angle.
 fn row_coefficient<N: Exact>(lines: &[Line<N>], row: Row, other: usize) -> Result<N, Passed<N>>
     requires { IsAmongBranches (length lines.now) row }
-    ensures number { IfOk result (λ number. N.value number ≡ coefficient (map (branch_of N.value) lines.now) row other) }
-    ensures cause { IfErr result (λ e. (bus : ℕ) × (row ≡ kind.Injection bus) × IsSumPair (map (branch_of N.value) lines.now) N.bound bus other e.op (N.value e.left) (N.value e.right)) }
+    ensures number { IfOk result (λ number. N.value number ≡ coefficient (map (line_branch N.value) lines.now) row other) }
+    ensures cause { IfErr result (λ e. (bus : ℕ) × (row ≡ kind.Injection bus) × IsSumPair (map (line_branch N.value) lines.now) N.bound bus other e.op (N.value e.left) (N.value e.right)) }
 {
     match row {
         Row::Flow(branch) => {
@@ -89,11 +90,11 @@ pub(crate) fn coefficients<N: Exact>(
     row: Row,
 ) -> Result<List<N>, FlowStop<N>>
     requires reference { reference < buses }
-    requires few { buses ≤ 1000 }
-    requires row { IsRowOf (network_of N.value buses lines.now) reference row }
+    requires few { buses ≤ most_buses }
+    requires row { IsRowOf (line_network N.value buses lines.now) reference row }
     ensures numbers { IfOk result (λ numbers. (count : ℕ) → count + 1 ≡ buses
-        → AreSums N.value numbers count (λ c. coefficient (map (branch_of N.value) lines.now) row (bus_of reference c))) }
-    ensures pair { IfErr result (IsFlowStop N.value N.bound (network_of N.value buses lines.now) reference) }
+        → AreSums N.value numbers count (λ c. coefficient (map (line_branch N.value) lines.now) row (bus_of reference c))) }
+    ensures pair { IfErr result (IsFlowStop N.value N.bound (line_network N.value buses lines.now) reference) }
 {
     let mut numbers = List::new(alloc);
     for column in 0..buses - 1 {

@@ -2,9 +2,10 @@
 ghost use Rattle.std.specs.Prelude.{◌≡◌, ◌+◌, ◌<◌, ◌≤◌, ℕ, IfErr, IfOk, length};
 ghost use Rattle.exact_flows.specs.Building.{IsExchanged};
 ghost use Rattle.exact_flows.specs.FlowSystems.{IsFlowStop};
-ghost use Rattle.exact_flows.specs.Lines.{AreFlows, network_of};
+ghost use Rattle.exact_flows.specs.Lines.{AreFlows, line_network};
+ghost use Rattle.market_data.specs.Scales.{most_buses, most_lines};
 ghost use Rattle.network_theory.specs.Carrying.{IsCarried};
-ghost use Rattle.network_theory.specs.Networks.{Branch, IsConnected, IsNetwork, StandsAt};
+ghost use Rattle.network_theory.specs.Networks.{Branch, IsConnected, IsTheoryNetwork, StandsAt};
 
 use crate::line::Line;
 use crate::rows::column_of;
@@ -24,13 +25,13 @@ fn carried<N: Exact>(
     branch: usize,
     bus: usize,
 ) -> N
-    requires network { IsNetwork (network_of N.value buses lines.now) }
-    requires connected { IsConnected (network_of N.value buses lines.now) reference }
+    requires network { IsTheoryNetwork (line_network N.value buses lines.now) }
+    requires connected { IsConnected (line_network N.value buses lines.now) reference }
     requires reference { reference < buses }
     requires branch { branch < length lines.now }
     requires bus { bus < buses }
-    requires solved { (count : ℕ) → count + 1 ≡ buses → IsExchanged (network_of N.value buses lines.now) reference count dict.now }
-    ensures { let n = network_of N.value buses lines.now in (b : Branch) → StandsAt n branch b → IsCarried n reference bus reference b (N.value result) }
+    requires solved { (count : ℕ) → count + 1 ≡ buses → IsExchanged (line_network N.value buses lines.now) reference count dict.now }
+    ensures { let n = line_network N.value buses lines.now in (b : Branch) → StandsAt n branch b → IsCarried n reference bus reference b (N.value result) }
 {
     if bus == reference {
         N::of_parts(0, 1)
@@ -50,11 +51,11 @@ pub fn exact_flows<N: Exact>(
     lines: &[Line<N>],
 ) -> Result<List<N>, FlowStop<N>>
     requires reference { reference < buses }
-    requires few { (buses ≤ 1000) × (length lines.now ≤ 2000) }
-    requires network { IsNetwork (network_of N.value buses lines.now) }
-    requires connected { IsConnected (network_of N.value buses lines.now) reference }
-    ensures flows { IfOk result (AreFlows N.value (network_of N.value buses lines.now) reference) }
-    ensures pair { IfErr result (IsFlowStop N.value N.bound (network_of N.value buses lines.now) reference) }
+    requires few { (buses ≤ most_buses) × (length lines.now ≤ most_lines) }
+    requires network { IsTheoryNetwork (line_network N.value buses lines.now) }
+    requires connected { IsConnected (line_network N.value buses lines.now) reference }
+    ensures flows { IfOk result (AreFlows N.value (line_network N.value buses lines.now) reference) }
+    ensures pair { IfErr result (IsFlowStop N.value N.bound (line_network N.value buses lines.now) reference) }
 {
     let mut flows = List::new(alloc);
     if lines.is_empty() {

@@ -2,6 +2,7 @@
 ghost use Rattle.std.specs.Prelude.{◌≡◌, ◌≢◌, ◌+◌, ◌<◌, ◌≤◌, IfOk};
 ghost use Rattle.exact_flows.specs.Building.{AreAngles, IsSmall, bus_of, column_place, row_at};
 ghost use Rattle.exact_flows.specs.FlowSystems.{name};
+ghost use Rattle.market_data.specs.Scales.{most_buses};
 
 use plain_list::{List, Memory};
 use std::alloc::Global;
@@ -15,7 +16,7 @@ pub enum Row {
 
 /// The bus whose angle is the column at a place: all buses in their order, but for the reference.
 pub(crate) fn bus_at(reference: usize, column: usize) -> usize
-    requires { column < 1000 }
+    requires { column < most_buses }
     ensures { result ≡ bus_of reference column }
 {
     if column < reference {
@@ -35,7 +36,7 @@ pub(crate) fn column_of(reference: usize, bus: usize) -> usize
 
 /// The row at a place: first the branches, and then the buses other than the reference.
 pub(crate) fn row_at_place(branches: usize, reference: usize, place: usize) -> Row
-    requires { place < branches + 1000 }
+    requires { place < branches + most_buses }
     ensures { result ≡ row_at branches reference place }
 {
     if place < branches {
@@ -47,7 +48,7 @@ pub(crate) fn row_at_place(branches: usize, reference: usize, place: usize) -> R
 
 /// The name of a row. An angle is named by the place of its bus, and rows by the numbers from then on.
 pub(crate) fn row_name(buses: usize, row: Row) -> u32
-    requires buses { buses ≤ 1000 }
+    requires buses { buses ≤ most_buses }
     requires row { IsSmall row }
     ensures { result ≡ name buses row }
 {
@@ -64,7 +65,7 @@ pub(crate) fn angle_names(
     reference: usize,
 ) -> Result<List<u32>, Memory>
     requires reference { reference < buses }
-    requires few { buses ≤ 1000 }
+    requires few { buses ≤ most_buses }
     ensures { IfOk result (AreAngles buses reference) }
 {
     let mut names = List::new(alloc);

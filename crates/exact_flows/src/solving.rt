@@ -2,8 +2,9 @@
 ghost use Rattle.std.specs.Prelude.{◌≡◌, ◌+◌, ◌<◌, ◌≤◌, ℕ, IfErr, IfOk, length};
 ghost use Rattle.exact_flows.specs.Building.{IsExchanged};
 ghost use Rattle.exact_flows.specs.FlowSystems.{IsFlowPassed, IsFlowStop};
-ghost use Rattle.exact_flows.specs.Lines.{network_of};
-ghost use Rattle.network_theory.specs.Networks.{IsConnected, IsNetwork};
+ghost use Rattle.exact_flows.specs.Lines.{line_network};
+ghost use Rattle.market_data.specs.Scales.{most_buses, most_lines};
+ghost use Rattle.network_theory.specs.Networks.{IsConnected, IsTheoryNetwork};
 
 use crate::building::built;
 use crate::line::Line;
@@ -22,13 +23,13 @@ fn exchange<N: Exact>(
     column: usize,
 ) -> Result<(), Passed<N>>
     requires reference { reference < buses }
-    requires few { (buses ≤ 1000) × (length lines.now ≤ 2000) }
-    requires network { IsNetwork (network_of N.value buses lines.now) }
-    requires connected { IsConnected (network_of N.value buses lines.now) reference }
+    requires few { (buses ≤ most_buses) × (length lines.now ≤ most_lines) }
+    requires network { IsTheoryNetwork (line_network N.value buses lines.now) }
+    requires connected { IsConnected (line_network N.value buses lines.now) reference }
     requires column { column + 1 < buses }
-    requires exchanged { IsExchanged (network_of N.value buses lines.now) reference column dict.old }
-    ensures exchanged { IfOk result (λ _. IsExchanged (network_of N.value buses lines.now) reference (column + 1) dict.new) }
-    ensures pair { IfErr result (IsFlowPassed N.value N.bound (network_of N.value buses lines.now) reference) }
+    requires exchanged { IsExchanged (line_network N.value buses lines.now) reference column dict.old }
+    ensures exchanged { IfOk result (λ _. IsExchanged (line_network N.value buses lines.now) reference (column + 1) dict.new) }
+    ensures pair { IfErr result (IsFlowPassed N.value N.bound (line_network N.value buses lines.now) reference) }
 {
     dict.pivot(lines.len() + column, column)
 }
@@ -41,12 +42,12 @@ pub(crate) fn solved<N: Exact>(
     lines: &[Line<N>],
 ) -> Result<Dict<N>, FlowStop<N>>
     requires reference { reference < buses }
-    requires few { (buses ≤ 1000) × (length lines.now ≤ 2000) }
+    requires few { (buses ≤ most_buses) × (length lines.now ≤ most_lines) }
     requires some { 0 < length lines.now }
-    requires network { IsNetwork (network_of N.value buses lines.now) }
-    requires connected { IsConnected (network_of N.value buses lines.now) reference }
-    ensures solved { IfOk result (λ dict. (count : ℕ) → count + 1 ≡ buses → IsExchanged (network_of N.value buses lines.now) reference count dict) }
-    ensures pair { IfErr result (IsFlowStop N.value N.bound (network_of N.value buses lines.now) reference) }
+    requires network { IsTheoryNetwork (line_network N.value buses lines.now) }
+    requires connected { IsConnected (line_network N.value buses lines.now) reference }
+    ensures solved { IfOk result (λ dict. (count : ℕ) → count + 1 ≡ buses → IsExchanged (line_network N.value buses lines.now) reference count dict) }
+    ensures pair { IfErr result (IsFlowStop N.value N.bound (line_network N.value buses lines.now) reference) }
 {
     let mut dict = built(alloc, buses, reference, lines)?;
     for column in 0..buses - 1 {

@@ -22,7 +22,7 @@ use Rattle.factor_tables.specs.Factors.{Entry, FactorRecords, HasNoPairTwice, Pa
 use Rattle.factor_tables.specs.Tables.{loss_of, table_of}
 use Rattle.factor_tables.proofs.FactorLemmas.{factor_at-means}
 use Rattle.factor_residuals.specs.Kirchhoff.{bus_spot, loop_spot, reactance_at}
-use Rattle.factor_residuals.specs.Residuals.{AreLost, AreOutageLoopSpots, IsOutageBusResidual, IsOutageLoopResidual, bus_spots, exceeds, loop_spots, more, none, outage_column, places as places_below}
+use Rattle.factor_residuals.specs.Residuals.{AreLost, AreOutageLoopSpots, IsOutageBusResidual, IsOutageLoopResidual, bus_spots, exceeds, loop_spots, more, none, outage_column, places_below}
 use Rattle.factor_residuals.specs.declared.spots.Residual.{Residual}
 use Rattle.factor_residuals.specs.declared.spots.Spot.{Spot}
 use Rattle.factor_text.specs.Laws.{IsTableOver, NamesWhatIsLive, ObeysRules}
@@ -148,7 +148,7 @@ module _ (network : LiveNetwork) (xs : List ℤ) (outages : List ℕ) (places : 
   at_buses r is = is.is.over ∙ find_none exceeds (flat_map (λ k. bus_spots network (outage_column network loss k)) is.lost) (λ s c.
       let a = flat_contains (λ k. bus_spots network (outage_column network loss k)) is.lost s c in
       let b = Contains-from_map (bus_spot network (outage_column network loss a.0)) (places_below (length network.buses)) s a.2 in
-      subst (λ (t : Spot). exceeds t ≡ false) b.2 ((explained a.0 (checked is.lost is.are a.0 a.1)).at_buses b.0 (lists.places_below (length network.buses) b.0 b.1)))
+      subst (λ (t : Spot). exceeds t ≡ false) b.2 ((explained a.0 (checked is.lost is.are a.0 a.1)).at_buses b.0 (lists.places_below-within (length network.buses) b.0 b.1)))
 
   spots_explained : (lost : List NetBranch) (spots : List Spot) → AreOutageLoopSpots network xs loss lost spots → ((k : NetBranch) → Contains lost k → Contains made.lost k) → (s : Spot) → Contains spots s
       → exceeds s ≡ false

@@ -21,7 +21,7 @@ use Rattle.factor_tables.specs.Factors.{Entry, FactorRecords, HasNoPairTwice, Pa
 use Rattle.factor_tables.specs.Tables.{shift_of, table_of}
 use Rattle.factor_tables.proofs.FactorLemmas.{factor_at-means}
 use Rattle.factor_residuals.specs.Kirchhoff.{Column, bus_spot, loop_spot, reactance_at}
-use Rattle.factor_residuals.specs.Residuals.{IsBusResidual, IsLoopResidual, bus_spots, exceeds, loop_spots, places as places_below, shift_column, shift_columns}
+use Rattle.factor_residuals.specs.Residuals.{IsBusResidual, IsLoopResidual, bus_spots, exceeds, loop_spots, places_below, shift_column, shift_columns}
 use Rattle.factor_residuals.specs.declared.spots.Residual.{Residual}
 use Rattle.factor_residuals.specs.declared.spots.Spot.{Spot}
 use Rattle.factor_text.specs.Laws.{IsTableOver, NamesWhatIsLive, ObeysRules}
@@ -48,7 +48,7 @@ module _ (network : LiveNetwork) (xs : List ℤ) (places : FactorPlaces) (shift 
       let r = flat_contains (λ l. map (λ i. (l, i)) (places_below buses)) network.branches pair c in
       let q = Contains-from_map (λ i. (r.0, i)) (places_below buses) pair r.2 in (
         subst (λ (l : NetBranch). Contains network.branches l) (ap (λ (w : NetBranch × ℕ). w.0) q.2) r.1,
-        subst (λ (i : ℕ). i < buses) (ap (λ (w : NetBranch × ℕ). w.1) q.2) (lists.places_below buses q.0 q.1),
+        subst (λ (i : ℕ). i < buses) (ap (λ (w : NetBranch × ℕ). w.1) q.2) (lists.places_below-within buses q.0 q.1),
       )
 
   pair_there_of : (l : NetBranch) (i : ℕ) → Contains network.branches l → Contains (places_below buses) i → Contains pairs (l, i)
@@ -96,7 +96,7 @@ module _ (network : LiveNetwork) (xs : List ℤ) (places : FactorPlaces) (shift 
 
   rounded : (i : ℕ) → Contains (places_below buses) i → AreRounded network xs None places i network.reference (λ row. factor_at shift.entries (row, bus_number network i))
   rounded i d l c = elim (factor_at-means shift.entries (l.row, bus_number network i)) [
-    | inl there ↦ of_record l i (factor_at shift.entries (l.row, bus_number network i)) c (lists.places_below buses i d) there
+    | inl there ↦ of_record l i (factor_at shift.entries (l.row, bus_number network i)) c (lists.places_below-within buses i d) there
     | inr lacking ↦ absurd (missing lacking.0)
   ]
     where
@@ -109,7 +109,7 @@ module _ (network : LiveNetwork) (xs : List ℤ) (places : FactorPlaces) (shift 
 
   explained : (i : ℕ) → Contains (places_below buses) i → AreExplained network xs (shift_column network shift i)
   explained i d = subst (λ (p : FactorPlaces). AreExplained network xs (rounded_column network None p (bus_number network i) i network.reference (λ row. factor_at shift.entries (row, bus_number network i)))) (sym made.places_are)
-      (law_of_rounding network xs None places (bus_number network i) i network.reference (λ row. factor_at shift.entries (row, bus_number network i)) sound (lists.places_below buses i d) sound.network_is.reference (rounded i d))
+      (law_of_rounding network xs None places (bus_number network i) i network.reference (λ row. factor_at shift.entries (row, bus_number network i)) sound (lists.places_below-within buses i d) sound.network_is.reference (rounded i d))
 
   at_buses : (r : Residual) → IsBusResidual network shift r → IsExplained r
   at_buses r is = is.over ∙ find_none exceeds (flat_map (bus_spots network) (shift_columns network shift)) (λ s c.
@@ -117,7 +117,7 @@ module _ (network : LiveNetwork) (xs : List ℤ) (places : FactorPlaces) (shift 
       let i = Contains-from_map (shift_column network shift) (places_below buses) a.0 a.1 in
       let b = Contains-from_map (bus_spot network a.0) (places_below buses) s a.2 in
       subst (λ (t : Spot). exceeds t ≡ false) b.2
-      (subst (λ (col : Column). exceeds (bus_spot network col b.0) ≡ false) i.2 ((explained i.0 i.1).at_buses b.0 (lists.places_below buses b.0 b.1))))
+      (subst (λ (col : Column). exceeds (bus_spot network col b.0) ≡ false) i.2 ((explained i.0 i.1).at_buses b.0 (lists.places_below-within buses b.0 b.1))))
 
   round_loops : (r : Residual) → IsLoopResidual network xs shift r → IsExplained r
   round_loops r is = is.is.over ∙ find_none exceeds (flat_map (loop_spots network xs is.loops) (shift_columns network shift)) (λ s c.

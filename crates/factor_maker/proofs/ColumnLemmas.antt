@@ -13,7 +13,7 @@ use Rattle.exact_flows.specs.declared.stop.FlowStop.{FlowStop}
 use Rattle.exact_flows.specs.declared.stop.FlowStop.TheVariants as flow
 use Rattle.factor_maker.specs.Columns.{AreCarried, AreColumn, AreColumns}
 use Rattle.factor_maker.specs.ExactLists.{AreDifferences, IsRefusedDifference}
-use Rattle.factor_maker.specs.Stops.{IsDifference, OnMakePassed, made_stop}
+use Rattle.factor_maker.specs.Stops.{IsDifference, OnPassed, made_stop}
 use Rattle.factor_maker.specs.declared.stops.MakeStop.{MakeStop}
 use Rattle.factor_maker.specs.declared.stops.MakeStop.TheVariants as why
 use Rattle.factor_maker.proofs.Lists.{at_place, get_contains, get_last, place_of, zip-at, zip-by_places, zip-length}
@@ -68,16 +68,16 @@ module _ {N : Type 0} (value : N → Fraction) (n : Network) (reference source s
 
 -- ---- stops
 pub on_flow : {N : Type 0} (value : N → Fraction) (bound : ℕ) (n : Network) (reference : ℕ) (P : Passed N → Type 0) → ((e : Passed N) → IsFlowPassed value bound n reference e → P e)
-    → (stop : FlowStop N) → IsFlowStop value bound n reference stop → OnMakePassed P (made_stop stop)
+    → (stop : FlowStop N) → IsFlowStop value bound n reference stop → OnPassed (made_stop stop) P
 on_flow value bound n reference P f (flow.Passed e) h = f e h
 on_flow value bound n reference P f flow.Memory h = tt
 
-pub on_weaker : {N : Type 0} (P Q : Passed N → Type 0) → ((e : Passed N) → P e → Q e) → (stop : MakeStop N) → OnMakePassed P stop → OnMakePassed Q stop
+pub on_weaker : {N : Type 0} (P Q : Passed N → Type 0) → ((e : Passed N) → P e → Q e) → (stop : MakeStop N) → OnPassed stop P → OnPassed stop Q
 on_weaker P Q f (why.TooMany count) h = h
 on_weaker P Q f (why.NotPositive row) h = h
 on_weaker P Q f (why.Passed e) h = f e h
 on_weaker P Q f why.Memory h = tt
 
-pub if_weaker : {A N : Type 0} (P Q : Passed N → Type 0) → ((e : Passed N) → P e → Q e) → (result : Result A (MakeStop N)) → IfErr result (OnMakePassed P) → IfErr result (OnMakePassed Q)
+pub if_weaker : {A N : Type 0} (P Q : Passed N → Type 0) → ((e : Passed N) → P e → Q e) → (result : Result A (MakeStop N)) → IfErr result (λ s. OnPassed s P) → IfErr result (λ s. OnPassed s Q)
 if_weaker P Q f (Ok x) h = h
 if_weaker P Q f (Err stop) h = on_weaker P Q f stop h

@@ -16,7 +16,7 @@ use Rattle.net_case.specs.declared.live_parts.NetBranch.{NetBranch}
 use Rattle.net_paths.specs.Connection.{bus_number}
 use Rattle.net_paths.specs.Detours.{IsBranchOf}
 use Rattle.net_paths.specs.Loops.{kept}
-use Rattle.factor_residuals.specs.Residuals.{places as places_below}
+use Rattle.factor_residuals.specs.Residuals.{places_below}
 use Rattle.factor_tables.specs.declared.made.MadeFactor.{MadeFactor}
 use Rattle.network_theory.specs.Carrying.{IsCarried}
 use Rattle.dc_network.specs.DcNetworks.{ArePositive, dc_branch, dc_network}
@@ -29,7 +29,7 @@ use Rattle.exact_flows.specs.declared.stop.FlowStop.TheVariants as flow
 use Rattle.factor_maker.specs.Columns.{AreCarried, AreColumn, AreLossRecords, AreOutageRecords, AreTold, made_of, shift_made}
 use Rattle.factor_maker.specs.ExactLists.{AreEntries}
 use Rattle.factor_maker.specs.Made.{AreNearestUnits}
-use Rattle.factor_maker.specs.Stops.{IsOutagePair, IsPairOfOne, IsShiftStop, OnMakePassed, made_stop, most_made}
+use Rattle.factor_maker.specs.Stops.{IsOutagePair, IsPairOfOne, IsShiftStop, OnPassed, made_stop, most_made}
 use Rattle.factor_maker.specs.declared.stops.MakeStop.{MakeStop}
 use Rattle.factor_maker.proofs.ColumnLemmas.{on_weaker}
 use Rattle.factor_maker.proofs.Lists.{zip-length}
@@ -116,9 +116,9 @@ module _ (network : LiveNetwork) (xs : List ℤ) (places : FactorPlaces) where
       (more_records network xs places (take i outages) old adds.2 (get_or outages i 0) adds.0 before of adds.4))
 
 pub outage_refused : {N A : Type 0} (value : N → Fraction) (bound : ℕ) (network : LiveNetwork) (xs : List ℤ) (outages list : List ℕ) (i : ℕ) → list ≡ outages → i < length list → (result : Result A (MakeStop N)) (stop : MakeStop N)
-    → result ≡ Err stop → OnMakePassed (λ e. (k : NetBranch) × IsBranchOf network (slice_index_or list i 0) k × IsOutagePair value bound network xs k e) stop → IfErr result (OnMakePassed (IsPairOfOne value bound network xs outages))
+    → result ≡ Err stop → OnPassed stop (λ e. (k : NetBranch) × IsBranchOf network (slice_index_or list i 0) k × IsOutagePair value bound network xs k e) → IfErr result (λ s. OnPassed s (IsPairOfOne value bound network xs outages))
 outage_refused {N} {A} value bound network xs outages list i same lt result stop is h =
     let there : Contains outages (slice_index_or list i 0) = subst (λ (os : List ℕ). Contains os (slice_index_or list i 0)) same (Contains-get_or list i 0 lt) in
-    subst (λ (r : Result A (MakeStop N)). IfErr r (OnMakePassed (IsPairOfOne value bound network xs outages))) (sym is)
+    subst (λ (r : Result A (MakeStop N)). IfErr r (λ s. OnPassed s (IsPairOfOne value bound network xs outages))) (sym is)
     (on_weaker (λ e. (k : NetBranch) × IsBranchOf network (slice_index_or list i 0) k × IsOutagePair value bound network xs k e) (IsPairOfOne value bound network xs outages)
     (λ e p. (slice_index_or list i 0, p.0, there, p.1, p.2)) stop h)

@@ -8,7 +8,7 @@ use Rattle.std.specs.Prelude.{◌≤ℤ◌}
 use Rattle.std.specs.List.{AllZip}
 use Rattle.net_case.specs.Networks.{LiveNetwork}
 use Rattle.net_case.specs.declared.live_parts.NetBranch.{NetBranch}
-use Rattle.factor_residuals.specs.Residuals.{places}
+use Rattle.factor_residuals.specs.Residuals.{places_below}
 use Rattle.factor_residuals.proofs.ColumnLemmas.{map_last, places_more}
 use Rattle.dc_network.specs.DcNetworks.{ArePositive}
 use Rattle.factor_maker.specs.Stops.{IsFirstNotPositive}
@@ -56,9 +56,9 @@ zip-take R xs ys i x y lt here zip r =
     subst (λ (zs : List _). AllZip R zs (ys ++ y ∷ [])) (sym (take_more xs i x lt ∙ ap (λ (z : _). take i xs ++ z ∷ []) here)) (zip-last R (take i xs) ys x y zip r)
 
 -- one more record
-pub one_more : {A : Type 0} (f : ℕ → A) (i : ℕ) (before old new : List A) (x : A) → old ≡ before ++ map f (places i) → new ≡ old ++ x ∷ [] → x ≡ f i → new ≡ before ++ map f (places (i + 1))
+pub one_more : {A : Type 0} (f : ℕ → A) (i : ℕ) (before old new : List A) (x : A) → old ≡ before ++ map f (places_below i) → new ≡ old ++ x ∷ [] → x ≡ f i → new ≡ before ++ map f (places_below (i + 1))
 one_more f i before old new x is pushed here =
-    pushed ∙ ap₂ (λ (xs : List _) (y : _). xs ++ y ∷ []) is here ∙ append_assoc before (map f (places i)) (f i ∷ []) ∙ ap (λ (xs : List _). before ++ xs) (map_last f (places i) i ∙ ap (map f) (sym (places_more i)))
+    pushed ∙ ap₂ (λ (xs : List _) (y : _). xs ++ y ∷ []) is here ∙ append_assoc before (map f (places_below i)) (f i ∷ []) ∙ ap (λ (xs : List _). before ++ xs) (map_last f (places_below i) i ∙ ap (map f) (sym (places_more i)))
 
 -- ---- the first number that is not above 0
 rejoin : (xs : List ℤ) (k : ℕ) → xs ≡ take k xs ++ drop k xs

@@ -10,8 +10,9 @@ use Rattle.net_case.specs.Networks.{LiveNetwork, IsNetwork}
 use Rattle.net_case.specs.declared.live_parts.NetBranch.{NetBranch}
 use Rattle.outage_list.specs.Listing.{AreOutages, IsOutage}
 use Rattle.dc_network.proofs.Connection.{Contains-map}
+use Rattle.market_data.specs.Scales.{most_lines}
 
-pub few_outages : (network : LiveNetwork) (outages : List ℕ) → IsNetwork network → AreOutages network outages → length outages ≤ 2000
+pub few_outages : (network : LiveNetwork) (outages : List ℕ) → IsNetwork network → AreOutages network outages → length outages ≤ most_lines
 few_outages network outages is listed =
     let rows = map (λ (l : NetBranch). l.row) network.branches in
     let few = length-le_from_is_member nat_eq_equiv outages rows (IsDistinct-from_AllPairs Decides-eqb outages listed.distinct)

@@ -5,7 +5,7 @@ use mathlib.Core.Path.{ap₂}
 use Rattle.std.proofs.Math.Logic.{⊎_elim}
 use Rattle.std.specs.List.{AllZip, flat_map}
 use Rattle.std.proofs.lemmas.List.{get_or-map, length-map, length-append}
-use Rattle.factor_residuals.specs.Residuals.{places}
+use Rattle.factor_residuals.specs.Residuals.{places_below}
 use Rattle.std.proofs.lemmas.List.Elements.{All-append, All-contains, Contains-append_cases}
 use Rattle.std.proofs.lemmas.List.Kept.{AllPairs-cons}
 use Rattle.fraction_theory.proofs.ListSums.{Contains-head, Contains-cons, Contains-cases}
@@ -197,28 +197,28 @@ pub pairs-weaker : {A : Type 0} (P Q : A → A → Type 0) (xs : List A) → ((x
 pairs-weaker P Q xs h a = λ i j d p q. h (get_or xs i d) (get_or xs j d) (a i j d p q)
 
 -- ---- the places below a number
-pub length-places : (n : ℕ) → length (places n) ≡ n
+pub length-places : (n : ℕ) → length (places_below n) ≡ n
 length-places zero = refl
-length-places (suc n) = let all = length-append (places n) (n ∷ []) in let rest = length-places n in omega (arith, all, rest)
+length-places (suc n) = let all = length-append (places_below n) (n ∷ []) in let rest = length-places n in omega (arith, all, rest)
 
-pub get_places : (n k y : ℕ) → slice_get (places n) k ≡ Some y → (k < n) × (y ≡ k)
+pub get_places : (n k y : ℕ) → slice_get (places_below n) k ≡ Some y → (k < n) × (y ≡ k)
 get_places zero k y e = absurd (let h = at_place [] k y y e in omega (arith, h.0))
 get_places (suc n) k y e = ⊎_elim (λ h. let r = get_places n k y h in (omega (arith, r.0), r.1))
-    (λ h. let c = length-places n in (omega (arith, h.0, c), h.1 ∙ (let q : n ≡ k = omega (arith, h.0, c) in q))) (get_last (places n) n k y e)
+    (λ h. let c = length-places n in (omega (arith, h.0, c), h.1 ∙ (let q : n ≡ k = omega (arith, h.0, c) in q))) (get_last (places_below n) n k y e)
 
-pub places_below : (n i : ℕ) → Contains (places n) i → i < n
-places_below n i c = let r = get_places n c.0 i (get_there (places n) c.0 i c.1 c.2) in omega (arith, r.0, r.1)
+pub places_below-within : (n i : ℕ) → Contains (places_below n) i → i < n
+places_below-within n i c = let r = get_places n c.0 i (get_there (places_below n) c.0 i c.1 c.2) in omega (arith, r.0, r.1)
   where
     get_there : (xs : List ℕ) (k x : ℕ) → k < length xs → get_or xs k x ≡ x → slice_get xs k ≡ Some x
     get_there [] k x lt e = absurd (omega (arith, lt))
     get_there (y ∷ xs) zero x lt e = ap Some e
     get_there (y ∷ xs) (suc k) x lt e = get_there xs k x (omega (arith, lt)) e
 
-pub pairs-places : (P : ℕ → ℕ → Type 0) (n : ℕ) → ((i j : ℕ) → i < j → j < n → P i j) → AllPairs P (places n)
+pub pairs-places : (P : ℕ → ℕ → Type 0) (n : ℕ) → ((i j : ℕ) → i < j → j < n → P i j) → AllPairs P (places_below n)
 pairs-places P n h = λ i j d p q.
     let c = length-places n in
-    subst (λ (u : ℕ). P u (get_or (places n) j d)) (sym (here n i d (omega (arith, p, q))))
+    subst (λ (u : ℕ). P u (get_or (places_below n) j d)) (sym (here n i d (omega (arith, p, q))))
     (subst (λ (v : ℕ). P i v) (sym (here n j d q)) (h i j p (omega (arith, q, c))))
   where
-    here : (n k d : ℕ) → k < length (places n) → get_or (places n) k d ≡ k
-    here n k d lt = let x = place_of (places n) k lt in (at_place (places n) k x.0 d x.1).1 ∙ (get_places n k x.0 x.1).1
+    here : (n k d : ℕ) → k < length (places_below n) → get_or (places_below n) k d ≡ k
+    here n k d lt = let x = place_of (places_below n) k lt in (at_place (places_below n) k x.0 d x.1).1 ∙ (get_places n k x.0 x.1).1

@@ -13,7 +13,7 @@ use Rattle.net_paths.specs.Connection.{bus_number}
 use Rattle.net_paths.specs.Detours.{others}
 use Rattle.factor_tables.specs.Made.{AreApart, AreInBounds, made_pair}
 use Rattle.factor_tables.specs.declared.made.MadeFactor.{MadeFactor}
-use Rattle.factor_residuals.specs.Residuals.{places as places_below}
+use Rattle.factor_residuals.specs.Residuals.{places_below}
 use Rattle.dc_network.proofs.Connection.{kept_live}
 use Rattle.factor_maker.specs.Columns.{IsMade}
 use Rattle.factor_maker.specs.Made.{loss_pairs, shift_pairs}

@@ -10,23 +10,23 @@ use Rattle.fraction_theory.specs.Fraction.{Fraction, whole, over}
 use Rattle.fraction_theory.specs.Order.{◌≤ℚ◌}
 use Rattle.fraction_theory.specs.Signs.{abs_ℚ}
 use Rattle.exact_fraction.specs.Nearest.{IsNearest}
-use Rattle.market_data.specs.Scales.{place_count}
+use Rattle.market_data.specs.Scales.{most_buses, most_lines, place_count}
 use Rattle.market_data.specs.declared.scales.FactorPlaces.{FactorPlaces}
 use Rattle.net_case.specs.Networks.{LiveNetwork, IsNetBranch}
 use Rattle.net_case.specs.declared.live_parts.NetBranch.{NetBranch}
 use Rattle.net_paths.specs.Loops.{kept}
 use Rattle.factor_residuals.specs.Kirchhoff.{reactance_at}
-use Rattle.network_theory.specs.Networks.{Branch, Network, IsNetwork as IsTheoryNetwork, IsConnected}
+use Rattle.network_theory.specs.Networks.{Branch, Network, IsTheoryNetwork, IsConnected}
 use Rattle.network_theory.specs.Carrying.{IsCarried}
 use Rattle.dc_network.specs.DcNetworks.{dc_branch, dc_network}
 use Rattle.dc_network.specs.Laws.{IsSound}
 use Rattle.dc_network.proofs.Carried.{law_of_one_factor}
 use Rattle.dc_network.proofs.Connection.{Contains-from_map, kept_live, law_of_the_network}
 use Rattle.dc_network.proofs.Reactances.{not_nil, reactance_above, reactance_positive}
-use Rattle.flow_guess.specs.Links.{Grid, IsLink, branch_of as guess_branch, grid_network, network_of as guess_network}
+use Rattle.flow_guess.specs.Links.{Grid, IsLink, link_branch, grid_network, link_network}
 use Rattle.flow_guess.specs.Told.{AreNearest}
 use Rattle.flow_guess.specs.declared.links.Link.{Link}
-use Rattle.exact_flows.specs.Lines.{AreFlows, branch_of as exact_branch, network_of as exact_network}
+use Rattle.exact_flows.specs.Lines.{AreFlows, line_branch, line_network}
 use Rattle.exact_flows.specs.FlowSystems.{IsFlowStop}
 use Rattle.exact_flows.specs.declared.line.Line.{Line}
 use Rattle.exact_flows.specs.declared.stop.FlowStop.{FlowStop}
@@ -64,7 +64,7 @@ module _ (network : LiveNetwork) (xs : List ℤ) (lost : Option ℕ) (sound : Is
   dc = dc_network network xs lost
 
   abbrev as_guessed : NetBranch → Branch
-  as_guessed l = guess_branch (link_of network xs l)
+  as_guessed l = link_branch (link_of network xs l)
 
   branch_scaled : (l : NetBranch) → Contains network.branches l → dc_branch network xs l ≡ scaled one (as_guessed l)
   branch_scaled l c =
@@ -73,18 +73,18 @@ module _ (network : LiveNetwork) (xs : List ℤ) (lost : Option ℕ) (sound : Is
       let positive = reactance_positive network sound.network_is xs sound.reactances sound.positive l c in
       ap (λ (s : Fraction). record { from = l.from; to = l.to; susceptance = s }) (recip_units x (10 ^ 18) (omega arith) (not_nil (over x (10 ^ 18)) above) (λ e. absurd (omega (arith, ints, positive, e))))
 
-  branches_scaled : dc.branches ≡ map (scaled one) (map guess_branch (map (link_of network xs) bs))
+  branches_scaled : dc.branches ≡ map (scaled one) (map link_branch (map (link_of network xs) bs))
   branches_scaled = map-members (dc_branch network xs) (λ l. scaled one (as_guessed l)) bs (λ l c. branch_scaled l (kept_live lost network.branches l c)) ∙ twice bs
     where
-      twice : (ls : List NetBranch) → map (λ l. scaled one (as_guessed l)) ls ≡ map (scaled one) (map guess_branch (map (link_of network xs) ls))
+      twice : (ls : List NetBranch) → map (λ l. scaled one (as_guessed l)) ls ≡ map (scaled one) (map link_branch (map (link_of network xs) ls))
       twice [] = refl
       twice (l ∷ ls) = ap (λ (rest : List Branch). scaled one (as_guessed l) ∷ rest) (twice ls)
 
   carried_guessed : (source sink : ℕ) (l : NetBranch) (f : Fraction) → Contains network.branches l → IsCarried dc network.reference source sink (dc_branch network xs l) f
-      → IsCarried (guess_network (length network.buses) (map (link_of network xs) bs)) network.reference source sink (as_guessed l) f
+      → IsCarried (link_network (length network.buses) (map (link_of network xs) bs)) network.reference source sink (as_guessed l) f
   carried_guessed source sink l f c is =
-      carried_scaled one (length network.buses) (map guess_branch (map (link_of network xs) bs)) network.reference source sink (as_guessed l) f
-      (subst (λ (b : Branch). IsCarried (record { buses = length network.buses; branches = map (scaled one) (map guess_branch (map (link_of network xs) bs)) }) network.reference source sink b f) (branch_scaled l c)
+      carried_scaled one (length network.buses) (map link_branch (map (link_of network xs) bs)) network.reference source sink (as_guessed l) f
+      (subst (λ (b : Branch). IsCarried (record { buses = length network.buses; branches = map (scaled one) (map link_branch (map (link_of network xs) bs)) }) network.reference source sink b f) (branch_scaled l c)
       (subst (λ (all : List Branch). IsCarried (record { buses = length network.buses; branches = all }) network.reference source sink (dc_branch network xs l) f) branches_scaled is))
 
   -- ---- what guesses and exact flows want of the network
@@ -98,39 +98,39 @@ module _ (network : LiveNetwork) (xs : List ℤ) (lost : Option ℕ) (sound : Is
       let between = All-contains (IsNetBranch (length network.buses)) network.branches l.0 sound.network_is.branches live in
       subst (IsLink (length network.buses)) l.2 (record { from = between.from; to = between.to; reactance = above_all l.0 l.1 }))
 
-  pub few_kept : length bs ≤ 2000
+  pub few_kept : length bs ≤ most_lines
   few_kept = let h = kept_short lost network.branches in let n = sound.network_is.branch_count in omega (arith, h, n)
 
   pub given_links : (n : ℕ) (links : List Link) → n ≡ length network.buses → links ≡ map (link_of network xs) bs → All (IsLink n) links
   given_links n links count is = subst (λ (m : ℕ). All (IsLink m) links) (sym count) (subst (λ (ls : List Link). All (IsLink (length network.buses)) ls) (sym is) are_links)
 
   module _ {N : Type 0} (value : N → Fraction) (lines : List (Line N)) (n r : ℕ) (count : n ≡ length network.buses) (place : r ≡ network.reference)
-      (are : map (exact_branch value) lines ≡ map (dc_branch network xs) bs) where
-    network_is : exact_network value n lines ≡ dc
+      (are : map (line_branch value) lines ≡ map (dc_branch network xs) bs) where
+    network_is : line_network value n lines ≡ dc
     network_is = ap₂ (λ (m : ℕ) (all : List Branch). record { buses = m; branches = all }) count are
 
-    pub given_few : (n ≤ 1000) × (length lines ≤ 2000)
+    pub given_few : (n ≤ most_buses) × (length lines ≤ most_lines)
     given_few =
         let b = sound.network_is.bus_count in
         let k = few_kept in
-        let e = sym (length-map lines (exact_branch value)) ∙ ap length are ∙ length-map bs (dc_branch network xs) in
+        let e = sym (length-map lines (line_branch value)) ∙ ap length are ∙ length-map bs (dc_branch network xs) in
         (omega (arith, b, count), omega (arith, k, e))
 
-    pub given_network : IsTheoryNetwork (exact_network value n lines)
+    pub given_network : IsTheoryNetwork (line_network value n lines)
     given_network = subst IsTheoryNetwork (sym network_is) (law_of_the_network network xs lost sound).0
 
-    pub given_connected : IsConnected (exact_network value n lines) r
+    pub given_connected : IsConnected (line_network value n lines) r
     given_connected = subst (λ (m : Network). IsConnected m r) (sym network_is) (subst (λ (i : ℕ). IsConnected dc i) (sym place) (law_of_the_network network xs lost sound).1)
 
-    pub given_flows : {E : Type 0} (result : Result (List N) E) → IfOk result (AreFlows value (exact_network value n lines) r) → IfOk result (AreFlows value dc network.reference)
+    pub given_flows : {E : Type 0} (result : Result (List N) E) → IfOk result (AreFlows value (line_network value n lines) r) → IfOk result (AreFlows value dc network.reference)
     given_flows result h = subst (λ (i : ℕ). IfOk result (AreFlows value dc i)) place (subst (λ (m : Network). IfOk result (AreFlows value m r)) network_is h)
 
-    pub given_stop : {A : Type 0} (bound : ℕ) (result : Result A (FlowStop N)) → IfErr result (IsFlowStop value bound (exact_network value n lines) r) → IfErr result (IsFlowStop value bound dc network.reference)
+    pub given_stop : {A : Type 0} (bound : ℕ) (result : Result A (FlowStop N)) → IfErr result (IsFlowStop value bound (line_network value n lines) r) → IfErr result (IsFlowStop value bound dc network.reference)
     given_stop bound result h = subst (λ (i : ℕ). IfErr result (IsFlowStop value bound dc i)) place (subst (λ (m : Network). IfErr result (IsFlowStop value bound m r)) network_is h)
 
   pub given_lines : {N : Type 0} (value : N → Fraction) {slice lines : List (Line N)} {branches : List NetBranch} → slice ≡ lines → branches ≡ bs
-      → map (exact_branch value) lines ≡ map (dc_branch network xs) branches → map (exact_branch value) slice ≡ map (dc_branch network xs) bs
-  given_lines {N} value is kept_are are = ap (map (exact_branch value)) is ∙ are ∙ ap (map (dc_branch network xs)) kept_are
+      → map (line_branch value) lines ≡ map (dc_branch network xs) branches → map (line_branch value) slice ≡ map (dc_branch network xs) bs
+  given_lines {N} value is kept_are are = ap (map (line_branch value)) is ∙ are ∙ ap (map (dc_branch network xs)) kept_are
 
   -- ---- guesses that tell all
   pub told_column : (guess : Grid) (source sink : ℕ) (places : FactorPlaces) (units : List ℤ) → guess ≡ guess_of network xs lost → source < length network.buses → sink < length network.buses
@@ -156,7 +156,7 @@ module _ (network : LiveNetwork) (xs : List ℤ) (lost : Option ℕ) (sound : Is
             exact = f.0;
             is_exact = f.1;
             nearest = told_here.nearest k link here.0 u f.0 number.1
-                (subst (λ (d : Link). IsCarried (guess_network (length network.buses) links) network.reference source sink (guess_branch d) f.0) (sym here.1) (carried_guessed source sink l f.0 (kept_live lost network.branches l c) f.1));
+                (subst (λ (d : Link). IsCarried (link_network (length network.buses) links) network.reference source sink (link_branch d) f.0) (sym here.1) (carried_guessed source sink l f.0 (kept_live lost network.branches l c) f.1));
           }
 
   -- ---- exact flows

@@ -8,7 +8,7 @@ use Rattle.fraction_theory.specs.Fraction.{Fraction, whole}
 use Rattle.fraction_theory.specs.Order.{◌≤ℚ◌}
 use Rattle.fraction_theory.specs.Signs.{abs_ℚ}
 use Rattle.exact_fraction.specs.Nearest.{IsNearest}
-use Rattle.market_data.specs.Scales.{place_count}
+use Rattle.market_data.specs.Scales.{most_buses, most_lines, place_count}
 use Rattle.market_data.specs.declared.scales.FactorPlaces.{FactorPlaces}
 use Rattle.net_case.specs.Networks.{LiveNetwork, IsNetBranch}
 use Rattle.net_case.specs.declared.live_parts.NetBranch.{NetBranch}
@@ -22,7 +22,7 @@ use Rattle.exact_flows.specs.FlowSystems.{IsFlowStop}
 use Rattle.exact_flows.specs.declared.stop.FlowStop.{FlowStop}
 use Rattle.factor_maker.specs.Columns.{AreCarried, AreColumn}
 use Rattle.factor_maker.specs.ExactLists.{AreDifferences, AreEntries, IsRefusedDifference}
-use Rattle.factor_maker.specs.Stops.{IsOutagePair, OnMakePassed, made_stop}
+use Rattle.factor_maker.specs.Stops.{IsOutagePair, OnPassed, made_stop}
 use Rattle.factor_maker.specs.declared.stops.MakeStop.{MakeStop}
 use Rattle.factor_maker.proofs.ColumnLemmas.{differences_carried, on_flow, on_weaker, refused_difference}
 use Rattle.factor_maker.proofs.Networks.{entries_carried, few_kept, rounded_column, small_factors}
@@ -34,7 +34,7 @@ pub record AreSides {N : Type 0} (value : N → Fraction) (n : Network) (referen
 
 -- few enough numbers
 pub few_flows : (network : LiveNetwork) (xs : List ℤ) (k : NetBranch) → IsSound network xs (Some k.row) → (others buses : ℕ) → others ≡ length (kept (Some k.row) network.branches) → buses ≡ length network.buses
-    → (others ≤ 2000) × (buses ≤ 1000)
+    → (others ≤ most_lines) × (buses ≤ most_buses)
 few_flows network xs k sound others buses count all =
     let few = few_kept network xs (Some k.row) sound in
     let b = sound.network_is.bus_count in
@@ -43,8 +43,8 @@ few_flows network xs k sound others buses count all =
 module _ {N : Type 0} (value : N → Fraction) (bound : ℕ) (network : LiveNetwork) (xs : List ℤ) (k : NetBranch) where
   -- the exact flows may be refused
   pub flow_stopped : (stop : FlowStop N) (made : MakeStop N) → made ≡ made_stop stop → IsFlowStop value bound (dc_network network xs (Some k.row)) network.reference stop
-      → OnMakePassed (IsOutagePair value bound network xs k) made
-  flow_stopped stop made is h = subst (OnMakePassed (IsOutagePair value bound network xs k)) (sym is)
+      → OnPassed made (IsOutagePair value bound network xs k)
+  flow_stopped stop made is h = subst (λ (s : MakeStop N). OnPassed s (IsOutagePair value bound network xs k)) (sym is)
       (on_flow value bound (dc_network network xs (Some k.row)) network.reference (IsOutagePair value bound network xs k) (λ e passed. inl passed) stop h)
 
 module _ {N : Type 0} (value : N → Fraction) (network : LiveNetwork) (xs : List ℤ) (k : NetBranch) (sound : IsSound network xs (Some k.row)) (of : IsBranchOf network k.row k) where
@@ -69,9 +69,9 @@ module _ {N : Type 0} (value : N → Fraction) (network : LiveNetwork) (xs : Lis
 
   module _ (left right : List N) (are : AreSides value dc network.reference k.from k.to left right) where
     -- a difference may be refused
-    pub sides_refused : {A : Type 0} (bound : ℕ) (result : Result A (MakeStop N)) (stop : MakeStop N) → result ≡ Err stop → OnMakePassed (IsRefusedDifference value bound left right) stop
-        → IfErr result (OnMakePassed (IsOutagePair value bound network xs k))
-    sides_refused {A} bound result stop is h = subst (λ (r : Result A (MakeStop N)). IfErr r (OnMakePassed (IsOutagePair value bound network xs k))) (sym is)
+    pub sides_refused : {A : Type 0} (bound : ℕ) (result : Result A (MakeStop N)) (stop : MakeStop N) → result ≡ Err stop → OnPassed stop (IsRefusedDifference value bound left right)
+        → IfErr result (λ s. OnPassed s (IsOutagePair value bound network xs k))
+    sides_refused {A} bound result stop is h = subst (λ (r : Result A (MakeStop N)). IfErr r (λ s. OnPassed s (IsOutagePair value bound network xs k))) (sym is)
         (on_weaker (IsRefusedDifference value bound left right) (IsOutagePair value bound network xs k)
         (λ e refused. inr (refused_difference value dc network.reference k.from k.to left right are.from_source are.from_sink bound e refused)) stop h)
 

@@ -13,7 +13,7 @@ use Rattle.outage_list.specs.Listing.{AreOutages, IsOutage}
 use Rattle.factor_tables.specs.Factors.{FactorRecords}
 use Rattle.factor_tables.specs.Made.{AreApart, AreInBounds, made_entry, made_table}
 use Rattle.factor_tables.specs.declared.made.MadeFactor.{MadeFactor}
-use Rattle.factor_residuals.specs.Residuals.{AreReactances, places as places_below}
+use Rattle.factor_residuals.specs.Residuals.{AreReactances, places_below}
 use Rattle.network_theory.specs.Networks.{Network}
 use Rattle.network_theory.specs.Carrying.{IsCarried}
 use Rattle.dc_network.specs.DcNetworks.{ArePositive, IsOutageFactor, IsShiftFactor, dc_branch, dc_network}
@@ -63,7 +63,7 @@ module _ (network : LiveNetwork) (xs : List ℤ) (places : FactorPlaces) where
   shift_records columns count are = zip-flat (λ l b. slice_get network.branches b ≡ Some l) (IsShiftMade network xs places)
       (λ l. map (λ i. (l, i)) (places_below (length network.buses))) (λ b. map (shift_made network columns b) (places_below (length network.buses)))
       (λ l b at. zip-same (IsShiftMade network xs places) (λ i. (l, i)) (shift_made network columns b) (places_below (length network.buses))
-      (λ i c. let within = lists.places_below (length network.buses) i c in
+      (λ i c. let within = lists.places_below-within (length network.buses) i c in
       made_at network.branches (dc_network network xs None) network.reference i network.reference (bus_number network i) (slice_index_or columns i []) l b refl (are.each i (omega (arith, within, count))) at))
       network.branches (places_below (length network.branches)) (places_stand network.branches)
 
@@ -107,7 +107,7 @@ module _ (network : LiveNetwork) (xs : List ℤ) (places : FactorPlaces) (is : I
         let sound : IsSound network xs None = record { network_is = is; reactances = reactances; positive = positive; joined = joined } in
         let r = lists.flat_contains (λ l. map (λ i. (l, i)) (places_below (length network.buses))) network.branches pair c in
         let q = Contains-from_map (λ i. (r.0, i)) (places_below (length network.buses)) pair r.2 in
-        let within = subst (λ (i : ℕ). i < length network.buses) (ap (λ (w : NetBranch × ℕ). w.1) q.2) (lists.places_below (length network.buses) q.0 q.1) in
+        let within = subst (λ (i : ℕ). i < length network.buses) (ap (λ (w : NetBranch × ℕ). w.1) q.2) (lists.places_below-within (length network.buses) q.0 q.1) in
         let there = subst (λ (l : NetBranch). Contains network.branches l) (ap (λ (w : NetBranch × ℕ). w.0) q.2) r.1 in
         small_factor network xs None sound pair.1 network.reference (dc_branch network xs pair.0) f within is.reference (Contains-map (dc_branch network xs) network.branches pair.0 there) factor)
 

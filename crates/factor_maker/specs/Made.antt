@@ -11,7 +11,7 @@ use Rattle.net_case.specs.declared.live_parts.NetBranch.{NetBranch}
 use Rattle.net_paths.specs.Connection.{bus_number}
 use Rattle.net_paths.specs.Detours.{IsBranchOf, others}
 use Rattle.factor_tables.specs.Factors.{Entry, FactorRecords}
-use Rattle.factor_residuals.specs.Residuals.{places as places_below}
+use Rattle.factor_residuals.specs.Residuals.{places_below}
 use Rattle.dc_network.specs.DcNetworks.{IsShiftFactor, IsOutageFactor}
 use Rattle.dc_network.specs.Rounding.{IsRounded}
 

@@ -58,11 +58,11 @@ abbrev pub IsPairOfOne : {N : Type 0} → (N → Fraction) → ℕ → LiveNetwo
 IsPairOfOne value bound network xs outages e = (row : ℕ) × (k : NetBranch) × Contains outages row × IsBranchOf network row k × IsOutagePair value bound network xs k e
 
 -- Only want of memory and numbers that became too large stop the work on exact factors; P holds of the numbers, and memory says nothing.
-abbrev pub OnMakePassed : {N : Type 0} → (PassedPair N → Type 0) → MakeStop N → Type 0
-OnMakePassed P (stop.TooMany many) = ⊥
-OnMakePassed P (stop.NotPositive row) = ⊥
-OnMakePassed P (stop.Passed e) = P e
-OnMakePassed P stop.Memory = Unit {0}
+abbrev pub OnPassed : {N : Type 0} → MakeStop N → (PassedPair N → Type 0) → Type 0
+OnPassed (stop.TooMany many) P = ⊥
+OnPassed (stop.NotPositive row) P = ⊥
+OnPassed (stop.Passed e) P = P e
+OnPassed stop.Memory P = Unit {0}
 
 -- why there are no exact flows, as why no factors are made
 abbrev pub made_stop : {N : Type 0} → FlowStop N → MakeStop N

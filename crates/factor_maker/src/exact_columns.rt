@@ -6,9 +6,9 @@ ghost use Rattle.fraction_theory.specs.Fraction.{whole};
 ghost use Rattle.fraction_theory.specs.Order.{◌≤ℚ◌};
 ghost use Rattle.fraction_theory.specs.Signs.{abs_ℚ};
 ghost use Rattle.exact_fraction.specs.Nearest.{IsNearest};
-ghost use Rattle.market_data.specs.Scales.{place_count};
+ghost use Rattle.market_data.specs.Scales.{most_buses, most_lines, place_count};
 ghost use Rattle.factor_maker.specs.ExactLists.{AreDifferences, AreEntries, IsRefusedDifference};
-ghost use Rattle.factor_maker.specs.Stops.{OnMakePassed};
+ghost use Rattle.factor_maker.specs.Stops.{OnPassed};
 
 use crate::numbers::FactorNumber;
 use crate::stops::MakeStop;
@@ -26,7 +26,7 @@ pub(crate) fn flows_from<N: Exact>(
     bus: usize,
 ) -> Result<List<N>, Memory>
     requires count { length flows.now ≡ branches * buses }
-    requires few { (branches ≤ 2000) × (buses ≤ 1000) }
+    requires few { (branches ≤ most_lines) × (buses ≤ most_buses) }
     requires bus { bus < buses }
     ensures { IfOk result (λ list. (length list ≡ branches) × AreEntries flows.now buses bus list) }
 {
@@ -45,7 +45,7 @@ pub(crate) fn differences<N: Exact>(
 ) -> Result<List<N>, MakeStop<N>>
     requires count { length from_source.now ≡ length from_sink.now }
     ensures are { IfOk result (AreDifferences N.value from_source.now from_sink.now) }
-    ensures stop { IfErr result (OnMakePassed (IsRefusedDifference N.value N.bound from_source.now from_sink.now)) }
+    ensures stop { IfErr result (λ stop. OnPassed stop (IsRefusedDifference N.value N.bound from_source.now from_sink.now)) }
 {
     let mut list = List::new(alloc);
     for place in 0..from_source.len() {

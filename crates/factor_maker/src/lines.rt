@@ -9,7 +9,7 @@ ghost use Rattle.factor_residuals.specs.Residuals.{AreReactances};
 ghost use Rattle.dc_network.specs.DcNetworks.{dc_branch, dc_network};
 ghost use Rattle.dc_network.specs.Laws.{IsSound};
 ghost use Rattle.exact_flows.specs.FlowSystems.{IsFlowStop};
-ghost use Rattle.exact_flows.specs.Lines.{AreFlows, branch_of};
+ghost use Rattle.exact_flows.specs.Lines.{AreFlows, line_branch};
 ghost use Rattle.factor_maker.specs.Columns.{link_of};
 
 use crate::numbers::FactorNumber;
@@ -104,7 +104,7 @@ fn lines_of<N: FactorNumber>(
 ) -> Result<List<Line<N>>, Memory>
     requires reactances { AreReactances network.now reactances.now }
     requires above { (l : NetBranch) → Contains branches.now l → pos 0 <ℤ reactance_at network.now reactances.now l.row }
-    ensures { IfOk result (λ lines. map (branch_of N.value) lines ≡ map (dc_branch network.now reactances.now) branches.now) }
+    ensures { IfOk result (λ lines. map (line_branch N.value) lines ≡ map (dc_branch network.now reactances.now) branches.now) }
 {
     let mut lines = List::new(alloc);
     for branch in branches {

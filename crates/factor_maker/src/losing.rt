@@ -8,12 +8,12 @@ ghost use Rattle.net_paths.specs.Connection.{JoinAll};
 ghost use Rattle.net_paths.specs.Detours.{IsBranchOf, IsLiveRow};
 ghost use Rattle.net_paths.specs.Loops.{kept};
 ghost use Rattle.outage_list.specs.Listing.{AreOutages, IsOutage};
-ghost use Rattle.factor_residuals.specs.Residuals.{AreReactances, places as places_below};
+ghost use Rattle.factor_residuals.specs.Residuals.{AreReactances, places_below};
 ghost use Rattle.dc_network.specs.DcNetworks.{ArePositive, dc_network};
 ghost use Rattle.dc_network.specs.Laws.{IsSound};
 ghost use Rattle.factor_maker.specs.Columns.{AreColumn, AreLossRecords, AreOutageRecords, made_of};
 ghost use Rattle.factor_maker.specs.Made.{IsMadeLoss};
-ghost use Rattle.factor_maker.specs.Stops.{IsLossStop, IsOutagePair, IsPairOfOne, OnMakePassed, loss_count, most_made};
+ghost use Rattle.factor_maker.specs.Stops.{IsLossStop, IsOutagePair, IsPairOfOne, OnPassed, loss_count, most_made};
 
 use crate::columns::guessed_column;
 use crate::exact_columns::{differences, flows_from, rounded};
@@ -41,7 +41,7 @@ fn exact_column(
     requires lost { IsBranchOf network.now lost.now.row lost.now }
     requires others { others ≡ length (kept (Some lost.now.row) network.now.branches) }
     ensures column { IfOk result (AreColumn (dc_network network.now reactances.now (Some lost.now.row)) network.now.reference lost.now.from lost.now.to places) }
-    ensures stop { IfErr result (OnMakePassed (IsOutagePair ⟦<Frac as Exact>⟧.value ⟦<Frac as Exact>⟧.bound network.now reactances.now lost.now)) }
+    ensures stop { IfErr result (λ stop. OnPassed stop (IsOutagePair ⟦<Frac as Exact>⟧.value ⟦<Frac as Exact>⟧.bound network.now reactances.now lost.now)) }
 {
     let flows = match flows_of(alloc, network, reactances, Some(lost.row)) {
         Ok(flows) => flows,
@@ -67,7 +67,7 @@ fn column_of(
     requires lost { IsBranchOf network.now lost.now.row lost.now }
     requires others { others ≡ length (kept (Some lost.now.row) network.now.branches) }
     ensures column { IfOk result (AreColumn (dc_network network.now reactances.now (Some lost.now.row)) network.now.reference lost.now.from lost.now.to places) }
-    ensures stop { IfErr result (OnMakePassed (IsOutagePair ⟦<Frac as Exact>⟧.value ⟦<Frac as Exact>⟧.bound network.now reactances.now lost.now)) }
+    ensures stop { IfErr result (λ stop. OnPassed stop (IsOutagePair ⟦<Frac as Exact>⟧.value ⟦<Frac as Exact>⟧.bound network.now reactances.now lost.now)) }
 {
     let guesser = guesser_of(alloc, network, reactances, Some(lost.row))?;
     match guessed_column(alloc, &guesser, lost.from, lost.to, places)? {
@@ -109,7 +109,7 @@ fn add_outage(
     requires live { IsLiveRow network.now outage }
     ensures added { IfOk result (λ _. (k : NetBranch) × IsBranchOf network.now outage k
         × (more : List MadeFactor) × (records.new ≡ records.old ++ more) × AreOutageRecords network.now reactances.now places k more) }
-    ensures stop { IfErr result (OnMakePassed (λ e. (k : NetBranch) × IsBranchOf network.now outage k
+    ensures stop { IfErr result (λ stop. OnPassed stop (λ e. (k : NetBranch) × IsBranchOf network.now outage k
         × IsOutagePair ⟦<Frac as Exact>⟧.value ⟦<Frac as Exact>⟧.bound network.now reactances.now k e)) }
 {
     let lost = branch_of(network, outage);
@@ -133,7 +133,7 @@ fn records_of(
     requires joined { JoinAll network.now.branches (length network.now.buses) }
     requires outages { All (IsOutage network.now) outages.now }
     ensures records { IfOk result (AreLossRecords network.now reactances.now places outages.now) }
-    ensures stop { IfErr result (OnMakePassed (IsPairOfOne ⟦<Frac as Exact>⟧.value ⟦<Frac as Exact>⟧.bound network.now reactances.now outages.now)) }
+    ensures stop { IfErr result (λ stop. OnPassed stop (IsPairOfOne ⟦<Frac as Exact>⟧.value ⟦<Frac as Exact>⟧.bound network.now reactances.now outages.now)) }
 {
     let mut records = List::new(alloc);
     for outage in outages.slice() {

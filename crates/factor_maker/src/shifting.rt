@@ -3,7 +3,7 @@
 ghost use Rattle.std.specs.Prelude.{◌≡◌, ◌<◌, ◌≤◌, ◌++◌, ℕ, [], length, map, IfErr, IfOk, IfSome, None, slice_index_or};
 ghost use Rattle.std.specs.List.{flat_map};
 ghost use Rattle.net_paths.specs.Connection.{JoinAll};
-ghost use Rattle.factor_residuals.specs.Residuals.{AreReactances, places as places_below};
+ghost use Rattle.factor_residuals.specs.Residuals.{AreReactances, places_below};
 ghost use Rattle.dc_network.specs.DcNetworks.{ArePositive, dc_network};
 ghost use Rattle.dc_network.specs.Laws.{IsSound};
 ghost use Rattle.exact_flows.specs.FlowSystems.{IsFlowStop};

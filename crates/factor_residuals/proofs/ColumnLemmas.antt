@@ -3,10 +3,10 @@ use Rattle.std.proofs.Common.{◌≡◌, ◌∙◌, ℕ, suc, ◌+◌, List, [],
 use Rattle.std.specs.List.{flat_map, AllZip}
 use Rattle.std.proofs.lemmas.List.{map-append}
 use Rattle.std.proofs.lemmas.Grind.{flat_map-append}
-use Rattle.factor_residuals.specs.Residuals.{places}
+use Rattle.factor_residuals.specs.Residuals.{places_below}
 
-pub places_more : (i : ℕ) → places (i + 1) ≡ places i ++ i ∷ []
-places_more i = ap places (sym (suc-is i))
+pub places_more : (i : ℕ) → places_below (i + 1) ≡ places_below i ++ i ∷ []
+places_more i = ap places_below (sym (suc-is i))
   where
     suc-is : (i : ℕ) → suc i ≡ i + 1
     suc-is i = omega arith

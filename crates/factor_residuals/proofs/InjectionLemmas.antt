@@ -31,12 +31,12 @@ use Rattle.factor_tables.specs.Factors.{factor_at}
 use Rattle.factor_residuals.specs.declared.spots.Spot.{Spot}
 use Rattle.factor_residuals.specs.declared.spots.Residual.{Residual}
 use Rattle.factor_residuals.specs.Kirchhoff.{taken, net_outflow, one_at, bus_spot}
-use Rattle.factor_residuals.specs.Residuals.{IsMost, IsResidual, places, shift_column, shift_columns, bus_spots}
+use Rattle.factor_residuals.specs.Residuals.{IsMost, IsResidual, places_below, shift_column, shift_columns, bus_spots}
 use Rattle.factor_residuals.specs.Injections.{billionths, taken_flow, greatest, LawOfInjections}
 
 -- the flow over the branch of a row, by factors of rows and places
 abbrev flow_by : (ℕ → ℕ → ℤ) → ℕ → (ℕ → Fraction) → ℕ → Fraction
-flow_by h n p row = sum_by (λ i. billionths (h row i) *ℚ p i) (places n)
+flow_by h n p row = sum_by (λ i. billionths (h row i) *ℚ p i) (places_below n)
 
 abbrev outflow_by : (ℕ → Fraction) → List NetBranch → ℕ → Fraction
 outflow_by flow branches b = sum_by (taken_flow flow b) branches
@@ -86,8 +86,8 @@ sum_by-minus f g [] = by_ring ring_ℚ [] pnil (padd pnil (pneg pnil)) refl
 sum_by-minus f g (x ∷ xs) = ap (λ t. (f x -ℚ g x) +ℚ t) (sum_by-minus f g xs)
     ∙ by_ring ring_ℚ (f x ∷ g x ∷ sum_by f xs ∷ sum_by g xs ∷ []) (padd (padd (at 0) (pneg (at 1))) (padd (at 2) (pneg (at 3)))) (padd (padd (at 0) (at 2)) (pneg (padd (at 1) (at 3)))) refl
 
-more-places : (f : ℕ → Fraction) (n : ℕ) → sum_by f (places (suc n)) ≡ sum_by f (places n) +ℚ f n
-more-places f n = sum_by-append f (places n) (n ∷ []) ∙ ap (λ t. sum_by f (places n) +ℚ t) (ring_ℚ.plus_nil (f n))
+more-places : (f : ℕ → Fraction) (n : ℕ) → sum_by f (places_below (suc n)) ≡ sum_by f (places_below n) +ℚ f n
+more-places f n = sum_by-append f (places_below n) (n ∷ []) ∙ ap (λ t. sum_by f (places_below n) +ℚ t) (ring_ℚ.plus_nil (f n))
 
 -- ---- one branch
 picked : (c : Bool) (h : ℕ → ℤ) (p : ℕ → Fraction) (is : List ℕ)
@@ -96,22 +96,22 @@ picked true h p is = refl
 picked false h p is = sym (sum_by-same (λ i. billionths (pos 0) *ℚ p i) (λ i. whole (pos 0)) is (λ i. ap (λ t. t *ℚ p i) billionths-none ∙ *ℚ_comm (whole (pos 0)) (p i) ∙ times_nil ring_ℚ (p i)) ∙ sum_by-nil is)
 
 module _ (h : ℕ → ℕ → ℤ) (n : ℕ) (p : ℕ → Fraction) (b : ℕ) where
-  one_branch : (l : NetBranch) → taken_flow (flow_by h n p) b l ≡ sum_by (λ i. billionths (taken (λ row. h row i) b l) *ℚ p i) (places n)
+  one_branch : (l : NetBranch) → taken_flow (flow_by h n p) b l ≡ sum_by (λ i. billionths (taken (λ row. h row i) b l) *ℚ p i) (places_below n)
   one_branch l =
       let out : ℕ → ℤ = λ i. if l.from == b then h l.row i else pos 0 in
       let into : ℕ → ℤ = λ i. if l.to == b then h l.row i else pos 0 in
-      ap₂ ◌-ℚ◌ (picked (l.from == b) (h l.row) p (places n)) (picked (l.to == b) (h l.row) p (places n))
-      ∙ sym (sum_by-minus (λ i. billionths (out i) *ℚ p i) (λ i. billionths (into i) *ℚ p i) (places n))
-      ∙ sum_by-same (λ i. (billionths (out i) *ℚ p i) -ℚ (billionths (into i) *ℚ p i)) (λ i. billionths (out i -ℤ into i) *ℚ p i) (places n)
+      ap₂ ◌-ℚ◌ (picked (l.from == b) (h l.row) p (places_below n)) (picked (l.to == b) (h l.row) p (places_below n))
+      ∙ sym (sum_by-minus (λ i. billionths (out i) *ℚ p i) (λ i. billionths (into i) *ℚ p i) (places_below n))
+      ∙ sum_by-same (λ i. (billionths (out i) *ℚ p i) -ℚ (billionths (into i) *ℚ p i)) (λ i. billionths (out i -ℤ into i) *ℚ p i) (places_below n)
       (λ i. by_ring ring_ℚ (billionths (out i) ∷ billionths (into i) ∷ p i ∷ []) (padd (pmul (at 0) (at 2)) (pneg (pmul (at 1) (at 2)))) (pmul (padd (at 0) (pneg (at 1))) (at 2)) refl
       ∙ ap (λ t. t *ℚ p i) (sym (billionths-minus (out i) (into i))))
 
   -- the net outflow, by columns
-  by_columns : (branches : List NetBranch) → outflow_by (flow_by h n p) branches b ≡ sum_by (λ i. billionths (net_outflow (λ row. h row i) branches b) *ℚ p i) (places n)
+  by_columns : (branches : List NetBranch) → outflow_by (flow_by h n p) branches b ≡ sum_by (λ i. billionths (net_outflow (λ row. h row i) branches b) *ℚ p i) (places_below n)
   by_columns branches =
-      sum_by-same (taken_flow (flow_by h n p) b) (λ l. sum_by (λ i. billionths (taken (λ row. h row i) b l) *ℚ p i) (places n)) branches one_branch
-      ∙ sum_by-exchange (λ l i. billionths (taken (λ row. h row i) b l) *ℚ p i) branches (places n)
-      ∙ sum_by-same (λ i. sum_by (λ l. billionths (taken (λ row. h row i) b l) *ℚ p i) branches) (λ i. billionths (net_outflow (λ row. h row i) branches b) *ℚ p i) (places n)
+      sum_by-same (taken_flow (flow_by h n p) b) (λ l. sum_by (λ i. billionths (taken (λ row. h row i) b l) *ℚ p i) (places_below n)) branches one_branch
+      ∙ sum_by-exchange (λ l i. billionths (taken (λ row. h row i) b l) *ℚ p i) branches (places_below n)
+      ∙ sum_by-same (λ i. sum_by (λ l. billionths (taken (λ row. h row i) b l) *ℚ p i) branches) (λ i. billionths (net_outflow (λ row. h row i) branches b) *ℚ p i) (places_below n)
       (λ i. billionths-sum (taken (λ row. h row i) b) (p i) branches)
 
 -- ---- what goes in
@@ -125,21 +125,21 @@ eq-not i b h = ne_eqb i b (Prim.omega (arith, h))
 eq-same : (b : ℕ) → (b == b) ≡ true
 eq-same b = eq-eqb b b refl
 
-others-none : (p : ℕ → Fraction) (b n : ℕ) → n ≤ b → sum_by (λ i. billionths (one_at i b) *ℚ p i) (places n) ≡ whole (pos 0)
+others-none : (p : ℕ → Fraction) (b n : ℕ) → n ≤ b → sum_by (λ i. billionths (one_at i b) *ℚ p i) (places_below n) ≡ whole (pos 0)
 others-none p b zero h = refl
 others-none p b (suc n) h =
     more-places (λ i. billionths (one_at i b) *ℚ p i) n
     ∙ ap₂ ◌+ℚ◌ (others-none p b n (Prim.omega (arith, h))) (at-place (n == b) (p n) ∙ ap (λ c. if c then p n else whole (pos 0)) (eq-not n b (Prim.omega (arith, h))))
     ∙ ring_ℚ.plus_nil (whole (pos 0))
 
-goes-in : (p : ℕ → Fraction) (b n : ℕ) → b < n → sum_by (λ i. billionths (one_at i b) *ℚ p i) (places n) ≡ p b
+goes-in : (p : ℕ → Fraction) (b n : ℕ) → b < n → sum_by (λ i. billionths (one_at i b) *ℚ p i) (places_below n) ≡ p b
 goes-in p b zero h = absurd (Prim.omega (arith, h))
 goes-in p b (suc n) h = more-places (λ i. billionths (one_at i b) *ℚ p i) n ∙ by (goes-in p b n) (eq-or-lt_of_le below)
   where
     below : b ≤ n
     below = Prim.omega (arith, h)
 
-    by : (b < n → sum_by (λ i. billionths (one_at i b) *ℚ p i) (places n) ≡ p b) → (b ≡ n) ⊎ (b < n) → sum_by (λ i. billionths (one_at i b) *ℚ p i) (places n) +ℚ (billionths (one_at n b) *ℚ p n) ≡ p b
+    by : (b < n → sum_by (λ i. billionths (one_at i b) *ℚ p i) (places_below n) ≡ p b) → (b ≡ n) ⊎ (b < n) → sum_by (λ i. billionths (one_at i b) *ℚ p i) (places_below n) +ℚ (billionths (one_at n b) *ℚ p n) ≡ p b
     by before (inl e) = ap₂ ◌+ℚ◌ (others-none p b n (Prim.omega (arith, e))) (at-place (n == b) (p n) ∙ ap (λ c. if c then p n else whole (pos 0)) (ap (λ m. m == b) (sym e) ∙ eq-same b))
         ∙ nil_plus ring_ℚ (p n) ∙ ap p (sym e)
     by before (inr l) = ap₂ ◌+ℚ◌ (before l) (at-place (n == b) (p n) ∙ ap (λ c. if c then p n else whole (pos 0)) (ne_eqb n b (Prim.omega (arith, l))))
@@ -176,7 +176,7 @@ product-≤ m g x h = by (NonNeg_or x)
         (≤ℚ_trans _ _ _ (*ℚ-≤ℚ (neg_ℚ x) (billionths (neg_ℤ m)) (billionths (pos g)) below (billionths-≤ (neg_ℤ m) (pos g) (below-size m g h).1))
         (≤ℚ_of_same _ _ (*ℚ_comm (neg_ℚ x) (billionths (pos g)) ∙ ap (λ t. billionths (pos g) *ℚ t) (sym size))))
 
-sum-≤ : (f g : ℕ → Fraction) (n : ℕ) → ((i : ℕ) → i < n → f i ≤ℚ g i) → sum_by f (places n) ≤ℚ sum_by g (places n)
+sum-≤ : (f g : ℕ → Fraction) (n : ℕ) → ((i : ℕ) → i < n → f i ≤ℚ g i) → sum_by f (places_below n) ≤ℚ sum_by g (places_below n)
 sum-≤ f g zero h = ≤ℚ_refl (whole (pos 0))
 sum-≤ f g (suc n) h = ≤ℚ_trans _ _ _ (≤ℚ_of_same _ _ (more-places f n))
     (≤ℚ_trans _ _ _ (+ℚ-≤ℚ _ _ _ _ (sum-≤ f g n (λ i l. h i (Prim.omega (arith, l)))) (h n (Prim.omega arith))) (≤ℚ_of_same _ _ (sym (more-places g n))))
@@ -207,10 +207,10 @@ module _ (h : ℕ → ℕ → ℤ) (branches : List NetBranch) (n reference : �
       ∙ by_ring ring_ℚ (billionths (missing i) ∷ billionths (one_at i b) ∷ billionths (one_at reference b) ∷ p i ∷ [])
       (pmul (padd (padd (at 0) (at 1)) (pneg (at 2))) (at 3)) (padd (padd (pmul (at 0) (at 3)) (pmul (at 1) (at 3))) (pneg (pmul (at 2) (at 3)))) refl
 
-  difference : sum_by p (places n) ≡ whole (pos 0) → b < n → outflow_by (flow_by h n p) branches b -ℚ p b ≡ sum_by (λ i. billionths (missing i) *ℚ p i) (places n)
+  difference : sum_by p (places_below n) ≡ whole (pos 0) → b < n → outflow_by (flow_by h n p) branches b -ℚ p b ≡ sum_by (λ i. billionths (missing i) *ℚ p i) (places_below n)
   unfolding net
   difference balanced within =
-      let all = places n in
+      let all = places_below n in
       let r = sum_by (λ i. billionths (missing i) *ℚ p i) all in
       let s = sum_by (λ i. billionths (one_at i b) *ℚ p i) all in
       let k = billionths (one_at reference b) in
@@ -222,20 +222,20 @@ module _ (h : ℕ → ℕ → ℤ) (branches : List NetBranch) (n reference : �
       ap (λ t. t -ℚ p b) (out ∙ ap₂ (λ x y. (r +ℚ x) -ℚ (k *ℚ y)) (goes-in p b n within) balanced ∙ ap (λ t. (r +ℚ p b) -ℚ t) (times_nil ring_ℚ k))
       ∙ by_ring ring_ℚ (r ∷ p b ∷ []) (padd (padd (padd (at 0) (at 1)) (pneg pnil)) (pneg (at 1))) (at 0) refl
 
-core_law : (h : ℕ → ℕ → ℤ) (branches : List NetBranch) (n reference : ℕ) (p : ℕ → Fraction) (g : ℕ) → sum_by p (places n) ≡ whole (pos 0)
+core_law : (h : ℕ → ℕ → ℤ) (branches : List NetBranch) (n reference : ℕ) (p : ℕ → Fraction) (g : ℕ) → sum_by p (places_below n) ≡ whole (pos 0)
     → ((i b : ℕ) → i < n → b < n → unsigned_abs (miss (λ row. h row i) branches i reference b) ≤ g)
-    → (b : ℕ) → b < n → abs_ℚ (outflow_by (flow_by h n p) branches b -ℚ p b) ≤ℚ (billionths (pos g) *ℚ sum_by (λ i. abs_ℚ (p i)) (places n))
+    → (b : ℕ) → b < n → abs_ℚ (outflow_by (flow_by h n p) branches b -ℚ p b) ≤ℚ (billionths (pos g) *ℚ sum_by (λ i. abs_ℚ (p i)) (places_below n))
 unfolding missing
 core_law h branches n reference p most_size balanced most b within =
     let f : ℕ → Fraction = λ i. billionths (missing h branches n reference p b i) *ℚ p i in
     let g : ℕ → Fraction = λ i. billionths (pos most_size) *ℚ abs_ℚ (p i) in
     let is = difference h branches n reference p b balanced within in
-    let high : sum_by f (places n) ≤ℚ sum_by g (places n) = sum-≤ f g n (λ i l. product-≤ (missing h branches n reference p b i) most_size (p i) (most i b l within)) in
-    let low : neg_ℚ (sum_by f (places n)) ≤ℚ sum_by g (places n) =
-    ≤ℚ_trans _ _ _ (≤ℚ_of_same _ _ (sum-neg f (places n))) (sum-≤ (λ i. neg_ℚ (f i)) g n (λ i l.
+    let high : sum_by f (places_below n) ≤ℚ sum_by g (places_below n) = sum-≤ f g n (λ i l. product-≤ (missing h branches n reference p b i) most_size (p i) (most i b l within)) in
+    let low : neg_ℚ (sum_by f (places_below n)) ≤ℚ sum_by g (places_below n) =
+    ≤ℚ_trans _ _ _ (≤ℚ_of_same _ _ (sum-neg f (places_below n))) (sum-≤ (λ i. neg_ℚ (f i)) g n (λ i l.
     ≤ℚ_trans _ _ _ (≤ℚ_of_same _ _ (by_ring ring_ℚ (billionths (missing h branches n reference p b i) ∷ p i ∷ []) (pneg (pmul (at 0) (at 1))) (pmul (pneg (at 0)) (at 1)) refl ∙ ap (λ t. t *ℚ p i) (sym (billionths-neg (missing h branches n reference p b i)))))
     (product-≤ (neg_ℤ (missing h branches n reference p b i)) most_size (p i) (subst (λ k. k ≤ most_size) (sym (unsigned_abs-neg (missing h branches n reference p b i))) (most i b l within))))) in
-    let whole_sum = sum_by-times (billionths (pos most_size)) (λ i. abs_ℚ (p i)) (places n) in
+    let whole_sum = sum_by-times (billionths (pos most_size)) (λ i. abs_ℚ (p i)) (places_below n) in
     ≤ℚ_trans _ _ _ (≤ℚ_of_same _ _ (ap abs_ℚ is)) (≤ℚ_trans _ _ _ (size-≤ _ _ high low) (≤ℚ_of_same _ _ whole_sum))
 
 -- ---- the residuals of a table
@@ -256,16 +256,16 @@ all_below spots residual is = by residual.most is.most
         cons x xs h t zero d lt = h
         cons x xs h t (suc i) d lt = t i d (Prim.omega (arith, lt))
 
-place_there : (i n : ℕ) → i < n → Contains (places n) i
+place_there : (i n : ℕ) → i < n → Contains (places_below n) i
 place_there i zero h = absurd (Prim.omega (arith, h))
 place_there i (suc n) h = by (place_there i n) (eq-or-lt_of_le below)
   where
     below : i ≤ n
     below = Prim.omega (arith, h)
 
-    by : (i < n → Contains (places n) i) → (i ≡ n) ⊎ (i < n) → Contains (places n ++ n ∷ []) i
-    by before (inl e) = Contains-append_right (places n) (n ∷ []) i (0, Prim.omega arith, sym e)
-    by before (inr l) = Contains-append_left (places n) (n ∷ []) i (before l)
+    by : (i < n → Contains (places_below n) i) → (i ≡ n) ⊎ (i < n) → Contains (places_below n ++ n ∷ []) i
+    by before (inl e) = Contains-append_right (places_below n) (n ∷ []) i (0, Prim.omega arith, sym e)
+    by before (inr l) = Contains-append_left (places_below n) (n ∷ []) i (before l)
 
 in-map : {A B : Type 0} (f : A → B) (xs : List A) (x : A) → Contains xs x → Contains (map f xs) (f x)
 in-map f [] x (k, lt, is) = absurd (Prim.omega (arith, lt))
@@ -283,6 +283,6 @@ law_of_injections network shift residual p is balanced b within =
     (λ i bus li lb. All-contains (λ (t : Spot). unsigned_abs t.value ≤ greatest residual) (flat_map (bus_spots network) (shift_columns network shift)) (bus_spot network (shift_column network shift i) bus)
     (all_below (flat_map (bus_spots network) (shift_columns network shift)) residual is)
     (in-flat_map (bus_spots network) (shift_columns network shift) (shift_column network shift i) (bus_spot network (shift_column network shift i) bus)
-    (in-map (shift_column network shift) (places (length network.buses)) i (place_there i (length network.buses) li))
-    (in-map (bus_spot network (shift_column network shift i)) (places (length network.buses)) bus (place_there bus (length network.buses) lb))))
+    (in-map (shift_column network shift) (places_below (length network.buses)) i (place_there i (length network.buses) li))
+    (in-map (bus_spot network (shift_column network shift i)) (places_below (length network.buses)) bus (place_there bus (length network.buses) lb))))
     b within

@@ -12,7 +12,7 @@ use Rattle.net_case.specs.declared.live_parts.NetBranch.{NetBranch}
 use Rattle.net_paths.specs.Connection.{bus_number}
 use Rattle.factor_tables.specs.Factors.{FactorRecords, factor_at}
 use Rattle.factor_residuals.specs.declared.spots.Residual.{Residual}
-use Rattle.factor_residuals.specs.Residuals.{IsBusResidual, places}
+use Rattle.factor_residuals.specs.Residuals.{IsBusResidual, places_below}
 
 -- what goes in at the bus at each place, in any unit
 abbrev pub Injection : Type 0
@@ -24,7 +24,7 @@ billionths n = over n factor_one
 
 -- the flow over the branch of a row, without offsets: the sum over the buses of its factor times what goes in there
 abbrev pub flow_of : LiveNetwork → FactorRecords → Injection → ℕ → Fraction
-flow_of network shift p row = sum_by (λ i. billionths (factor_at shift.entries (row, bus_number network i)) *ℚ p i) (places (length network.buses))
+flow_of network shift p row = sum_by (λ i. billionths (factor_at shift.entries (row, bus_number network i)) *ℚ p i) (places_below (length network.buses))
 
 -- what a branch takes from the bus at a place: its flow where it begins there, and less where it ends there
 abbrev pub taken_flow : (ℕ → Fraction) → ℕ → NetBranch → Fraction
@@ -42,5 +42,5 @@ greatest residual = option_map_or (λ s. unsigned_abs s.value) residual.most 0
 -- sum of the sizes of the injections.
 abbrev pub LawOfInjections : Type 0
 LawOfInjections = (network : LiveNetwork) (shift : FactorRecords) (residual : Residual) (p : Injection) → IsBusResidual network shift residual
-    → sum_by p (places (length network.buses)) ≡ whole (pos 0) → (b : ℕ) → b < length network.buses
-    → abs_ℚ (outflow network shift p b -ℚ p b) ≤ℚ (billionths (pos (greatest residual)) *ℚ sum_by (λ i. abs_ℚ (p i)) (places (length network.buses)))
+    → sum_by p (places_below (length network.buses)) ≡ whole (pos 0) → (b : ℕ) → b < length network.buses
+    → abs_ℚ (outflow network shift p b -ℚ p b) ≤ℚ (billionths (pos (greatest residual)) *ℚ sum_by (λ i. abs_ℚ (p i)) (places_below (length network.buses)))

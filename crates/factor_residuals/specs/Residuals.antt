@@ -32,9 +32,9 @@ pub record IsResidual (spots : List Spot) (residual : Residual) : Type 0 where
 
 -- ---- the columns
 -- the numbers from 0 below n
-abbrev pub places : ℕ → List ℕ
-places zero = []
-places (suc n) = places n ++ n ∷ []
+abbrev pub places_below : ℕ → List ℕ
+places_below zero = []
+places_below (suc n) = places_below n ++ n ∷ []
 
 -- one MW from the bus at a place to the reference, by a table's shift factors
 abbrev pub shift_column : LiveNetwork → FactorRecords → ℕ → Column
@@ -60,13 +60,13 @@ outage_column network loss k = record {
 
 -- ---- the residuals, column by column
 abbrev pub bus_spots : LiveNetwork → Column → List Spot
-bus_spots network c = map (bus_spot network c) (places (length network.buses))
+bus_spots network c = map (bus_spot network c) (places_below (length network.buses))
 
 abbrev pub loop_spots : LiveNetwork → List ℤ → List (List Member) → Column → List Spot
 loop_spots network xs loops c = map (loop_spot (reactance_at network xs) c) loops
 
 abbrev pub shift_columns : LiveNetwork → FactorRecords → List Column
-shift_columns network shift = map (shift_column network shift) (places (length network.buses))
+shift_columns network shift = map (shift_column network shift) (places_below (length network.buses))
 
 -- at the buses, of shift factors
 abbrev pub IsBusResidual : LiveNetwork → FactorRecords → Residual → Type 0

@@ -2,12 +2,12 @@
 use Rattle.std.specs.Prelude.{ℕ, ◌<◌, pos, List, [], ◌∷◌, refl}
 use Rattle.std.specs.List.{Contains}
 use Rattle.std.proofs.Common.{zero, suc, arith, subst, inl, inr}
-use Rattle.exact_flows.specs.Lines.{branch_of, network_of}
+use Rattle.exact_flows.specs.Lines.{line_branch, line_network}
 use Rattle.exact_flows.specs.declared.line.Line.{Line}
 use Rattle.fraction_theory.specs.Fraction.{Fraction, whole}
 use Rattle.fraction_theory.specs.Order.{◌<ℚ◌}
 use Rattle.fraction_theory.proofs.ListSums.{Contains-cases}
-use Rattle.network_theory.specs.Networks.{Branch, Network, IsBranchOf, IsNetwork, IsConnected, AreJoined}
+use Rattle.network_theory.specs.Networks.{Branch, Network, IsBranchOf, IsTheoryNetwork, IsConnected, AreLinked}
 
 module _ {N : Type 0} (value : N → Fraction) (a b c d : N) where
   abbrev line : ℕ → ℕ → N → Line N
@@ -22,27 +22,27 @@ module _ {N : Type 0} (value : N → Fraction) (a b c d : N) where
       ∷ []
 
   abbrev net : Network
-  net = network_of value 3 lines
+  net = line_network value 3 lines
 
-  pub triangle_joined : IsConnected (network_of value 3 lines) 0
+  pub triangle_joined : IsConnected (line_network value 3 lines) 0
   triangle_joined = record { joined = each }
     where
-      each : (i : ℕ) → i < 3 → AreJoined net i 0
+      each : (i : ℕ) → i < 3 → AreLinked net i 0
       each zero h = record { chain = []; lead = refl }
       each (suc zero) h = record {
         chain = 0 ∷ [];
-        lead = (record { branch = branch_of value (line 0 1 a); there = (0, Prim.omega arith, refl); ends = inr (refl, refl) }, refl);
+        lead = (record { branch = line_branch value (line 0 1 a); there = (0, Prim.omega arith, refl); ends = inr (refl, refl) }, refl);
       }
       each (suc (suc zero)) h = record {
         chain = 0 ∷ [];
-        lead = (record { branch = branch_of value (line 0 2 b); there = (1, Prim.omega arith, refl); ends = inr (refl, refl) }, refl);
+        lead = (record { branch = line_branch value (line 0 2 b); there = (1, Prim.omega arith, refl); ends = inr (refl, refl) }, refl);
       }
       each (suc (suc (suc i))) h = absurd (Prim.omega (arith, h))
 
   module _ (ha : whole (pos 0) <ℚ value a) (hb : whole (pos 0) <ℚ value b) (hc : whole (pos 0) <ℚ value c) (hd : whole (pos 0) <ℚ value d) where
-    pub triangle_is : IsNetwork (network_of value 3 lines)
+    pub triangle_is : IsTheoryNetwork (line_network value 3 lines)
     triangle_is = record {
-      branches = λ x k. one (branch_of value (line 0 1 a)) (branch_of value (line 0 2 b)) (branch_of value (line 1 2 c)) (branch_of value (line 2 1 d)) x k
+      branches = λ x k. one (line_branch value (line 0 1 a)) (line_branch value (line 0 2 b)) (line_branch value (line 1 2 c)) (line_branch value (line 2 1 d)) x k
           (record { from = Prim.omega arith; to = Prim.omega arith; susceptance = ha })
           (record { from = Prim.omega arith; to = Prim.omega arith; susceptance = hb })
           (record { from = Prim.omega arith; to = Prim.omega arith; susceptance = hc })

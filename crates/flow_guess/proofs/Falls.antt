@@ -13,7 +13,7 @@ use Rattle.fraction_theory.proofs.Ring.{by_ring, at, pone, pneg, ◌⊕◌, ◌�
 use Rattle.network_theory.specs.Networks.{flow}
 use Rattle.flow_guess.specs.declared.bounds.Guess.{Guess}
 use Rattle.flow_guess.specs.declared.links.Link.{Link}
-use Rattle.flow_guess.specs.Links.{branch_of}
+use Rattle.flow_guess.specs.Links.{link_branch}
 use Rattle.flow_guess.proofs.NetSums.{whole_minus}
 use Rattle.flow_guess.specs.Guesses.{IsGuessOf, angle_of, reach, least_flow, most_flow}
 
@@ -62,7 +62,7 @@ abbrev pub guessed : Guess → ℕ → Fraction
 guessed guess place = whole guess.scale *ℚ whole (angle_of guess place)
 
 module _ (guess : Guess) (link : Link) (is : IsGuessOf guess link) where
-  pub reach_is : reach guess (branch_of link) ≡ int_div link.reactance guess.scale
+  pub reach_is : reach guess (link_branch link) ≡ int_div link.reactance guess.scale
   reach_is = ap (λ x. int_div x guess.scale) (den_of_recip link.reactance is.link_is.reactance)
 
   scale_above : pos 0 ≤ℤ guess.scale
@@ -75,20 +75,20 @@ module _ (guess : Guess) (link : Link) (is : IsGuessOf guess link) where
   reach_above = above_by (int_div link.reactance guess.scale) guess.scale link.reactance is.above is.link_is.reactance reach_times
 
   -- what is put for the reach in the flow of the branch
-  by_reach : (a : ℤ) → (int_div_euclid a (reach guess (branch_of link)) *ℤ int_div link.reactance guess.scale) ≤ℤ a
+  by_reach : (a : ℤ) → (int_div_euclid a (reach guess (link_branch link)) *ℤ int_div link.reactance guess.scale) ≤ℤ a
   by_reach a = subst (λ r. (int_div_euclid a r *ℤ int_div link.reactance guess.scale) ≤ℤ a) (sym reach_is) (below_quotient a (int_div link.reactance guess.scale) reach_above)
 
-  pub least_is_low : whole (least_flow guess (branch_of link)) ≤ℚ flow (guessed guess) (branch_of link)
+  pub least_is_low : whole (least_flow guess (link_branch link)) ≤ℚ flow (guessed guess) (link_branch link)
   unfolding least_flow
-  least_is_low = fall_least link.reactance guess.scale (int_div link.reactance guess.scale) (least_flow guess (branch_of link)) (angle_of guess link.from) (angle_of guess link.to)
+  least_is_low = fall_least link.reactance guess.scale (int_div link.reactance guess.scale) (least_flow guess (link_branch link)) (angle_of guess link.from) (angle_of guess link.to)
       is.link_is.reactance scale_above reach_times (by_reach (angle_of guess link.from -ℤ angle_of guess link.to))
 
-  pub most_is_high : flow (guessed guess) (branch_of link) ≤ℚ whole (most_flow guess (branch_of link))
+  pub most_is_high : flow (guessed guess) (link_branch link) ≤ℚ whole (most_flow guess (link_branch link))
   unfolding most_flow
   most_is_high =
-      let q = int_div_euclid (angle_of guess link.to -ℤ angle_of guess link.from) (reach guess (branch_of link)) in
+      let q = int_div_euclid (angle_of guess link.to -ℤ angle_of guess link.from) (reach guess (link_branch link)) in
       let s = recip_ℚ (whole link.reactance) in
       let back = fall_least link.reactance guess.scale (int_div link.reactance guess.scale) q (angle_of guess link.to) (angle_of guess link.from)
       is.link_is.reactance scale_above reach_times (by_reach (angle_of guess link.to -ℤ angle_of guess link.from)) in
-      subst (λ y. flow (guessed guess) (branch_of link) ≤ℚ y) (sym (whole-neg q))
+      subst (λ y. flow (guessed guess) (link_branch link) ≤ℚ y) (sym (whole-neg q))
       (by_le1 (s ∷ guessed guess link.from ∷ guessed guess link.to ∷ whole q ∷ []) (at 0 ⊗ (at 1 ⊕ pneg (at 2))) (pneg (at 3)) pone (at 3) (at 0 ⊗ (at 2 ⊕ pneg (at 1))) NonNeg-one back refl)

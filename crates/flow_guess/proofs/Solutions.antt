@@ -14,14 +14,14 @@ use Rattle.fraction_theory.proofs.Ring.{by_ring, at, pnil, pone, pneg, ◌⊕◌
 use Rattle.fraction_theory.proofs.SignLaws.{abs_above, abs_below}
 use Rattle.fraction_theory.proofs.SumLaws.{sum_by-same, sum_by-times}
 use Rattle.network_theory.specs.Carrying.{IsCarried}
-use Rattle.network_theory.specs.Networks.{Branch, Network, IsBranchOf, IsNetwork, flow, leaving, entering, injection, net_outflow, others}
+use Rattle.network_theory.specs.Networks.{Branch, Network, IsBranchOf, IsTheoryNetwork, flow, leaving, entering, injection, net_outflow, others}
 use Rattle.network_theory.proofs.Guesses.{law_of_guessed_bounds}
 use Rattle.network_theory.proofs.Solutions.{one_above}
 use Rattle.exact_fraction.specs.Nearest.{in_units}
 use Rattle.flow_guess.specs.declared.bounds.Guess.{Guess}
 use Rattle.flow_guess.specs.declared.bounds.Transfer.{Transfer}
 use Rattle.flow_guess.specs.declared.links.Link.{Link}
-use Rattle.flow_guess.specs.Links.{branch_of, network_of}
+use Rattle.flow_guess.specs.Links.{link_branch, link_network}
 use Rattle.flow_guess.specs.Guesses.{IsGuessOf, low_flow, high_flow, error_at, wanted_at}
 use Rattle.flow_guess.specs.Told.{IsWithin}
 use Rattle.flow_guess.proofs.Falls.{guessed, least_is_low, most_is_high, whole_above, recip_times}
@@ -91,27 +91,27 @@ susceptance_above x h = elim (≤ℚ-or-<ℚ (recip_ℚ (whole x)) (whole (pos 0
 ]
 
 module _ (guess : Guess) (links : List Link) (all : All (IsGuessOf guess) links) where
-  network_is : IsNetwork (network_of (length guess.angles.items) links)
+  network_is : IsTheoryNetwork (link_network (length guess.angles.items) links)
   network_is = record {
     branches = λ b c.
-        let r = from_map branch_of links b c in
+        let r = from_map link_branch links b c in
         let is = of_member (IsGuessOf guess) links r.0 all r.1 in
-        subst (IsBranchOf (network_of (length guess.angles.items) links)) r.2 (record { from = is.link_is.from; to = is.link_is.to; susceptance = susceptance_above r.0.reactance is.link_is.reactance });
+        subst (IsBranchOf (link_network (length guess.angles.items) links)) r.2 (record { from = is.link_is.from; to = is.link_is.to; susceptance = susceptance_above r.0.reactance is.link_is.reactance });
   }
 
-  flow_is_between : (b : Branch) → Contains (network_of (length guess.angles.items) links).branches b → (low_flow guess b ≤ℚ flow (guessed guess) b) × (flow (guessed guess) b ≤ℚ high_flow guess b)
+  flow_is_between : (b : Branch) → Contains (link_network (length guess.angles.items) links).branches b → (low_flow guess b ≤ℚ flow (guessed guess) b) × (flow (guessed guess) b ≤ℚ high_flow guess b)
   flow_is_between b c =
-      let r = from_map branch_of links b c in
+      let r = from_map link_branch links b c in
       let is = of_member (IsGuessOf guess) links r.0 all r.1 in
       subst (λ (x : Branch). (low_flow guess x ≤ℚ flow (guessed guess) x) × (flow (guessed guess) x ≤ℚ high_flow guess x)) r.2 (least_is_low guess r.0 is, most_is_high guess r.0 is)
 
   -- the parts that a branch carries at any solution
-  pub carried_between : (reference : ℕ) (transfer : Transfer) (b : Branch) (carried : Fraction) → Contains (network_of (length guess.angles.items) links).branches b
-      → IsCarried (network_of (length guess.angles.items) links) reference transfer.source transfer.sink b carried
-      → ((low_flow guess b -ℚ sum_by (error_at (network_of (length guess.angles.items) links) guess transfer) (others (network_of (length guess.angles.items) links) reference)) ≤ℚ (whole transfer.parts *ℚ carried))
-      × ((whole transfer.parts *ℚ carried) ≤ℚ (high_flow guess b +ℚ sum_by (error_at (network_of (length guess.angles.items) links) guess transfer) (others (network_of (length guess.angles.items) links) reference)))
+  pub carried_between : (reference : ℕ) (transfer : Transfer) (b : Branch) (carried : Fraction) → Contains (link_network (length guess.angles.items) links).branches b
+      → IsCarried (link_network (length guess.angles.items) links) reference transfer.source transfer.sink b carried
+      → ((low_flow guess b -ℚ sum_by (error_at (link_network (length guess.angles.items) links) guess transfer) (others (link_network (length guess.angles.items) links) reference)) ≤ℚ (whole transfer.parts *ℚ carried))
+      × ((whole transfer.parts *ℚ carried) ≤ℚ (high_flow guess b +ℚ sum_by (error_at (link_network (length guess.angles.items) links) guess transfer) (others (link_network (length guess.angles.items) links) reference)))
   carried_between reference transfer b carried c is =
-      let n = network_of (length guess.angles.items) links in
+      let n = link_network (length guess.angles.items) links in
       let p = whole transfer.parts in
       let low = low_flow guess in
       let high = high_flow guess in
@@ -125,12 +125,12 @@ module _ (guess : Guess) (links : List Link) (all : All (IsGuessOf guess) links)
 
   -- so far off is no branch by more than all errors in sum
   pub within_errors : (reference : ℕ) (transfer : Transfer) (part : ℤ) (places : ℕ) (link : Link) (carried : Fraction) (e : ℤ) → Contains links link → transfer.parts ≡ part *ℤ pos (10 ^ places)
-      → IsCarried (network_of (length guess.angles.items) links) reference transfer.source transfer.sink (branch_of link) carried
-      → whole e ≡ sum_by (error_at (network_of (length guess.angles.items) links) guess transfer) (others (network_of (length guess.angles.items) links) reference)
-      → IsWithin guess (branch_of link) part places carried e
+      → IsCarried (link_network (length guess.angles.items) links) reference transfer.source transfer.sink (link_branch link) carried
+      → whole e ≡ sum_by (error_at (link_network (length guess.angles.items) links) guess transfer) (others (link_network (length guess.angles.items) links) reference)
+      → IsWithin guess (link_branch link) part places carried e
   within_errors reference transfer part places link carried e c parts is sum =
-      let b = branch_of link in
-      let it = carried_between reference transfer b carried (to_map branch_of links link c) is in
+      let b = link_branch link in
+      let it = carried_between reference transfer b carried (to_map link_branch links link c) is in
       let units : whole transfer.parts *ℚ carried ≡ whole part *ℚ in_units places carried = ap (λ z. whole z *ℚ carried) parts ∙ ap (λ t. t *ℚ carried) (whole-*ℚ part (pos (10 ^ places))) ∙ ring_ℚ.times_assoc (whole part) (whole (pos (10 ^ places))) carried in
       record {
         low = subst₂ (λ x y. (low_flow guess b -ℚ x) ≤ℚ y) (sym sum) units it.0;

@@ -5,11 +5,11 @@ use Rattle.network_theory.specs.Networks.{Branch, Network}
 use Rattle.flow_guess.specs.declared.links.Link.{Link}
 
 -- a susceptance is 1 over a reactance
-abbrev pub branch_of : Link → Branch
-branch_of link = record { from = link.from; to = link.to; susceptance = recip_ℚ (whole link.reactance) }
+abbrev pub link_branch : Link → Branch
+link_branch link = record { from = link.from; to = link.to; susceptance = recip_ℚ (whole link.reactance) }
 
-abbrev pub network_of : ℕ → List Link → Network
-network_of buses links = record { buses = buses; branches = map branch_of links }
+abbrev pub link_network : ℕ → List Link → Network
+link_network buses links = record { buses = buses; branches = map link_branch links }
 
 -- The link is between buses, of which there are so many, with a reactance above 0.
 pub record IsLink (buses : ℕ) (link : Link) : Type 0 where
@@ -24,4 +24,4 @@ pub record Grid : Type 0 where
   pub links : List Link
 
 abbrev pub grid_network : Grid → Network
-grid_network grid = network_of grid.buses grid.links
+grid_network grid = link_network grid.buses grid.links

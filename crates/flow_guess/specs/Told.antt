@@ -7,7 +7,7 @@ use Rattle.network_theory.specs.Carrying.{IsCarried}
 use Rattle.exact_fraction.specs.Nearest.{IsNearest, in_units}
 use Rattle.flow_guess.specs.declared.bounds.Guess.{Guess}
 use Rattle.flow_guess.specs.declared.links.Link.{Link}
-use Rattle.flow_guess.specs.Links.{branch_of}
+use Rattle.flow_guess.specs.Links.{link_branch}
 use Rattle.flow_guess.specs.Guesses.{low_flow, high_flow}
 
 -- So many units of a flow over a branch are within the error of what it is at the guess, in parts.
@@ -18,7 +18,7 @@ pub record IsWithin (guess : Guess) (b : Branch) (part : ℤ) (places : ℕ) (ca
 -- a number that is told of a link is the nearest one of what it carries at any solution
 abbrev pub IsToldOf : Network → ℕ → ℕ → ℕ → ℕ → Link → Option ℤ → Type 0
 IsToldOf n reference source sink places link told = (k : ℤ) (carried : Fraction) → told ≡ Some k
-    → IsCarried n reference source sink (branch_of link) carried → IsNearest places carried k
+    → IsCarried n reference source sink (link_branch link) carried → IsNearest places carried k
 
 -- so it is of each link
 abbrev pub AreNearest : Network → ℕ → ℕ → ℕ → ℕ → List Link → List (Option ℤ) → Type 0

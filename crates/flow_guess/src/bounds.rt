@@ -10,7 +10,7 @@ ghost use Rattle.fraction_theory.specs.Signs.{abs_ℚ};
 ghost use Rattle.fraction_theory.specs.Sums.{sum_by};
 ghost use Rattle.network_theory.specs.Networks.{net_outflow, others};
 ghost use Rattle.network_theory.specs.Carrying.{one_at};
-ghost use Rattle.flow_guess.specs.Links.{branch_of, network_of};
+ghost use Rattle.flow_guess.specs.Links.{link_branch, link_network};
 ghost use Rattle.flow_guess.specs.Guesses.{IsFlow, IsGuessOf, angle_of, reach, low_flow, high_flow, link_out, error_at, wanted_at};
 
 use crate::links::Link;
@@ -34,7 +34,7 @@ pub(crate) struct Guess {
 fn reach_of(guess: &Guess, link: &Link) -> i128
     requires { IsGuessOf guess.now link.now }
     ensures above { pos 0 <ℤ result }
-    ensures is { result ≡ reach guess.now (branch_of link.now) }
+    ensures is { result ≡ reach guess.now (link_branch link.now) }
 {
     link.reactance / guess.scale
 }
@@ -58,7 +58,7 @@ fn angle_at(guess: &Guess, place: usize) -> i128
 /// What a link carries at the angles, in parts.
 pub(crate) fn flow_at(guess: &Guess, link: &Link) -> Option<Range>
     requires { IsGuessOf guess.now link.now }
-    ensures { IfSome result (IsFlow guess.now (branch_of link.now)) }
+    ensures { IfSome result (IsFlow guess.now (link_branch link.now)) }
 {
     let reach = reach_of(guess, link);
     let from = angle_at(guess, link.from);
@@ -75,8 +75,8 @@ pub(crate) fn flow_at(guess: &Guess, link: &Link) -> Option<Range>
 /// The same where an end of the link is at the bus, and else nothing.
 fn flow_by(guess: &Guess, link: &Link, end: usize, bus: usize) -> Option<Range>
     requires { IsGuessOf guess.now link.now }
-    ensures least { IfSome result (λ flow. whole flow.least ≡ (if end == bus then low_flow guess.now (branch_of link.now) else whole (pos 0))) }
-    ensures most { IfSome result (λ flow. whole flow.most ≡ (if end == bus then high_flow guess.now (branch_of link.now) else whole (pos 0))) }
+    ensures least { IfSome result (λ flow. whole flow.least ≡ (if end == bus then low_flow guess.now (link_branch link.now) else whole (pos 0))) }
+    ensures most { IfSome result (λ flow. whole flow.most ≡ (if end == bus then high_flow guess.now (link_branch link.now) else whole (pos 0))) }
 {
     if end == bus {
         flow_at(guess, link)
@@ -104,8 +104,8 @@ fn plus(range: Range, leaves: Range, enters: Range) -> Option<Range>
 /// With what leaves the bus besides over a link.
 fn with_link(range: Range, guess: &Guess, link: &Link, bus: usize) -> Option<Range>
     requires { IsGuessOf guess.now link.now }
-    ensures least { IfSome result (λ out. whole out.least ≡ whole range.least +ℚ link_out bus (low_flow guess.now) (high_flow guess.now) (branch_of link.now)) }
-    ensures most { IfSome result (λ out. whole out.most ≡ whole range.most +ℚ link_out bus (high_flow guess.now) (low_flow guess.now) (branch_of link.now)) }
+    ensures least { IfSome result (λ out. whole out.least ≡ whole range.least +ℚ link_out bus (low_flow guess.now) (high_flow guess.now) (link_branch link.now)) }
+    ensures most { IfSome result (λ out. whole out.most ≡ whole range.most +ℚ link_out bus (high_flow guess.now) (low_flow guess.now) (link_branch link.now)) }
 {
     if link.from != bus && link.to != bus {
         return Some(range);
@@ -118,8 +118,8 @@ fn with_link(range: Range, guess: &Guess, link: &Link, bus: usize) -> Option<Ran
 /// What leaves a bus at the angles, in parts.
 fn outflow(links: &[Link], guess: &Guess, bus: usize) -> Option<Range>
     requires { All (IsGuessOf guess.now) links.now }
-    ensures least { IfSome result (λ out. whole out.least ≡ net_outflow (network_of (length guess.now.angles.items) links.now) (low_flow guess.now) (high_flow guess.now) bus) }
-    ensures most { IfSome result (λ out. whole out.most ≡ net_outflow (network_of (length guess.now.angles.items) links.now) (high_flow guess.now) (low_flow guess.now) bus) }
+    ensures least { IfSome result (λ out. whole out.least ≡ net_outflow (link_network (length guess.now.angles.items) links.now) (low_flow guess.now) (high_flow guess.now) bus) }
+    ensures most { IfSome result (λ out. whole out.most ≡ net_outflow (link_network (length guess.now.angles.items) links.now) (high_flow guess.now) (low_flow guess.now) bus) }
 {
     let mut range = Range { least: 0, most: 0 };
     for link in links {
@@ -168,7 +168,7 @@ fn error(
     bus: usize,
 ) -> Option<i128>
     requires { All (IsGuessOf guess.now) links.now }
-    ensures { IfSome result (λ parts. whole parts ≡ (if bus == reference then whole (pos 0) else error_at (network_of (length guess.now.angles.items) links.now) guess.now transfer.now bus)) }
+    ensures { IfSome result (λ parts. whole parts ≡ (if bus == reference then whole (pos 0) else error_at (link_network (length guess.now.angles.items) links.now) guess.now transfer.now bus)) }
 {
     if bus == reference {
         return Some(0);
@@ -186,7 +186,7 @@ pub(crate) fn all_errors(
     transfer: &Transfer,
 ) -> Option<i128>
     requires { All (IsGuessOf guess.now) links.now }
-    ensures { IfSome result (λ parts. whole parts ≡ sum_by (error_at (network_of (length guess.now.angles.items) links.now) guess.now transfer.now) (others (network_of (length guess.now.angles.items) links.now) reference)) }
+    ensures { IfSome result (λ parts. whole parts ≡ sum_by (error_at (link_network (length guess.now.angles.items) links.now) guess.now transfer.now) (others (link_network (length guess.now.angles.items) links.now) reference)) }
 {
     let mut sum: i128 = 0;
     for bus in 0..guess.angles.len() {

@@ -3,7 +3,7 @@
 ghost use Rattle.std.specs.Prelude.{◌≡◌, ℕ, ℤ, pos, ◌^◌, ◌*ℤ◌, ◌<ℤ◌, length, All, Some, IfOk, IfSome};
 ghost use Rattle.fraction_theory.specs.Fraction.{Fraction};
 ghost use Rattle.exact_fraction.specs.Nearest.{IsNearest};
-ghost use Rattle.flow_guess.specs.Links.{branch_of, network_of};
+ghost use Rattle.flow_guess.specs.Links.{link_branch, link_network};
 ghost use Rattle.flow_guess.specs.Guesses.{IsGuessOf};
 ghost use Rattle.flow_guess.specs.Told.{AreNearest, IsWithin};
 
@@ -17,7 +17,7 @@ use std::alloc::Global;
 fn told(guess: &Guess, link: &Link, error: Option<i128>, part: i128) -> Option<i64>
     requires guess { IsGuessOf guess.now link.now }
     requires part { pos 0 <ℤ part }
-    ensures { (places : ℕ) (q : Fraction) → ((e : ℤ) → error ≡ Some e → IsWithin guess.now (branch_of link.now) part places q e) → IfSome result (IsNearest places q) }
+    ensures { (places : ℕ) (q : Fraction) → ((e : ℤ) → error ≡ Some e → IsWithin guess.now (link_branch link.now) part places q e) → IfSome result (IsNearest places q) }
 {
     let error = error?;
     let flow = flow_at(guess, link)?;
@@ -39,7 +39,7 @@ pub(crate) fn all_told(
     requires part { pos 0 <ℤ part }
     ensures count { IfOk result (λ told. length told ≡ length links.now) }
     ensures nearest { IfOk result (λ told. (places : ℕ) → transfer.now.parts ≡ part *ℤ pos (10 ^ places)
-        → AreNearest (network_of (length guess.now.angles.items) links.now) reference transfer.now.source transfer.now.sink places links.now told) }
+        → AreNearest (link_network (length guess.now.angles.items) links.now) reference transfer.now.source transfer.now.sink places links.now told) }
 {
     let error = all_errors(links, guess, reference, transfer);
     let mut all = List::new(alloc);

@@ -13,7 +13,7 @@ use Rattle.linear_system.specs.Numbers.{Kind, SolvingNumber, SystemNumber, is_nu
 use Rattle.linear_system.specs.Pairs.{AreNear, AtEither, IsSystemPair, OfEither}
 use Rattle.linear_system.specs.Systems.{System}
 use Rattle.linear_system.proofs.PairLaws.{IsScaling, share_case, share_large}
-use Rattle.linear_dict.specs.Causes.{OnStoppedBy, ClearShare, IsRefused, PivotShare, SolveShare, divide, scale, add, solving, scaling, adding}
+use Rattle.linear_dict.specs.Causes.{OnPassed, ClearShare, IsRefused, PivotShare, SolveShare, divide, scale, add, solving, scaling, adding}
 use Rattle.linear_dict.specs.declared.adding.AddStop.{AddStop}
 use Rattle.linear_dict.specs.declared.adding.AddStop.TheVariants.{Passed as StoppedBy, Memory as NoMemory}
 use Rattle.linear_dict.specs.Tables.{pivoted_row}
@@ -55,7 +55,7 @@ clear_of_pivot rows columns f g i r c hi n hc row solved _ _ _ scale =
 clear_of_pivot rows columns f g i r c hi n hc row solved _ _ _ (add j hj m) =
     subst₃ (PivotShare rows columns f r c) (sym (row j hj)) (sym (row c hc)) (sym (solved j hj)) (adding i j hi n hj m)
 
-pub on_passed_as : {N : Type 0} (stop : AddStop N) (P Q : Passed N → Type 0) → ((e : Passed N) → P e → Q e) → OnStoppedBy stop P → OnStoppedBy stop Q
+pub on_passed_as : {N : Type 0} (stop : AddStop N) (P Q : Passed N → Type 0) → ((e : Passed N) → P e → Q e) → OnPassed stop P → OnPassed stop Q
 on_passed_as (StoppedBy e) P Q f h = f e h
 on_passed_as NoMemory P Q f h = h
 

@@ -71,9 +71,9 @@ pub data AddShare (d : Dictionary) (entries : List Fraction) : Fraction → Frac
       → AddShare d entries (prefix k (put_terms d entries w)) (put_number d entries j) (column_entry (choice_of d) j w)
 
 -- Where the row was not added for a refusal, P holds of it.
-abbrev pub OnStoppedBy : {N : Type 0} → AddStop N → (Passed N → Type 0) → Type 0
-OnStoppedBy (StoppedBy e) P = P e
-OnStoppedBy NoMemory P = Unit {0}
+abbrev pub OnPassed : {N : Type 0} → AddStop N → (Passed N → Type 0) → Type 0
+OnPassed (StoppedBy e) P = P e
+OnPassed NoMemory P = Unit {0}
 
 -- e is a working pair of the system
 abbrev pub IsPairOf : {N : Type 0} → (N → Fraction) → ℕ → System → Passed N → Type 0

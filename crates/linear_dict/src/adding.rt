@@ -5,7 +5,7 @@ ghost use Rattle.std.specs.Vec.{vec_len, vec_capacity};
 ghost use Rattle.fraction_theory.specs.Fraction.{Fraction, whole, ◌+ℚ◌, ◌*ℚ◌};
 ghost use Rattle.fraction_theory.specs.Sums.{sum_by};
 ghost use Rattle.linear_dict.specs.Adding.{AreSums, AreInTable, IsWithin, row_term};
-ghost use Rattle.linear_dict.specs.Causes.{IsRefused, MultipleShare, OnStoppedBy, RowShare, TermShare};
+ghost use Rattle.linear_dict.specs.Causes.{IsRefused, MultipleShare, OnPassed, RowShare, TermShare};
 ghost use Rattle.linear_dict.specs.Tables.{cell};
 
 use crate::index::Variable;
@@ -180,7 +180,7 @@ pub(crate) fn row_entries<N: Exact>(
     requires within { AreInTable (length table.now) columns (length entries.now) variables.now }
     ensures sums { IfOk result (λ sums. AreSums N.value sums.items columns
         (λ c. sum_by (row_term N.value columns table.now entries.now c) variables.now)) }
-    ensures cause { IfErr result (λ stop. OnStoppedBy stop
+    ensures cause { IfErr result (λ stop. OnPassed stop
         (IsRefused N.value N.bound (RowShare N.value columns table.now entries.now variables.now))) }
 {
     let mut sums = zeros(alloc, columns)?;

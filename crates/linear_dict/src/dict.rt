@@ -3,7 +3,7 @@ ghost use Rattle.std.specs.List.{AllPairs, Contains};
 ghost use Rattle.linear_dict.specs.Indexes.{IsStartedIndex, name_of};
 ghost use Rattle.linear_system.specs.Choices.{IsChoice};
 ghost use Rattle.fraction_theory.specs.Fraction.{whole};
-ghost use Rattle.linear_dict.specs.Causes.{AddShare, IsPairOf, IsPairWith, IsRefused, OnStoppedBy, PivotShare};
+ghost use Rattle.linear_dict.specs.Causes.{AddShare, IsPairOf, IsPairWith, IsRefused, OnPassed, PivotShare};
 ghost use Rattle.linear_dict.specs.Dictionaries.{AddsColumn, AddsRow, IsDictionary, IsStart, choice_of, note_of, pivoted, system_in, with_note};
 ghost use Rattle.linear_dict.specs.Notes.{noted};
 ghost use Rattle.linear_dict.specs.Places.{StandsAt};
@@ -286,8 +286,8 @@ impl<N: Exact> Dict<N> {
         requires absent { ¬ (Contains self.old.names row) }
         requires entries { length entries.now ≡ length self.old.columns }
         ensures added { MatchResult result (λ _. AddsRow N.value self.old row entries.now self.new) (λ _. self.new ≡ self.old) }
-        ensures cause { IfErr result (λ stop. OnStoppedBy stop (IsRefused N.value N.bound (AddShare self.old (map N.value entries.now)))) }
-        ensures pair { IfErr result (λ stop. OnStoppedBy stop (IsPairWith N.value N.bound self.old row entries.now)) }
+        ensures cause { IfErr result (λ stop. OnPassed stop (IsRefused N.value N.bound (AddShare self.old (map N.value entries.now)))) }
+        ensures pair { IfErr result (λ stop. OnPassed stop (IsPairWith N.value N.bound self.old row entries.now)) }
     {
         let alloc = *self.table.allocator();
         let fresh = row_entries(

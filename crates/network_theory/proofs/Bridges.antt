@@ -14,7 +14,7 @@ use Rattle.fraction_theory.proofs.FieldLaws.{ring_ℚ}
 use Rattle.fraction_theory.proofs.OrderLaws.{≤ℚ_trans, ≤ℚ_of_same, ≤ℚ-or-<ℚ, <ℚ_irrefl, <ℚ_trans, <ℚ-≤ℚ, <ℚ-not-≤ℚ, not-≤ℚ, by_le1, by_le2, NonNeg-one}
 use Rattle.fraction_theory.proofs.ListSums.{kept, same_or_not, Contains-head, Contains-cons, Contains-cases, Contains-filter}
 use Rattle.network_theory.specs.Laws.{LawOfTheBridge}
-use Rattle.network_theory.specs.Networks.{Branch, Network, places, IsNetwork, flow, injection, AreNeighbours, AreJoined, IsTransfer, StandsAt, without}
+use Rattle.network_theory.specs.Networks.{Branch, Network, places, IsTheoryNetwork, flow, injection, AreNeighbours, AreLinked, IsTransfer, StandsAt, without}
 use Rattle.network_theory.proofs.ByParts.{taken, injection_taken}
 use Rattle.network_theory.proofs.FlowSigns.{carried_down, carried_back}
 use Rattle.network_theory.proofs.Outages.{transfer_without, network_without, contains_lost, carries_all}
@@ -44,7 +44,7 @@ fewer xs j c =
 stays : (xs : List ℕ) (j w : ℕ) → Contains xs w → ¬ (w ≡ j) → Contains (filter (λ w. not (w == j)) xs) w
 stays xs j w c d = Contains-filter (λ (w : ℕ). not (w == j)) xs w c (elim (eqb_tells w j) [ inl t ↦ absurd (d t.1) | inr t ↦ ap not t.0 ])
 
-module _ (n : Network) (angle : ℕ → Fraction) (is : IsNetwork n) where
+module _ (n : Network) (angle : ℕ → Fraction) (is : IsTheoryNetwork n) where
   abbrev zero_ℚ : Fraction
   zero_ℚ = whole (pos 0)
 
@@ -142,7 +142,7 @@ module _ (n : Network) (angle : ℕ → Fraction) (is : IsNetwork n) where
 
     -- the places below one are in a list, which gets shorter on the way down
     pub descent : (m : ℕ) (below : List ℕ) → length below ≤ m → (i : ℕ) → i < n.buses → IsFed i
-        → ((j : ℕ) → j < n.buses → angle j <ℚ angle i → Contains below j) → AreJoined n i sink
+        → ((j : ℕ) → j < n.buses → angle j <ℚ angle i → Contains below j) → AreLinked n i sink
     descent zero below short i p fed all = elim (goes_on i p fed) [
       | inl e ↦ record { chain = []; lead = e }
       | inr r ↦ absurd (Prim.omega (arith, short, (all r.0 r.1.within r.1.lower).1))
@@ -158,13 +158,13 @@ module _ (n : Network) (angle : ℕ → Fraction) (is : IsNetwork n) where
           record { chain = j ∷ rest.chain; lead = (next.near, rest.lead) }
     ]
 
-module _ (n : Network) (place : ℕ) (lost : Branch) (transfer : ℕ → Fraction) (is : IsNetwork n) (stands : StandsAt n place lost) (t : IsTransfer n transfer lost.from lost.to) where
+module _ (n : Network) (place : ℕ) (lost : Branch) (transfer : ℕ → Fraction) (is : IsTheoryNetwork n) (stands : StandsAt n place lost) (t : IsTransfer n transfer lost.from lost.to) where
   has : (i : ℕ) → i < n.buses → (p q : Bool) → (lost.from == i) ≡ p → (lost.to == i) ≡ q
       → injection (without n place) transfer i ≡ (kept p (whole (pos 1)) -ℚ kept q (whole (pos 1))) *ℚ (whole (pos 1) -ℚ flow transfer lost)
   has i w p q e f =
       transfer_without n place lost stands transfer t i w ∙ ap₂ (λ (x y : Bool). (kept x (whole (pos 1)) -ℚ kept y (whole (pos 1))) *ℚ (whole (pos 1) -ℚ flow transfer lost)) e f
 
-  detour : flow transfer lost <ℚ whole (pos 1) → AreJoined (without n place) lost.from lost.to
+  detour : flow transfer lost <ℚ whole (pos 1) → AreLinked (without n place) lost.from lost.to
   detour below = descent (without n place) transfer (network_without n place lost stands is) lost.to elsewhere (length (places n)) (places n) (Prim.omega arith) lost.from
       (is.branches lost (contains_lost n place lost stands)).from (inl at_source) (λ j q low. in_places n j q)
     where

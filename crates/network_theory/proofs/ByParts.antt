@@ -10,7 +10,7 @@ use Rattle.fraction_theory.proofs.FieldLaws.{ring_ℚ}
 use Rattle.fraction_theory.proofs.SumLaws.{sum_by-same, sum_by-nil, sum_by-times, sum_by-exchange}
 use Rattle.fraction_theory.proofs.ListSums.{kept, sum_by-filter, sum_by-members}
 use Rattle.network_theory.specs.Laws.{LawOfBalance, LawOfReciprocity}
-use Rattle.network_theory.specs.Networks.{Branch, Network, places, IsNetwork, flow, leaving, entering, injection}
+use Rattle.network_theory.specs.Networks.{Branch, Network, places, IsTheoryNetwork, flow, leaving, entering, injection}
 use Rattle.network_theory.proofs.Places.{sum_at}
 use Rattle.network_theory.proofs.SignedSums.{sum_by-minus}
 
@@ -24,7 +24,7 @@ injection_taken n angle i =
     ap₂ ◌-ℚ◌ (sum_by-filter (flow angle) (λ b. b.from == i) n.branches) (sum_by-filter (flow angle) (λ b. b.to == i) n.branches)
     ∙ sym (sum_by-minus (λ (b : Branch). kept (b.from == i) (flow angle b)) (λ (b : Branch). kept (b.to == i) (flow angle b)) n.branches)
 
-module _ (n : Network) (is : IsNetwork n) (weight angle : ℕ → Fraction) where
+module _ (n : Network) (is : IsTheoryNetwork n) (weight angle : ℕ → Fraction) where
   at_ends : (b : Branch) → Contains n.branches b → sum_by (λ i. weight i *ℚ taken angle i b) (places n) ≡ (weight b.from -ℚ weight b.to) *ℚ flow angle b
   at_ends b c =
       let x = flow angle b in

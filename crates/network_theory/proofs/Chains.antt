@@ -2,7 +2,7 @@
 use Rattle.std.specs.Prelude.{◌≡◌, ℕ, ◌<◌, List, [], ◌∷◌, ◌++◌, refl}
 use Rattle.std.specs.List.{Contains}
 use Rattle.std.proofs.Common.{ap, sym, ◌∙◌, subst, inl, inr}
-use Rattle.network_theory.specs.Networks.{Branch, Network, AreNeighbours, Lead, AreJoined, IsConnected}
+use Rattle.network_theory.specs.Networks.{Branch, Network, AreNeighbours, Lead, AreLinked, IsConnected}
 
 module _ (n : Network) where
   neighbours_sym : (i j : ℕ) → AreNeighbours n i j → AreNeighbours n j i
@@ -12,10 +12,10 @@ module _ (n : Network) where
   Lead-append [] more i j k e h = subst (λ (t : ℕ). Lead n more t k) (sym e) h
   Lead-append (c ∷ ks) more i j k h g = (h.0, Lead-append ks more c j k h.1 g)
 
-  joined_trans : (i j k : ℕ) → AreJoined n i j → AreJoined n j k → AreJoined n i k
+  joined_trans : (i j k : ℕ) → AreLinked n i j → AreLinked n j k → AreLinked n i k
   joined_trans i j k h g = record { chain = h.chain ++ g.chain; lead = Lead-append h.chain g.chain i j k h.lead g.lead }
 
-  turned_lead : (ks : List ℕ) (i j : ℕ) → Lead n ks i j → AreJoined n j i
+  turned_lead : (ks : List ℕ) (i j : ℕ) → Lead n ks i j → AreLinked n j i
   turned_lead [] i j e = record { chain = []; lead = sym e }
   turned_lead (k ∷ ks) i j h = joined_trans j k i (turned_lead ks k j h.1) (record { chain = i ∷ []; lead = (neighbours_sym i k h.0, refl) })
 
@@ -25,7 +25,7 @@ module _ (n : Network) where
       record { joined = λ i p. joined_trans i r s (c.joined i p) (turned_lead back.chain s r back.lead) }
 
   -- two that are joined to a third
-  pub joined_by : (i r j : ℕ) → AreJoined n i r → AreJoined n j r → AreJoined n i j
+  pub joined_by : (i r j : ℕ) → AreLinked n i r → AreLinked n j r → AreLinked n i j
   joined_by i r j h g = joined_trans i r j h (turned_lead g.chain j r g.lead)
 
   -- what is the same at both ends of each branch is the same at both ends of each chain

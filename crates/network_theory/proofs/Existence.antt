@@ -11,7 +11,7 @@ use Rattle.fraction_theory.proofs.Ring.{by_ring, at, pnil, pone, pneg, ◌⊕◌
 use Rattle.fraction_theory.proofs.FieldLaws.{ring_ℚ}
 use Rattle.fraction_theory.proofs.ListSums.{kept, sum_by-one, Contains-head, Contains-cons}
 use Rattle.network_theory.specs.Laws.{LawOfSolutions, LawOfTransfers}
-use Rattle.network_theory.specs.Networks.{Network, places, IsNetwork, injection, IsConnected, IsSolution, IsTransfer, moved}
+use Rattle.network_theory.specs.Networks.{Network, places, IsTheoryNetwork, injection, IsConnected, IsSolution, IsTransfer, moved}
 use Rattle.network_theory.proofs.Chains.{same_along}
 use Rattle.network_theory.proofs.Outages.{injection_moved}
 use Rattle.network_theory.proofs.Parts.{passed, Passes, AreParts, parts}
@@ -41,7 +41,7 @@ passes_transfer n angle source sink p q d h = record {
   elsewhere = λ v _ at_source at_sink. h.injections v ∙ passed_else source sink v (λ e. at_source (sym e)) (λ e. at_sink (sym e));
 }
 
-module _ (n : Network) (reference : ℕ) (is : IsNetwork n) (c : IsConnected n reference) where
+module _ (n : Network) (reference : ℕ) (is : IsTheoryNetwork n) (c : IsConnected n reference) where
   -- the part of each place, and all buses are of that of the reference
   part : ℕ → ℕ
   part = (parts n.buses n.branches is).0

@@ -16,7 +16,7 @@ use Rattle.fraction_theory.proofs.OrderLaws.{≤ℚ_refl, ≤ℚ_trans, ≤ℚ_o
 use Rattle.fraction_theory.proofs.SignLaws.{IsSign, sign_of_is, abs_above, abs_below, abs_within}
 use Rattle.fraction_theory.proofs.ListSums.{kept, sum_by-filter, sum_by-one}
 use Rattle.network_theory.specs.Laws.{LawOfTheFactors}
-use Rattle.network_theory.specs.Networks.{Branch, Network, places, others, IsNetwork, flow, injection, IsTransfer}
+use Rattle.network_theory.specs.Networks.{Branch, Network, places, others, IsTheoryNetwork, flow, injection, IsTransfer}
 use Rattle.network_theory.proofs.ByParts.{by_parts}
 use Rattle.network_theory.proofs.FlowSigns.{carried_down, carried_back}
 use Rattle.network_theory.proofs.Places.{in_places, below_places, distinct_places}
@@ -74,7 +74,7 @@ times_size k x low high = elim (≤ℚ-or-<ℚ x (whole (pos 0))) [
       subst (λ t. (k *ℚ x) ≤ℚ t) (sym (abs_above x above)) (by_le1 (k ∷ x ∷ []) (at 0 ⊗ at 1) (at 1) (pone ⊕ pneg (at 0)) pnil (at 1) (le_to k (whole (pos 1)) high) above refl)
 ]
 
-module _ (n : Network) (angle : ℕ → Fraction) (is : IsNetwork n) (reference : ℕ) (level : Fraction) where
+module _ (n : Network) (angle : ℕ → Fraction) (is : IsTheoryNetwork n) (reference : ℕ) (level : Fraction) where
   -- which side of the cut, against that of the reference
   abbrev weight : ℕ → Fraction
   weight i = side level (angle i) -ℚ side level (angle reference)
@@ -122,7 +122,7 @@ module _ (n : Network) (angle : ℕ → Fraction) (is : IsNetwork n) (reference 
       (sum_within (λ i. weight i *ℚ injection n angle i) (λ i. kept (not (i == reference)) (abs_ℚ (injection n angle i))) (places n) (λ i _. put_in i)))
 
 -- The level of the lower end is the cut.
-pub flow_within : (n : Network) (angle : ℕ → Fraction) (reference : ℕ) → IsNetwork n → (b : Branch) → Contains n.branches b
+pub flow_within : (n : Network) (angle : ℕ → Fraction) (reference : ℕ) → IsTheoryNetwork n → (b : Branch) → Contains n.branches b
     → abs_ℚ (flow angle b) ≤ℚ sum_by (λ i. abs_ℚ (injection n angle i)) (others n reference)
 flow_within n angle reference is b c =
     let one = is.branches b c in

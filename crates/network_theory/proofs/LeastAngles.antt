@@ -9,7 +9,7 @@ use Rattle.fraction_theory.specs.Sums.{sum_by}
 use Rattle.fraction_theory.proofs.Ring.{at, pnil, pone, pneg, ◌⊕◌}
 use Rattle.fraction_theory.proofs.OrderLaws.{≤ℚ_of_same, ≤ℚ_trans, ≤ℚ_total, by_le1, by_le2, NonNeg-one}
 use Rattle.fraction_theory.proofs.ListSums.{Contains-filter, Contains-from_filter, same_or_not}
-use Rattle.network_theory.specs.Networks.{Branch, Network, IsNetwork, flow, leaving, entering, injection, AreNeighbours, Lead, IsConnected}
+use Rattle.network_theory.specs.Networks.{Branch, Network, IsTheoryNetwork, flow, leaving, entering, injection, AreNeighbours, Lead, IsConnected}
 use Rattle.network_theory.proofs.SignedSums.{sum_above, term_within, sum_by-neg}
 use Rattle.network_theory.proofs.FlowSigns.{falls, rises, carried_down, carried_back}
 
@@ -58,7 +58,7 @@ least_place n angle i h = by_count n.buses refl
         let r = least_of angle k in
         (r.0, record { within = subst (λ (t : ℕ). r.0 < t) e r.1; least = λ j l. r.2 j (subst (λ (t : ℕ). j < t) (sym e) l) })
 
-module _ (n : Network) (angle : ℕ → Fraction) (is : IsNetwork n) where
+module _ (n : Network) (angle : ℕ → Fraction) (is : IsTheoryNetwork n) where
   -- at a bus of the least angle, what leaves is at most 0 over each branch from it, and what enters at least 0 over each to it
   module _ (i : ℕ) (l : IsLeast n angle i) (h : whole (pos 0) ≤ℚ injection n angle i) where
     from_here : (b : Branch) → Contains (filter (λ b. b.from == i) n.branches) b → whole (pos 0) ≤ℚ neg_ℚ (flow angle b)

@@ -14,7 +14,7 @@ use Rattle.fraction_theory.proofs.SignLaws.{abs_above}
 use Rattle.fraction_theory.proofs.SumLaws.{sum_by-same, sum_by-nil, sum_by-plus, sum_by-times}
 use Rattle.fraction_theory.proofs.ListSums.{kept, sum_by-members, Contains-head, Contains-cons, Contains-cases}
 use Rattle.network_theory.specs.Laws.{LawOfTheOutage, LawOfTheDetour, LawOfTheOutageFactors}
-use Rattle.network_theory.specs.Networks.{Branch, Network, places, IsNetwork, flow, injection, AreJoined, IsTransfer, StandsAt, without, moved}
+use Rattle.network_theory.specs.Networks.{Branch, Network, places, IsTheoryNetwork, flow, injection, AreLinked, IsTransfer, StandsAt, without, moved}
 use Rattle.network_theory.proofs.ByParts.{taken, injection_taken, by_parts}
 use Rattle.network_theory.proofs.Chains.{joined_by, same_along}
 use Rattle.network_theory.proofs.Factors.{law_of_the_factors}
@@ -93,7 +93,7 @@ module _ (n : Network) (place : ℕ) (lost : Branch) (stands : StandsAt n place 
   pub contains_lost : Contains n.branches lost
   contains_lost = (place, stands.within, stands.there)
 
-  pub network_without : IsNetwork n → IsNetwork (without n place)
+  pub network_without : IsTheoryNetwork n → IsTheoryNetwork (without n place)
   network_without is = record {
     branches = λ b c. let one = is.branches b (Contains-remove n.branches place b c) in record { from = one.from; to = one.to; susceptance = one.susceptance };
   }
@@ -129,7 +129,7 @@ law_of_the_outage n place lost angle transfer times stands t is = (moved_without
 abbrev pub loss : (ℕ → Fraction) → Branch → Fraction
 loss angle b = (angle b.from -ℚ angle b.to) *ℚ flow angle b
 
-module _ (n : Network) (angle : ℕ → Fraction) (is : IsNetwork n) where
+module _ (n : Network) (angle : ℕ → Fraction) (is : IsTheoryNetwork n) where
   pub losses_above : (b : Branch) → Contains n.branches b → whole (pos 0) ≤ℚ loss angle b
   losses_above b c =
       let s = b.susceptance in
@@ -166,7 +166,7 @@ module _ (n : Network) (angle : ℕ → Fraction) (is : IsNetwork n) where
         ]
 
 -- no branch carries more than the transfer
-pub carries_all : (n : Network) (transfer : ℕ → Fraction) (b : Branch) → IsNetwork n → Contains n.branches b → IsTransfer n transfer b.from b.to
+pub carries_all : (n : Network) (transfer : ℕ → Fraction) (b : Branch) → IsTheoryNetwork n → Contains n.branches b → IsTransfer n transfer b.from b.to
     → whole (pos 1) ≤ℚ flow transfer b → flow transfer b ≡ whole (pos 1)
 carries_all n transfer b is c t above =
     let x = flow transfer b in
@@ -193,7 +193,7 @@ law_of_the_outage_factors n place lost reference angle after transfer is stands 
     let times : Fraction = flow angle lost *ℚ recip_ℚ left in
     let from_is = (is.branches lost (contains_lost n place lost stands)).from in
     let to_is = (is.branches lost (contains_lost n place lost stands)).to in
-    let joined : AreJoined (without n place) lost.from lost.to =
+    let joined : AreLinked (without n place) lost.from lost.to =
     joined_by (without n place) lost.from reference lost.to (connected.joined lost.from from_is) (connected.joined lost.to to_is) in
     let below : flow transfer lost <ℚ whole (pos 1) = law_of_the_detour n place lost transfer is stands t joined in
     let not_all : ¬ (left ≡ whole (pos 0)) = λ e. <ℚ-not-≤ℚ (flow transfer lost) (whole (pos 1)) below

@@ -12,7 +12,7 @@ use Rattle.fraction_theory.proofs.FieldLaws.{ring_ℚ, *ℚ-recip}
 use Rattle.fraction_theory.proofs.OrderLaws.{<ℚ_irrefl, <ℚ-not-≤ℚ, ≤ℚ_of_same, by_le1, by_le2, NonNeg-one}
 use Rattle.fraction_theory.proofs.SumLaws.{sum_by-same, sum_by-nil}
 use Rattle.fraction_theory.proofs.ListSums.{kept, sum_by-members, Contains-head, Contains-cases, put_at, put_at-here, put_at-elsewhere, same_or_not}
-use Rattle.network_theory.specs.Networks.{Branch, Network, places, IsNetwork, flow, injection, StandsAt, moved}
+use Rattle.network_theory.specs.Networks.{Branch, Network, places, IsTheoryNetwork, flow, injection, StandsAt, moved}
 use Rattle.network_theory.proofs.ByParts.{taken, injection_taken, by_parts}
 use Rattle.network_theory.proofs.FlowSigns.{carried_down}
 use Rattle.network_theory.proofs.Outages.{ends, taken_ends, flow_moved, injection_moved, network_without, injection_without, loss, losses_above}
@@ -34,7 +34,7 @@ pub record AreParts (n : Network) (part : ℕ → ℕ) : Type 0 where
   pub passing : (i j : ℕ) → part i ≡ part j → (angle : ℕ → Fraction) × Passes n angle i j
 
 -- it is passed down: the difference of the angles is the sum of the losses
-passed_down : (n : Network) (angle : ℕ → Fraction) (i j : ℕ) → IsNetwork n → i < n.buses → j < n.buses → Passes n angle i j → angle j ≤ℚ angle i
+passed_down : (n : Network) (angle : ℕ → Fraction) (i j : ℕ) → IsTheoryNetwork n → i < n.buses → j < n.buses → Passes n angle i j → angle j ≤ℚ angle i
 passed_down n angle i j is p q h =
     let one = whole (pos 1) in
     let difference : sum_by (loss angle) n.branches ≡ angle i *ℚ one -ℚ angle j *ℚ one =
@@ -51,7 +51,7 @@ abbrev network_of : ℕ → List Branch → Network
 network_of buses bs = record { buses = buses; branches = bs }
 
 -- one branch more
-module _ (buses : ℕ) (b : Branch) (bs : List Branch) (is : IsNetwork (network_of buses (b ∷ bs))) where
+module _ (buses : ℕ) (b : Branch) (bs : List Branch) (is : IsTheoryNetwork (network_of buses (b ∷ bs))) where
   abbrev all : Network
   all = network_of buses (b ∷ bs)
 
@@ -205,7 +205,7 @@ no_branches buses = record {
   );
 }
 
-pub parts : (buses : ℕ) (bs : List Branch) → IsNetwork (network_of buses bs) → (part : ℕ → ℕ) × AreParts (network_of buses bs) part
+pub parts : (buses : ℕ) (bs : List Branch) → IsTheoryNetwork (network_of buses bs) → (part : ℕ → ℕ) × AreParts (network_of buses bs) part
 parts buses [] is = (λ v. v, no_branches buses)
 parts buses (b ∷ bs) is = one_more (parts buses bs (network_without (network_of buses (b ∷ bs)) 0 b (stands buses b bs is) is))
   where

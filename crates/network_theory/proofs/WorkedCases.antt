@@ -11,7 +11,7 @@ use Rattle.fraction_theory.specs.Signs.{sign_of, abs_ℚ}
 use Rattle.fraction_theory.specs.Sums.{sum_by}
 use Rattle.fraction_theory.proofs.ListSums.{Contains-cases}
 use Rattle.std.proofs.lemmas.Int.{ints}
-use Rattle.network_theory.specs.Networks.{Branch, Network, others, IsBranchOf, IsNetwork, flow, leaving, entering, injection, AreNeighbours, AreJoined, IsConnected, IsTransfer, StandsAt, without, moved, outage_factor}
+use Rattle.network_theory.specs.Networks.{Branch, Network, others, IsBranchOf, IsTheoryNetwork, flow, leaving, entering, injection, AreNeighbours, AreLinked, IsConnected, IsTransfer, StandsAt, without, moved, outage_factor}
 
 abbrev between : ℕ → ℕ → ℕ → Branch
 between from to susceptance = record { from = from; to = to; susceptance = whole (pos susceptance) }
@@ -28,7 +28,7 @@ above : (s : ℕ) → 0 < s → whole (pos 0) <ℚ whole (pos s)
 unfolding whole
 above s h = record { cross = Prim.omega (arith, ints, h) }
 
-triangle-network : IsNetwork triangle
+triangle-network : IsTheoryNetwork triangle
 triangle-network = record { branches = each }
   where
     one : (from to s : ℕ) → from < 3 → to < 3 → 0 < s → (b : Branch) → between from to s ≡ b → IsBranchOf triangle b
@@ -55,7 +55,7 @@ triangle-connected = record { joined = by_place }
     middle : Contains triangle.branches (between 1 2 10)
     middle = (1, Prim.omega arith, refl)
 
-    by_place : (i : ℕ) → i < 3 → AreJoined triangle i 2
+    by_place : (i : ℕ) → i < 3 → AreLinked triangle i 2
     by_place zero h = record { chain = 2 ∷ []; lead = (record { branch = between 0 2 10; there = last; ends = inl (refl, refl) }, refl) }
     by_place (suc zero) h = record { chain = 2 ∷ []; lead = (record { branch = between 1 2 10; there = middle; ends = inl (refl, refl) }, refl) }
     by_place (suc (suc zero)) h = record { chain = []; lead = refl }
@@ -98,7 +98,7 @@ connected_without = record { joined = by_place }
     last : AreNeighbours (without triangle 2) 1 2
     last = record { branch = between 1 2 10; there = (1, Prim.omega arith, refl); ends = inl (refl, refl) }
 
-    by_place : (i : ℕ) → i < 3 → AreJoined (without triangle 2) i 2
+    by_place : (i : ℕ) → i < 3 → AreLinked (without triangle 2) i 2
     by_place zero h = record { chain = 1 ∷ 2 ∷ []; lead = (record { branch = between 0 1 5; there = (0, Prim.omega arith, refl); ends = inl (refl, refl) }, (last, refl)) }
     by_place (suc zero) h = record { chain = 2 ∷ []; lead = (last, refl) }
     by_place (suc (suc zero)) h = record { chain = []; lead = refl }

@@ -28,7 +28,7 @@ pub record IsBranchOf (n : Network) (b : Branch) : Type 0 where
   pub to : b.to < n.buses
   pub susceptance : whole (pos 0) <ℚ b.susceptance
 
-pub record IsNetwork (n : Network) : Type 0 where
+pub record IsTheoryNetwork (n : Network) : Type 0 where
   pub branches : (b : Branch) → Contains n.branches b → IsBranchOf n b
 
 -- ---- flows and injections, by the angle at each place
@@ -64,13 +64,13 @@ Lead n [] i j = i ≡ j
 Lead n (k ∷ ks) i j = AreNeighbours n i k × Lead n ks k j
 
 -- a chain of neighbours leads from one place to another
-pub record AreJoined (n : Network) (i j : ℕ) : Type 0 where
+pub record AreLinked (n : Network) (i j : ℕ) : Type 0 where
   pub chain : List ℕ
   pub lead : Lead n chain i j
 
 -- each bus is joined to the reference
 pub record IsConnected (n : Network) (reference : ℕ) : Type 0 where
-  pub joined : (i : ℕ) → i < n.buses → AreJoined n i reference
+  pub joined : (i : ℕ) → i < n.buses → AreLinked n i reference
 
 -- ---- solutions
 -- the places of the buses other than the reference

@@ -3,7 +3,7 @@ use Rattle.std.proofs.lemmas.Result.{err_from_is_err_and}
 use Rattle.fraction_theory.specs.Fraction.{◌+ℚ◌}
 use Rattle.fraction_theory.proofs.FieldLaws.{over-one}
 use Rattle.exact_flows.specs.FlowSystems.{bus_term}
-use Rattle.exact_flows.specs.Lines.{branch_of}
+use Rattle.exact_flows.specs.Lines.{line_branch}
 use Rattle.exact_flows.proofs.Terms.{sum_more, sum_all, sum_pair}
 use Rattle.exact_flows.proofs.coefficients.bus_coefficient.Goals as goal
 
@@ -14,7 +14,7 @@ pub loop-k-preserved : goal.loop-k-preserved
 loop-k-preserved g c =
     let value = g.N.Exact.value in
     c.in_ok-sum.ensures.sum
-    ∙ ap (λ t. t +ℚ bus_term c.args.bus c.args.other (branch_of value c.index-lines-k.result)) c.loop-k.invariant
+    ∙ ap (λ t. t +ℚ bus_term c.args.bus c.args.other (line_branch value c.index-lines-k.result)) c.loop-k.invariant
     ∙ sym (sum_more value c.args.lines.now c.args.bus c.args.other c.loop-k.k c.index-lines-k.result c.loop-k-test.true c.index-lines-k.is)
 
 pub returns-clause-sum : goal.returns-clause-sum

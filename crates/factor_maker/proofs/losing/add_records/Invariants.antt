@@ -1,5 +1,5 @@
 use Rattle.std.proofs.Common.{◌≡◌, ◌++◌, map}
-use Rattle.factor_residuals.specs.Residuals.{places as places_below}
+use Rattle.factor_residuals.specs.Residuals.{places_below}
 use Rattle.factor_maker.specs.Columns.{made_of}
 use Rattle.factor_maker.proofs.losing.add_records.Given as goal
 

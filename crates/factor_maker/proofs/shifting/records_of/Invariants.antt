@@ -1,6 +1,6 @@
 use Rattle.std.proofs.Common.{◌≡◌, length, map}
 use Rattle.std.specs.List.{flat_map}
-use Rattle.factor_residuals.specs.Residuals.{places as places_below}
+use Rattle.factor_residuals.specs.Residuals.{places_below}
 use Rattle.factor_maker.specs.Columns.{shift_made}
 use Rattle.factor_maker.proofs.shifting.records_of.Given as goal
 

@@ -6,7 +6,7 @@ use Rattle.std.specs.List.{range_with_len}
 use Rattle.fraction_theory.specs.Fraction.{Fraction, whole, ◌+ℚ◌}
 use Rattle.fraction_theory.specs.Sums.{sum_by}
 use Rattle.fraction_theory.proofs.FieldLaws.{whole-+ℚ}
-use Rattle.flow_guess.specs.Links.{network_of}
+use Rattle.flow_guess.specs.Links.{link_network}
 use Rattle.flow_guess.specs.Guesses.{error_at}
 use Rattle.flow_guess.proofs.NetSums.{sum_places_more, sum_others}
 use Rattle.flow_guess.proofs.bounds.all_errors.Goals as goal
@@ -15,7 +15,7 @@ pub loop-bus-preserved : goal.loop-bus-preserved
 loop-bus-preserved c =
     let g = c.args.guess.now in
     let t = c.args.transfer.now in
-    let n = network_of (length g.angles.items) c.args.links.now in
+    let n = link_network (length g.angles.items) c.args.links.now in
     let f : ℕ → Fraction = λ bus. if bus == c.args.reference then whole (pos 0) else error_at n g t bus in
     let e : c.in_ok-sum.sum ≡ c.loop-bus.sum +ℤ c.in_ok-error.field-0 = search rules in
     let x : to_z w128 (of_z w128 c.in_ok-sum.sum) ≡ c.in_ok-sum.sum = search rules in
@@ -25,7 +25,7 @@ pub returns : goal.returns
 returns c =
     let g = c.args.guess.now in
     let t = c.args.transfer.now in
-    let n = network_of (length g.angles.items) c.args.links.now in
+    let n = link_network (length g.angles.items) c.args.links.now in
     let f : ℕ → Fraction = λ bus. if bus == c.args.reference then whole (pos 0) else error_at n g t bus in
     let e : c.loop-bus.bus ≡ length g.angles.items = search rules in
     c.loop-bus.invariant ∙ ap (λ (k : ℕ). sum_by f (range_with_len 0 k)) e ∙ sum_others n (error_at n g t) c.args.reference

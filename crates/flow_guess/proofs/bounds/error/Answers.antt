@@ -6,7 +6,7 @@ use Rattle.fraction_theory.specs.Fraction.{Fraction, whole, ◌+ℚ◌, ◌-ℚ�
 use Rattle.fraction_theory.specs.Signs.{abs_ℚ}
 use Rattle.fraction_theory.proofs.FieldLaws.{whole-+ℚ}
 use Rattle.network_theory.specs.Networks.{net_outflow}
-use Rattle.flow_guess.specs.Links.{network_of}
+use Rattle.flow_guess.specs.Links.{link_network}
 use Rattle.flow_guess.specs.Guesses.{low_flow, high_flow, error_at, wanted_at}
 use Rattle.flow_guess.proofs.NetSums.{of_checked, where_same, where_other}
 use Rattle.flow_guess.proofs.bounds.error.Goals as goal
@@ -18,7 +18,7 @@ pub returns : goal.returns
 returns c =
     let g = c.args.guess.now in
     let t = c.args.transfer.now in
-    let n = network_of (length g.angles.items) c.args.links.now in
+    let n = link_network (length g.angles.items) c.args.links.now in
     let bus = c.args.bus in
     let low = net_outflow n (low_flow g) (high_flow g) bus in
     let high = net_outflow n (high_flow g) (low_flow g) bus in

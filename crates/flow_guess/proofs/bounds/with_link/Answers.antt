@@ -2,16 +2,16 @@ use Rattle.std.proofs.Common.{ap, ◌∙◌}
 use mathlib.Core.Path.{ap₂}
 use Rattle.std.proofs.lemmas.Option.{IfSome_then}
 use Rattle.fraction_theory.specs.Fraction.{whole, ◌+ℚ◌, ◌-ℚ◌}
-use Rattle.flow_guess.specs.Links.{branch_of}
+use Rattle.flow_guess.specs.Links.{link_branch}
 use Rattle.flow_guess.specs.Guesses.{low_flow, high_flow}
 use Rattle.flow_guess.proofs.NetSums.{no_out, whole_three}
 use Rattle.flow_guess.proofs.bounds.with_link.Goals as goal
 
 pub returns-then-link-bus-2-clause-least : goal.returns-then-link-bus-2-clause-least
-returns-then-link-bus-2-clause-least c = no_out c.args.bus (low_flow c.args.guess.now) (high_flow c.args.guess.now) (branch_of c.args.link.now) (whole c.args.range.least) c.if-link-bus.true c.if-link-bus-2.true
+returns-then-link-bus-2-clause-least c = no_out c.args.bus (low_flow c.args.guess.now) (high_flow c.args.guess.now) (link_branch c.args.link.now) (whole c.args.range.least) c.if-link-bus.true c.if-link-bus-2.true
 
 pub returns-then-link-bus-2-clause-most : goal.returns-then-link-bus-2-clause-most
-returns-then-link-bus-2-clause-most c = no_out c.args.bus (high_flow c.args.guess.now) (low_flow c.args.guess.now) (branch_of c.args.link.now) (whole c.args.range.most) c.if-link-bus.true c.if-link-bus-2.true
+returns-then-link-bus-2-clause-most c = no_out c.args.bus (high_flow c.args.guess.now) (low_flow c.args.guess.now) (link_branch c.args.link.now) (whole c.args.range.most) c.if-link-bus.true c.if-link-bus-2.true
 
 pub returns-clause-least : goal.returns-clause-least
 returns-clause-least c = IfSome_then c.plus.result c.plus.ensures.least

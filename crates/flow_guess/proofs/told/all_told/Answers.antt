@@ -10,7 +10,7 @@ use Rattle.network_theory.specs.Carrying.{IsCarried}
 use Rattle.network_theory.specs.Networks.{others}
 use Rattle.exact_fraction.specs.Nearest.{IsNearest}
 use Rattle.flow_guess.specs.declared.links.Link.{Link}
-use Rattle.flow_guess.specs.Links.{branch_of, network_of}
+use Rattle.flow_guess.specs.Links.{link_branch, link_network}
 use Rattle.flow_guess.specs.Guesses.{error_at}
 use Rattle.flow_guess.specs.Told.{IsToldOf}
 use Rattle.flow_guess.proofs.Solutions.{within_errors}
@@ -21,7 +21,7 @@ loop-link-preserved c =
     let links = c.args.links.now in
     let guess = c.args.guess.now in
     let transfer = c.args.transfer.now in
-    let n = network_of (length guess.angles.items) links in
+    let n = link_network (length guess.angles.items) links in
     let part = to_z w128 (of_z w128 c.args.part) in
     let at = c.loop-link.link-index in
     let count = c.loop-link.invariant.0 in
@@ -42,7 +42,7 @@ loop-link-preserved c =
         | inl e ↦
             let link_is : get_or links i d ≡ link = ap (λ j. get_or links j d) e ∙ get_or_default links at d nothing within in
             let told_is : get_or c.push.new.self i None ≡ told = ap (λ (xs : List (Option ℤ)). get_or xs i None) pushed ∙ ap (λ j. get_or (all ++ told ∷ []) j None) (e ∙ sym count) ∙ get_or-append_seam all told [] None in
-            λ k carried is_k is. last places parts k carried (sym told_is ∙ is_k) (subst (λ (x : Link). IsCarried n c.args.reference transfer.source transfer.sink (branch_of x) carried) link_is is)
+            λ k carried is_k is. last places parts k carried (sym told_is ∙ is_k) (subst (λ (x : Link). IsCarried n c.args.reference transfer.source transfer.sink (link_branch x) carried) link_is is)
         | inr d' ↦
             let before : i < at = omega (arith, below, d') in
             let told_is : get_or c.push.new.self i None ≡ get_or all i None = ap (λ (xs : List (Option ℤ)). get_or xs i None) pushed ∙ get_or_append_left all (told ∷ []) None i (omega (arith, before, count)) in

@@ -6,14 +6,14 @@ use Rattle.fraction_theory.specs.Fraction.{whole, ◌+ℚ◌, ◌-ℚ◌, ◌*�
 use Rattle.fraction_theory.specs.Order.{◌≤ℚ◌}
 use Rattle.fraction_theory.proofs.FieldLaws.{whole-+ℚ}
 use Rattle.exact_fraction.specs.Nearest.{in_units}
-use Rattle.flow_guess.specs.Links.{branch_of}
+use Rattle.flow_guess.specs.Links.{link_branch}
 use Rattle.flow_guess.specs.Guesses.{low_flow, high_flow}
 use Rattle.flow_guess.proofs.NetSums.{whole_minus}
 use Rattle.flow_guess.proofs.told.told.Goals as goal
 
 pub returns : goal.returns
 returns c = λ places q within.
-    let b = branch_of c.args.link.now in
+    let b = link_branch c.args.link.now in
     let flow = c.in_ok-flow.flow in
     let e = c.in_ok-error.error in
     let it = within e c.in_ok-error.was in

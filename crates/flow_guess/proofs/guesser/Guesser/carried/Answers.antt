@@ -4,7 +4,7 @@ use Rattle.std.specs.Prelude.{ℤ, ◌*ℤ◌, ◌^◌, List}
 use Rattle.std.proofs.lemmas.Int.{ints}
 use Rattle.flow_guess.proofs.NetSums.{of_ok}
 use Rattle.flow_guess.specs.declared.links.Link.{Link}
-use Rattle.flow_guess.specs.Links.{Grid, grid_network, network_of}
+use Rattle.flow_guess.specs.Links.{Grid, grid_network, link_network}
 use Rattle.flow_guess.specs.Told.{AreNearest}
 use Rattle.flow_guess.proofs.guesser.Guesser.carried.Goals as goal
 
@@ -16,5 +16,5 @@ returns-clause-nearest c =
     let same : to_z w128 (of_z w128 c.parts_of.result) ≡ c.parts_of.result = search rules in
     of_ok c.all_told.result c.all_told.ensures.nearest
     (λ told h. subst (λ (grid : Grid). AreNearest (grid_network grid) grid.reference c.args.source c.args.sink c.args.places grid.links told) c.self.view_is
-    (subst₂ (λ (n : ℕ) (links : List Link). AreNearest (network_of n links) c.self.inside.reference c.args.source c.args.sink c.args.places links told) c.in_ok-guess.ensures.1 c.slice-links.ensures
+    (subst₂ (λ (n : ℕ) (links : List Link). AreNearest (link_network n links) c.self.inside.reference c.args.source c.args.sink c.args.places links told) c.in_ok-guess.ensures.1 c.slice-links.ensures
     (h c.args.places (same ∙ c.parts_of.ensures ∙ ap (λ (z : ℤ). part *ℤ z) units_is))))
