@@ -43,7 +43,7 @@ use Rattle.command_answers.specs.declared.status.Status.TheVariants as status
 use Rattle.command_files.specs.Reading.{IsTable, in_file, source_of}
 use Rattle.command_files.specs.Standing.{AreCheckFiles, AreFactorFiles}
 use Rattle.sced.specs.Headline.{AreFilesApart, HaveTables, IsFactored, LawOfFactorCheck, LawOfFactors, check_of, made_tables, passed_tables, refused_tables}
-use Rattle.sced.specs.Runs.{Keeps}
+use Rattle.sced.specs.Runs.{KeepsWrites}
 use Rattle.sced.specs.Told.{named_outputs}
 use Rattle.sced.proofs.AskedLemmas.{check-told, factors-told, same-bytes, same-table}
 use Rattle.sced.proofs.FactorLemmas.{factors-kept, sound}
@@ -118,7 +118,7 @@ one-table : (a b : FactorRecords) (read : Result FactorRecords TableFault) → r
 one-table a b read first second = sym (ap (records_or a) first) ∙ ap (records_or a) second
 
 -- ---- files that were read are as they were
-module _ (names : FactorNames) (files later : Files) (t : Telling) (kept : Keeps ⊥ (named_outputs (tabled names.ptdf_out names.lodf_out) t.outputs) (Some files) (Some later)) (apart : AreFilesApart names) where
+module _ (names : FactorNames) (files later : Files) (t : Telling) (kept : KeepsWrites ⊥ (named_outputs (tabled names.ptdf_out names.lodf_out) t.outputs) (Some files) (Some later)) (apart : AreFilesApart names) where
   tables-are-named : AllNamed (IsFactorTable names) (named_outputs (tabled names.ptdf_out names.lodf_out) t.outputs)
   tables-are-named =
       bytes-named (IsFactorTable names) (Some names.ptdf_out) t.outputs.ptdf _ (λ name is. inl (let same : names.ptdf_out ≡ name = cc is in sym same))
@@ -209,7 +209,7 @@ none-there : (inputs : FactorInputs) (places : FactorPlaces) (shift : FactorReco
 none-there inputs places shift is = record { few = omega arith; positive = is.positive; made = none-made inputs.network inputs.reactances places }
 
 -- ---- what is read again
-module _ (names : FactorNames) (inputs : FactorInputs) (checked : Inputs) (files later : Files) (t : Telling) (kept : Keeps ⊥ (named_outputs (tabled names.ptdf_out names.lodf_out) t.outputs) (Some files) (Some later))
+module _ (names : FactorNames) (inputs : FactorInputs) (checked : Inputs) (files later : Files) (t : Telling) (kept : KeepsWrites ⊥ (named_outputs (tabled names.ptdf_out names.lodf_out) t.outputs) (Some files) (Some later))
     (apart : AreFilesApart names) (stand : AreFactorFiles files names (Ok inputs)) (again : AreCheckFiles later (check_of names) (Ok checked)) where
   same-case : again.texts.case ≡ stand.case
   same-case = same-bytes again.texts.case stand.case (files names.case) (sym (stays names files later t kept apart names.case (inl refl)) ∙ again.have.case) stand.case_is

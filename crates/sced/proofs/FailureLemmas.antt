@@ -20,7 +20,7 @@ use Rattle.command_files.specs.OnlyReads.{IsSilent}
 use Rattle.command_files.specs.Reading.{HaveGridTexts, HaveTexts, IsTable, source_of}
 use Rattle.command_files.specs.Standing.{AreCheckFiles, AreClearFiles, AreFactorFiles, ArePoolFiles, AreReplayFiles, AreRightsFiles, AreVerifyFiles}
 use Rattle.sced.specs.Headline.{LawOfAnswered, LawOfCauses, LawOfCutShort, LawOfMissing}
-use Rattle.sced.specs.Runs.{Ends, IsTold, Outside}
+use Rattle.sced.specs.Runs.{Ends, HasText, Outside}
 use Rattle.sced.specs.Runs as ending
 use Rattle.sced.specs.Told.{Answers, AnswersTo, checked, cleared, entitled, factored, made, migrated, pooled, refused, replayed, verified}
 use Rattle.sced.proofs.AskedLemmas.{no-other, not-refused}
@@ -43,7 +43,7 @@ silent-or s = by s
     by status.Memory = inl (inr refl)
     by status.Refuted = inr (neither status.Refuted (λ e. cc e) (λ e. cc e))
 
-told-or : (s : Status) → ¬ (IsSilent s) → ¬ (s ≡ status.WriteFailed) → IsTold s
+told-or : (s : Status) → ¬ (IsSilent s) → ¬ (s ≡ status.WriteFailed) → HasText s
 told-or status.Done loud whole = tt
 told-or status.Usage loud whole = tt
 told-or status.Refused loud whole = tt

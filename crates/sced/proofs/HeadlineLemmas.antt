@@ -76,8 +76,8 @@ use Rattle.command_answers.specs.Verifying.{TellsVerdict, VerifiesTo, judged, pa
 use Rattle.command_answers.specs.declared.status.Status.{Status}
 use Rattle.command_answers.specs.declared.status.Status.TheVariants as status
 use Rattle.sced.specs.Asked.{AsksForFactors, AsksSteps, AsksVerdict, as_clear, as_pool}
-use Rattle.sced.specs.Headline.{HasCertificate, IsAsked, HasGreatestWelfare, IsFirstFault, IsMade, IsPriced, IsReplayed, IsReported, IsVerdict, LawOfAsked, LawOfCertificate, LawOfCheck, LawOfCleared, LawOfComplete, LawOfFaults, LawOfInfeasible, LawOfLastCertificate, LawOfMake, LawOfOutside, LawOfRange, LawOfReplay, LawOfRoundTrip, LawOfVerify, RefusesEdit, RefusesFactors, cleared_ring, for_check, for_clear, for_factors, for_holders, for_migration, for_nothing, for_rights, for_ring, for_steps, for_tables, for_verdict, no, passes, range_ring, to_check, to_clear, to_migrate, to_replay, to_verify, with_fault, yes}
-use Rattle.sced.specs.Runs.{Keeps, Outside}
+use Rattle.sced.specs.Headline.{HasCertificate, IsAsked, HasGreatestWelfare, IsFirstRefusal, IsRingText, IsPriced, IsReplayText, IsReported, IsVerdict, LawOfAsked, LawOfCertificate, LawOfCheck, LawOfCleared, LawOfComplete, LawOfFaults, LawOfInfeasible, LawOfLastCertificate, LawOfMake, LawOfOutside, LawOfRange, LawOfReplay, LawOfRoundTrip, LawOfVerify, RefusesEdit, RefusesFactors, cleared_ring, for_check, for_clear, for_factors, for_holders, for_migration, for_nothing, for_rights, for_ring, for_steps, for_tables, for_verdict, no, passes, range_ring, to_check, to_clear, to_migrate, to_replay, to_verify, with_fault, yes}
+use Rattle.sced.specs.Runs.{KeepsWrites, Outside}
 use Rattle.sced.specs.Runs as ending
 use Rattle.sced.specs.Told.{Answers, AnswersTo, checked, cleared, entitled, factored, made, migrated, named_bytes, named_outputs, pooled, refused, replayed, verified}
 use Rattle.command_files.specs.Standing.{AreCheckFiles, AreClearFiles, AreFactorFiles, ArePoolFiles, AreReplayFiles, AreRightsFiles, AreVerifyFiles, IsMigratedFile, TellsFactorsOf}
@@ -156,7 +156,7 @@ law_of_complete words files text s prints =
     )
 
 -- ---- replay
-steps-replayed : (m : Parts) (steps : List Step) (t : Telling) (text : List ℕ) (s : Status) → t.text ≡ text → t.status ≡ s → TellsReplay (record { market = m; steps = steps }) t → IsReplayed m steps text s
+steps-replayed : (m : Parts) (steps : List Step) (t : Telling) (text : List ℕ) (s : Status) → t.text ≡ text → t.status ≡ s → TellsReplay (record { market = m; steps = steps }) t → IsReplayText m steps text s
 steps-replayed m steps t text s words ends (market, replays) =
     let fit = replay_fits most_size m [] replays.taken steps replays.outcomes replays.right in
     let is = sym words ∙ replays.text_is in
@@ -178,7 +178,7 @@ law_of_replay words files text s m steps prints asks =
 -- ---- asked
 -- what is told of files is told of what they stand for, or of their first fault
 asked-of : {A : Type 0} (words : List (List ℕ)) (files : Files) (s : Status) (t : Telling) (stand : Result A Refusal → Type 0) (right : A → Telling → Type 0) → ((x : A) → stand (Ok x) → IsAsked words files s)
-    → ((r : Refusal) → stand (Err r) → IsFirstFault words files r) → Tells stand right t → IsAsked words files s
+    → ((r : Refusal) → stand (Err r) → IsFirstRefusal words files r) → Tells stand right t → IsAsked words files s
 asked-of {A} words files s t stand right asks fault tells = by tells.told tells.stands
   where
     by : (r : Result A Refusal) → stand r → IsAsked words files s
@@ -305,18 +305,18 @@ told-certificate m t s ends which (market, clears) =
     (some.0, ap (λ (o : Outputs (List ℕ)). o.certificate) clears.certificate_is ∙ some.1)
 
 -- a file has this text, or what it had where there is none
-abbrev HasText : Option (List ℕ) → Option (List ℕ) → Option (List ℕ) → Type 0
-HasText (Some text) had has = has ≡ Some text
-HasText None had has = has ≡ had
+abbrev HasFileText : Option (List ℕ) → Option (List ℕ) → Option (List ℕ) → Type 0
+HasFileText (Some text) had has = has ≡ Some text
+HasFileText None had has = has ≡ had
 
-pub kept-one : (files later : Files) (file bytes : List ℕ) → Keeps ⊥ ((file, bytes) ∷ []) (Some files) (Some later) → later file ≡ Some bytes
+pub kept-one : (files later : Files) (file bytes : List ℕ) → KeepsWrites ⊥ ((file, bytes) ∷ []) (Some files) (Some later) → later file ≡ Some bytes
 kept-one files later file bytes (inl (never, wrote)) = absurd never
 kept-one files later file bytes (inr (Some between, wrote, (fine, same))) = same file ∙ wrote.done (λ never. never)
 kept-one files later file bytes (inr (None, wrote, (fine, same))) = elim wrote [ ]
 
-kept-certificate : (w : List (List ℕ × List ℕ)) (files later : Files) (file bytes : List ℕ) (after : Option Files) → w ≡ (file, bytes) ∷ [] → after ≡ Some later → Keeps ⊥ w (Some files) after → later file ≡ Some bytes
+kept-certificate : (w : List (List ℕ × List ℕ)) (files later : Files) (file bytes : List ℕ) (after : Option Files) → w ≡ (file, bytes) ∷ [] → after ≡ Some later → KeepsWrites ⊥ w (Some files) after → later file ≡ Some bytes
 kept-certificate w files later file bytes after is now kept =
-    kept-one files later file bytes (subst (λ a. Keeps ⊥ ((file, bytes) ∷ []) (Some files) a) now (subst (λ x. Keeps ⊥ x (Some files) after) is kept))
+    kept-one files later file bytes (subst (λ a. KeepsWrites ⊥ ((file, bytes) ∷ []) (Some files) a) now (subst (λ x. KeepsWrites ⊥ x (Some files) after) is kept))
 
 yes-or-range : (t : Telling) (answer : List ℕ) (s : Status) → t.text ≡ answer → t.status ≡ s → IsYesOrRange t → ((s ≡ status.Done) × (answer ≡ codes "yes\n")) ⊎ (s ≡ status.Range)
 yes-or-range t answer s words ends (inl is) = inl (sym ends ∙ ap (λ (x : Telling). x.status) is, sym words ∙ ap (λ (x : Telling). x.text) is)
@@ -325,20 +325,20 @@ yes-or-range t answer s words ends (inr is) = inr (sym ends ∙ is)
 -- ---- certificate
 -- where a file is named for the certificate, it has the one that there is, or what it had
 pub kept-as : (files later : Files) (file : List ℕ) (certificate : Option (List ℕ)) (w : List (List ℕ × List ℕ)) (after : Option Files) → w ≡ named_bytes (Some file) certificate [] → after ≡ Some later
-    → Keeps ⊥ w (Some files) after → HasText certificate (files file) (later file)
-kept-as files later file certificate w after is now kept = by certificate (subst (λ a. Keeps ⊥ (named_bytes (Some file) certificate []) (Some files) a) now (subst (λ x. Keeps ⊥ x (Some files) after) is kept))
+    → KeepsWrites ⊥ w (Some files) after → HasFileText certificate (files file) (later file)
+kept-as files later file certificate w after is now kept = by certificate (subst (λ a. KeepsWrites ⊥ (named_bytes (Some file) certificate []) (Some files) a) now (subst (λ x. KeepsWrites ⊥ x (Some files) after) is kept))
   where
-    by : (c : Option (List ℕ)) → Keeps ⊥ (named_bytes (Some file) c []) (Some files) (Some later) → HasText c (files file) (later file)
+    by : (c : Option (List ℕ)) → KeepsWrites ⊥ (named_bytes (Some file) c []) (Some files) (Some later) → HasFileText c (files file) (later file)
     by (Some bytes) kept = kept-one files later file bytes kept
     by None (fine, same) = same file
 
-text-of : (certificate : Option (Cert Fraction)) (had has : Option (List ℕ)) (c : Cert Fraction) → certificate ≡ Some c → HasText (option_map cert_text certificate) had has → has ≡ Some (cert_text c)
-text-of certificate had has c is h = subst (λ x. HasText (option_map cert_text x) had has) is h
+text-of : (certificate : Option (Cert Fraction)) (had has : Option (List ℕ)) (c : Cert Fraction) → certificate ≡ Some c → HasFileText (option_map cert_text certificate) had has → has ≡ Some (cert_text c)
+text-of certificate had has c is h = subst (λ x. HasFileText (option_map cert_text x) had has) is h
 
-had-of : (certificate : Option (Cert Fraction)) (had has : Option (List ℕ)) → certificate ≡ None → HasText (option_map cert_text certificate) had has → has ≡ had
-had-of certificate had has is h = subst (λ x. HasText (option_map cert_text x) had has) is h
+had-of : (certificate : Option (Cert Fraction)) (had has : Option (List ℕ)) → certificate ≡ None → HasFileText (option_map cert_text certificate) had has → has ≡ had
+had-of certificate had has is h = subst (λ x. HasFileText (option_map cert_text x) had has) is h
 
-certificate-kept : (holds : List ℕ → Cert Fraction → Type 0) (certificate : Option (Cert Fraction)) (had has : Option (List ℕ)) → HasText (option_map cert_text certificate) had has
+certificate-kept : (holds : List ℕ → Cert Fraction → Type 0) (certificate : Option (Cert Fraction)) (had has : Option (List ℕ)) → HasFileText (option_map cert_text certificate) had has
     → ((c : Cert Fraction) → certificate ≡ Some c → holds (cert_text c) c) → HasCertificate holds certificate had has
 certificate-kept holds certificate had has h each = record {
   some = λ c is. (text-of certificate had has c is h, each c is);
@@ -453,10 +453,10 @@ module _ (words : List (List ℕ)) (files : Files) (text : List ℕ) (s : Status
       let here = refusal-put r is in
       (here.0, here.1, kept-none p.written after (none-written files words p.telling p.written (ap (λ (t : Telling). t.outputs) is) p.answers) p.kept)
     where
-      kept-none : (w : List (List ℕ × List ℕ)) (now : Option Files) → w ≡ [] → Keeps ⊥ w (Some files) now → SameFiles (Some files) now
-      kept-none w now is kept = (subst (λ x. Keeps ⊥ x (Some files) now) is kept).1
+      kept-none : (w : List (List ℕ × List ℕ)) (now : Option Files) → w ≡ [] → KeepsWrites ⊥ w (Some files) now → SameFiles (Some files) now
+      kept-none w now is kept = (subst (λ x. KeepsWrites ⊥ x (Some files) now) is kept).1
 
-  fault-told : (r : Refusal) → IsFirstFault words files r → (s ≡ status.Refused) × (text ≡ refusal_line r) × SameFiles (Some files) after
+  fault-told : (r : Refusal) → IsFirstRefusal words files r → (s ≡ status.Refused) × (text ≡ refusal_line r) × SameFiles (Some files) after
   fault-told r (to_clear asks) = refusal-alone r (clear-told files words p.telling p.written (Err r) p.answers asks)
   fault-told r (to_replay asks) = refusal-alone r (replay-told files words p.telling p.written (Err r) p.answers asks)
   fault-told r (to_verify asks) = refusal-alone r (verify-told files words p.telling p.written (Err r) p.answers asks)
@@ -466,10 +466,10 @@ module _ (words : List (List ℕ)) (files : Files) (text : List ℕ) (s : Status
   fault-told r (to_check asks) = refusal-alone r (check-told files words p.telling p.written (Err r) p.answers asks)
 
   abbrev Why : Type 0
-  Why = ((r : Refusal) × IsFirstFault words files r × (text ≡ refusal_line r)) ⊎ RefusesEdit words files ⊎ RefusesFactors words files text
+  Why = ((r : Refusal) × IsFirstRefusal words files r × (text ≡ refusal_line r)) ⊎ RefusesEdit words files ⊎ RefusesFactors words files text
 
   -- what is told of files with a fault is told of one
-  by-fault : {A : Type 0} (stand : Result A Refusal → Type 0) (right : A → Telling → Type 0) → ((r : Refusal) → stand (Err r) → IsFirstFault words files r) → ((x : A) → stand (Ok x) → right x p.telling → Why)
+  by-fault : {A : Type 0} (stand : Result A Refusal → Type 0) (right : A → Telling → Type 0) → ((r : Refusal) → stand (Err r) → IsFirstRefusal words files r) → ((x : A) → stand (Ok x) → right x p.telling → Why)
       → Tells stand right p.telling → Why
   by-fault {A} stand right fault other tells = by tells.told tells.stands tells.comes
     where
@@ -579,12 +579,12 @@ ring-answer bound buses seed t (making.passed q pair within is) = inr (q, pair, 
 
 ring-made : LawOfTheReserve → (buses seed : ℕ) (t : Telling) (text : List ℕ) (s : Status) → t.text ≡ text → t.status ≡ s
     → ((a : Answer Fraction) × IsMarket (ring_of buses seed) × IsRight (ring_of buses seed) a × (t ≡ uncertified status.Done (making.ring_line buses seed ++ making.summary a)))
-    ⊎ ((p : Passed Fraction) × IsRangeOf (ring_of buses seed) [] most_size p × ArePassedWithin most_size p × (t ≡ uncertified status.Range (making.ring_line buses seed ++ range_text p))) → IsMade buses seed text s
+    ⊎ ((p : Passed Fraction) × IsRangeOf (ring_of buses seed) [] most_size p × ArePassedWithin most_size p × (t ≡ uncertified status.Range (making.ring_line buses seed ++ range_text p))) → IsRingText buses seed text s
 ring-made law_of_reserve buses seed t text s words ends (inl (a, market, right, is)) =
     let best = right-best law_of_reserve (ring_of buses seed) a market right in
-    subst (IsMade buses seed text) (sym (ap (λ (x : Telling). x.status) is) ∙ ends) (cleared_ring a best.0 best.1 (sym words ∙ ap (λ (x : Telling). x.text) is))
+    subst (IsRingText buses seed text) (sym (ap (λ (x : Telling). x.status) is) ∙ ends) (cleared_ring a best.0 best.1 (sym words ∙ ap (λ (x : Telling). x.text) is))
 ring-made law_of_reserve buses seed t text s words ends (inr (p, pair, within, is)) =
-    subst (IsMade buses seed text) (sym (ap (λ (x : Telling). x.status) is) ∙ ends) (range_ring p pair within (sym words ∙ ap (λ (x : Telling). x.text) is))
+    subst (IsRingText buses seed text) (sym (ap (λ (x : Telling). x.status) is) ∙ ends) (range_ring p pair within (sym words ∙ ap (λ (x : Telling). x.text) is))
 
 pub law_of_make : LawOfTheReserve → LawOfMake
 law_of_make law_of_reserve words files text s buses seed prints asks =
@@ -622,7 +622,7 @@ module _ (P : List ℕ → Type 0) (n : List ℕ) (free : ¬ (P n)) (failed : Ty
   apart : (name : List ℕ) → P name → n ≢ name
   apart name is same = free (subst P (sym same) is)
 
-  pub kept-at : (w : List (List ℕ × List ℕ)) (f h : Files) → AllNamed P w → Keeps failed w (Some f) (Some h) → h n ≡ f n
+  pub kept-at : (w : List (List ℕ × List ℕ)) (f h : Files) → AllNamed P w → KeepsWrites failed w (Some f) (Some h) → h n ≡ f n
   kept-at [] f h named (fine, same) = same n
   kept-at ((name, bytes) ∷ rest) f h named (inl (bad, wrote)) = wrote.others n (apart name named.0)
   kept-at ((name, bytes) ∷ rest) f h named (inr (Some g, wrote, kept)) = kept-at rest g h named.1 kept ∙ wrote.others n (apart name named.0)
@@ -632,8 +632,8 @@ same-at : (a b : Option Files) (f h : Files) (n : List ℕ) → a ≡ Some f →
 same-at a b f h n before after same = (subst (SameFiles (Some f)) after (subst (λ x. SameFiles x b) before same)) n
 
 module _ (words : List (List ℕ)) (before after : Outside) (s : Status) (f h : Files) (was : before.files ≡ Some f) (is_now : after.files ≡ Some h) (n : List ℕ) (free : ¬ (NamesToWrite words n)) where
-  told-files : (failed : Type 0) (w : List (List ℕ × List ℕ)) → Keeps failed w before.files after.files → Keeps failed w (Some f) (Some h)
-  told-files failed w kept = subst (λ y. Keeps failed w (Some f) y) is_now (subst (λ x. Keeps failed w x after.files) was kept)
+  told-files : (failed : Type 0) (w : List (List ℕ × List ℕ)) → KeepsWrites failed w before.files after.files → KeepsWrites failed w (Some f) (Some h)
+  told-files failed w kept = subst (λ y. KeepsWrites failed w (Some f) y) is_now (subst (λ x. KeepsWrites failed w x after.files) was kept)
 
   answers-at : Answers words before after s → h n ≡ f n
   answers-at a = by a.ends

@@ -34,15 +34,15 @@ use Rattle.command_answers.specs.declared.status.Status.{Status}
 use Rattle.command_answers.specs.declared.status.Status.TheVariants as status
 use Rattle.sced.specs.Asked.{AsksMarket, AsksSteps}
 use Rattle.sced.specs.Headline.{BeginsWith, Prints, Reports, in_clear, in_replay, of_clear, of_step, outcome_of_edit}
-use Rattle.sced.specs.Runs.{Ends, IsTold, Keeps, told, unwritten}
+use Rattle.sced.specs.Runs.{Ends, HasText, KeepsWrites, told, unwritten}
 use Rattle.command_files.specs.OnlyReads.{IsSilent}
 use Rattle.sced.specs.Told.{Answers, AnswersTo}
 use Rattle.sced.proofs.AskedLemmas.{clear-told, replay-told}
 
 -- ---- the telling that was put
-pub not-silent : (s : Status) → IsTold s → ¬ (IsSilent s)
-not-silent s ended (inl e) = subst IsTold e ended
-not-silent s ended (inr e) = subst IsTold e ended
+pub not-silent : (s : Status) → HasText s → ¬ (IsSilent s)
+not-silent s ended (inl e) = subst HasText e ended
+not-silent s ended (inr e) = subst HasText e ended
 
 taken-text : (failed : Type 0) (t earlier text : List ℕ) (a b : Option (List ℕ)) → a ≡ Some earlier → b ≡ Some (earlier ++ text) → ¬ failed → Took failed t a b → t ≡ text
 taken-text failed t earlier text a b before after whole took =
@@ -56,25 +56,25 @@ pub record IsPrinted (words : List (List ℕ)) (files : Files) (after : Option F
   pub answers : AnswersTo (Some files) words telling written
   pub text_is : telling.text ≡ text
   pub status_is : telling.status ≡ s
-  pub kept : Keeps ⊥ written (Some files) after
+  pub kept : KeepsWrites ⊥ written (Some files) after
 
 pub printed : (words : List (List ℕ)) (files : Files) (text : List ℕ) (s : Status) → (p : Prints words files text s) → IsPrinted words files p.after.files text s
 printed words files text s p = by (p.runs.told (not-silent s p.ended))
   where
     status-is : (t : Telling) → (s ≡ t.status) ⊎ (s ≡ status.WriteFailed) → t.status ≡ s
     status-is t (inl same) = sym same
-    status-is t (inr failed) = absurd (subst IsTold failed p.ended)
+    status-is t (inr failed) = absurd (subst HasText failed p.ended)
 
     ended : (t : Telling) (w : List (List ℕ × List ℕ)) → AnswersTo (Some files) words t w → Ends t w p.before.files p.after.files p.before.taken p.after.taken s → IsPrinted words files p.after.files text s
     ended t w answers (told kept took right) = record {
       telling = t;
       written = w;
       answers = answers;
-      text_is = taken-text (s ≡ status.WriteFailed) t.text p.earlier text p.before.taken p.after.taken p.put_before p.put_after (λ failed. subst IsTold failed p.ended) took;
+      text_is = taken-text (s ≡ status.WriteFailed) t.text p.earlier text p.before.taken p.after.taken p.put_before p.put_after (λ failed. subst HasText failed p.ended) took;
       status_is = status-is t right;
-      kept = subst (λ f. Keeps ⊥ w f p.after.files) p.files_are kept;
+      kept = subst (λ f. KeepsWrites ⊥ w f p.after.files) p.files_are kept;
     }
-    ended t w answers (unwritten kept none failed) = absurd (subst IsTold failed p.ended)
+    ended t w answers (unwritten kept none failed) = absurd (subst HasText failed p.ended)
 
     by : Answers words p.before p.after s → IsPrinted words files p.after.files text s
     by a = ended a.telling a.written (subst (λ f. AnswersTo f words a.telling a.written) p.files_are a.right) a.ends

@@ -83,7 +83,7 @@ use Rattle.command_answers.specs.declared.status.Status.TheVariants as status
 use Rattle.sced.specs.Asked.{AsksForFactors, AsksForRights, AsksHeld, AsksMarket, AsksSteps, AsksVerdict, AsksToCheck, AsksToClear, AsksToMigrate, AsksToReplay, AsksToVerify}
 use Rattle.sced.specs.Promise.{Runs}
 use Rattle.command_files.specs.OnlyReads.{IsSilent}
-use Rattle.sced.specs.Runs.{CountsReads, CountsWrites, IsTold, LeavesAll, Outside}
+use Rattle.sced.specs.Runs.{CountsReads, CountsWrites, HasText, LeavesAll, Outside}
 use Rattle.sced.specs.Told.{Answers}
 
 -- ---- what a run prints
@@ -93,21 +93,21 @@ pub record Prints (words : List (List ℕ)) (files : Files) (text : List ℕ) (s
   pub before : Outside
   pub after : Outside
   pub runs : Runs words before after s
-  pub ended : IsTold s
+  pub ended : HasText s
   pub files_are : before.files ≡ Some files
   pub earlier : List ℕ
   pub put_before : before.taken ≡ Some earlier
   pub put_after : after.taken ≡ Some (earlier ++ text)
 
 -- the first fault of the files that the words name, in the one order of work
-pub data IsFirstFault (words : List (List ℕ)) (files : Files) (r : Refusal) : Type 0 where
-  to_clear : AsksToClear files words (Err r) → IsFirstFault words files r
-  to_replay : AsksToReplay files words (Err r) → IsFirstFault words files r
-  to_verify : AsksToVerify files words (Err r) → IsFirstFault words files r
-  for_rights : AsksForRights files words (Err r) → IsFirstFault words files r
-  to_check : AsksToCheck files words (Err r) → IsFirstFault words files r
-  to_migrate : AsksToMigrate files words (Err r) → IsFirstFault words files r
-  for_factors : AsksForFactors files words (Err r) → IsFirstFault words files r
+pub data IsFirstRefusal (words : List (List ℕ)) (files : Files) (r : Refusal) : Type 0 where
+  to_clear : AsksToClear files words (Err r) → IsFirstRefusal words files r
+  to_replay : AsksToReplay files words (Err r) → IsFirstRefusal words files r
+  to_verify : AsksToVerify files words (Err r) → IsFirstRefusal words files r
+  for_rights : AsksForRights files words (Err r) → IsFirstRefusal words files r
+  to_check : AsksToCheck files words (Err r) → IsFirstRefusal words files r
+  to_migrate : AsksToMigrate files words (Err r) → IsFirstRefusal words files r
+  for_factors : AsksForFactors files words (Err r) → IsFirstRefusal words files r
 
 -- a run that puts a text was asked for one of these: for nothing that the program does, for work on what the files stand for, for a ring, or on
 -- files with a first fault
@@ -121,7 +121,7 @@ pub data IsAsked (words : List (List ℕ)) (files : Files) : Status → Type 0 w
   for_check : (s : Status) (inputs : Inputs) → AsksToCheck files words (Ok inputs) → IsAsked words files s
   for_tables : (s : Status) (inputs : FactorInputs) → AsksForFactors files words (Ok inputs) → IsAsked words files s
   for_ring : (s : Status) (buses seed : ℕ) → AsksMake words buses seed → IsAsked words files s
-  with_fault : (s : Status) (r : Refusal) → IsFirstFault words files r → IsAsked words files s
+  with_fault : (s : Status) (r : Refusal) → IsFirstRefusal words files r → IsAsked words files s
 
 abbrev pub LawOfAsked : Type 0
 LawOfAsked = (words : List (List ℕ)) (files : Files) (text : List ℕ) (s : Status) → Prints words files text s → IsAsked words files s
@@ -184,7 +184,7 @@ outcome_of_edit m e = option_map_or reply.Refused (judge m e) reply.Accepted
 
 -- The text is that of outcomes of the steps, of these alone, and the status goes with them: each edit comes to what it is judged to, of the
 -- market as the steps before it edit it, and each clear has an outcome.
-pub record IsReplayed (m : Parts) (steps : List Step) (text : List ℕ) (s : Status) : Type 0 where
+pub record IsReplayText (m : Parts) (steps : List Step) (text : List ℕ) (s : Status) : Type 0 where
   pub outcomes : List (StepOutcome Fraction)
   pub fit : OutcomesFit m steps outcomes
   pub text_is : text ≡ replayed m steps outcomes
@@ -195,7 +195,7 @@ pub record IsReplayed (m : Parts) (steps : List Step) (text : List ℕ) (s : Sta
 
 abbrev pub LawOfReplay : Type 0
 LawOfReplay = (words : List (List ℕ)) (files : Files) (text : List ℕ) (s : Status) (m : Parts) (steps : List Step)
-    → Prints words files text s → AsksSteps files words m steps → IsReplayed m steps text s
+    → Prints words files text s → AsksSteps files words m steps → IsReplayText m steps text s
 
 -- ---- complete
 -- a market that is to be cleared is reported, with the status of its outcome
@@ -389,20 +389,20 @@ pub record RefusesFactors (words : List (List ℕ)) (files : Files) (text : List
 -- or where tables of factors are asked for that are too large or have a reactance not above 0
 abbrev pub LawOfFaults : Type 0
 LawOfFaults = (words : List (List ℕ)) (files : Files) (text : List ℕ) (s : Status) → (run : Prints words files text s)
-    → ((r : Refusal) → IsFirstFault words files r → (s ≡ status.Refused) × (text ≡ refusal_line r) × SameFiles (Some files) run.after.files)
-    × (s ≡ status.Refused → ((r : Refusal) × IsFirstFault words files r × (text ≡ refusal_line r)) ⊎ RefusesEdit words files ⊎ RefusesFactors words files text)
+    → ((r : Refusal) → IsFirstRefusal words files r → (s ≡ status.Refused) × (text ≡ refusal_line r) × SameFiles (Some files) run.after.files)
+    × (s ≡ status.Refused → ((r : Refusal) × IsFirstRefusal words files r × (text ≡ refusal_line r)) ⊎ RefusesEdit words files ⊎ RefusesFactors words files text)
 
 -- ---- make
 -- the worth and the surplus of an answer that is best and priced, or two numbers of the ring as above; where no pair passes it is cleared
-pub data IsMade (buses seed : ℕ) (text : List ℕ) : Status → Type 0 where
+pub data IsRingText (buses seed : ℕ) (text : List ℕ) : Status → Type 0 where
   cleared_ring : (a : Answer Fraction) → HasGreatestWelfare (ring_of buses seed) (dispatch_in a) → IsPriced (ring_of buses seed) a
-      → text ≡ ring_line buses seed ++ summary a → IsMade buses seed text status.Done
+      → text ≡ ring_line buses seed ++ summary a → IsRingText buses seed text status.Done
   range_ring : (p : Passed Fraction) → IsRangeOf (ring_of buses seed) [] most_size p → ArePassedWithin most_size p → text ≡ ring_line buses seed ++ range_text p
-      → IsMade buses seed text status.Range
+      → IsRingText buses seed text status.Range
 
 abbrev pub LawOfMake : Type 0
 LawOfMake = (words : List (List ℕ)) (files : Files) (text : List ℕ) (s : Status) (buses seed : ℕ)
-    → Prints words files text s → AsksMake words buses seed → IsMade buses seed text s
+    → Prints words files text s → AsksMake words buses seed → IsRingText buses seed text s
 
 -- ---- outside
 -- no file is touched but those that the words name for writing
@@ -417,7 +417,7 @@ LawOfOutside = (words : List (List ℕ)) (before after : Outside) (s : Status) �
 -- write or put, or of memory that was refused
 abbrev pub LawOfAnswered : Type 0
 LawOfAnswered = (words : List (List ℕ)) (before after : Outside) (s : Status) (earlier : List ℕ) → Runs words before after s
-    → before.taken ≡ Some earlier → IsSilent s ⊎ (s ≡ status.WriteFailed) ⊎ (IsTold s × ((text : List ℕ) × (after.taken ≡ Some (earlier ++ text))))
+    → before.taken ≡ Some earlier → IsSilent s ⊎ (s ≡ status.WriteFailed) ⊎ (HasText s × ((text : List ℕ) × (after.taken ≡ Some (earlier ++ text))))
 
 -- ---- causes
 -- a run ends for a failed read only where one of a file that the words name for reading is counted, and for a failed write or put only where one
