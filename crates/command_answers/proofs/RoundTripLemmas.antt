@@ -39,9 +39,10 @@ use Rattle.market_inputs.specs.Files.{most_file, sized, sized_tables}
 use Rattle.market_inputs.specs.Replaying.{certificate_in, steps_in}
 use Rattle.market_inputs.specs.RightsInputs.{rights_in}
 use Rattle.market_inputs.proofs.OnceLemmas.{OfOne, clear-once, is-once, then-once}
+use Rattle.market_inputs.specs.Texts.{IsLimited}
 use Rattle.command_answers.specs.Clearing.{TellsClear, most_size}
 use Rattle.command_answers.specs.Laws.{Certifies, CertifiesLast, IsEdit, IsYesOrRange, LawOfTheReplay, LawOfTheRoundTrip, LawOfTheSameFiles, LawOfYes}
-use Rattle.command_answers.specs.Inputs.{AreEntitled, IsCertified, IsLimited, IsReplayed, MarketCertificate, MarketSteps}
+use Rattle.command_answers.specs.Inputs.{AreEntitled, IsCertified, IsReplayed, MarketCertificate, MarketSteps}
 use Rattle.command_answers.specs.Replaying.{ReplaysTo, last_clear}
 use Rattle.command_answers.specs.Tellings.{ComesTo, Telling, Tells, uncertified}
 use Rattle.command_answers.specs.Verdicts.{verdict_line}

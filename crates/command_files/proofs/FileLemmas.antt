@@ -17,12 +17,13 @@ use Rattle.market_inputs.proofs.FileLemmas.{AreAlike, alike-grid, alike-tables, 
 use Rattle.market_tables.specs.Tables.{EachOf, GridTexts, MarketTexts}
 use Rattle.market_tables.proofs.EachLemmas.{Found, found-grid, found-tables}
 use Rattle.market_inputs.specs.declared.making.FactorInputs.{FactorInputs}
+use Rattle.market_inputs.specs.Texts.{IsPool, IsLimited, IsCheck}
 use Rattle.edit_table.specs.EditTable.{header as edit_header}
 use Rattle.factor_tables.specs.OutageNumbers.{outage_header}
 use Rattle.command_words.specs.Words.{CheckNames, FactorNames, MarketNames}
 use Rattle.command_answers.specs.Checking.{TellsCheck}
 use Rattle.command_answers.specs.Clearing.{TellsClear}
-use Rattle.command_answers.specs.Inputs.{AreEntitled, IsCertificate, IsCertified, IsCheck, IsFactorWork, IsLimited, IsPool, IsReplayed, MarketCertificate, MarketRights, MarketSteps}
+use Rattle.command_answers.specs.Inputs.{AreEntitled, IsCertificate, IsCertified, IsFactorWork, IsReplayed, MarketCertificate, MarketRights, MarketSteps}
 use Rattle.command_answers.specs.Migrating.{TellsMigration}
 use Rattle.command_answers.specs.Replaying.{TellsReplay}
 use Rattle.command_answers.specs.Rights.{TellsRights}

@@ -12,11 +12,12 @@ use Rattle.market_inputs.specs.Files.{sized_grid}
 use Rattle.market_inputs.specs.declared.checking.Inputs.{Inputs}
 use Rattle.market_inputs.specs.declared.making.FactorInputs.{FactorInputs}
 use Rattle.market_inputs.proofs.OnceLemmas.{OfOne, factor-inputs-once, inputs-once, pool-once}
+use Rattle.market_inputs.specs.Texts.{IsLimited, IsCheck}
 use Rattle.command_words.specs.Words.{AsksClear, AsksMake, AsksPool, CheckNames, Enters, FactorNames, GridNames, MarketNames, refuses}
 use Rattle.command_words.proofs.WordsLemmas.{asks-once, checks-once, clears-once, enters-one, factors-once, makes-once, migrates-once, names-apart, replays-once, rights-once, verifies-once}
 use Rattle.command_answers.specs.Checking.{TellsCheck}
 use Rattle.command_answers.specs.Clearing.{TellsClear, most_size}
-use Rattle.command_answers.specs.Inputs.{AreEntitled, IsCertificate, IsCertified, IsCheck, IsFactorWork, IsLimited, IsReplayed, MarketCertificate, MarketRights, MarketSteps}
+use Rattle.command_answers.specs.Inputs.{AreEntitled, IsCertificate, IsCertified, IsFactorWork, IsReplayed, MarketCertificate, MarketRights, MarketSteps}
 use Rattle.command_answers.specs.Migrating.{TellsMigration}
 use Rattle.command_answers.specs.Replaying.{TellsReplay}
 use Rattle.command_answers.specs.Rights.{TellsRights}
