@@ -18,7 +18,7 @@ use Rattle.market_tables.specs.Tables.{EachOf, GridTexts, MarketTexts}
 use Rattle.market_tables.proofs.EachLemmas.{Found, found-grid, found-tables}
 use Rattle.market_inputs.specs.declared.making.FactorInputs.{FactorInputs}
 use Rattle.market_inputs.specs.Texts.{IsPool, IsLimited, IsCheck}
-use Rattle.edit_table.specs.EditTable.{header as edit_header}
+use Rattle.edit_table.specs.EditTable.{edit_header}
 use Rattle.factor_tables.specs.OutageNumbers.{outage_header}
 use Rattle.command_words.specs.Words.{CheckNames, FactorNames, MarketNames}
 use Rattle.command_answers.specs.Checking.{TellsCheck}

@@ -9,7 +9,7 @@ use Rattle.market_inputs.specs.Texts.{IsPool, IsLimited, IsCheck}
 use Rattle.market_model.specs.declared.participants.Parts.{Parts}
 use Rattle.market_tables.specs.Tables.{GridTexts, MarketTexts}
 use Rattle.refusal_text.specs.declared.refusals.Refusal.{Refusal}
-use Rattle.edit_table.specs.EditTable.{header as edit_header}
+use Rattle.edit_table.specs.EditTable.{edit_header}
 use Rattle.factor_tables.specs.OutageNumbers.{outage_header}
 use Rattle.command_words.specs.Words.{CheckNames, FactorNames, MarketNames}
 use Rattle.command_answers.specs.Factors.{TellsFactors}
