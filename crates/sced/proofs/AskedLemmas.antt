@@ -30,7 +30,7 @@ use Rattle.edit_table.specs.EditTable.{edit_header}
 use Rattle.factor_tables.specs.OutageNumbers.{outage_header}
 use Rattle.market_tables.specs.Tables.{GridTexts, MarketTexts}
 use Rattle.market_tables.proofs.EachLemmas.{same-grid, same-tables}
-use Rattle.command_files.specs.Reading.{HaveGridTexts, HaveTexts, IsTable, Source, grid_sources, header_alone, in_file, source_of, table_sources}
+use Rattle.command_files.specs.Reading.{HaveGridTexts, HaveTexts, IsTableFile, Source, grid_sources, header_alone, in_file, source_of, table_sources}
 use Rattle.sced.specs.Told.{AnswersTo, checked, cleared, entitled, factored, made, migrated, pooled, refused, replayed, verified}
 use Rattle.command_files.specs.Standing.{AreCheckFiles, AreClearFiles, AreFactorFiles, ArePoolFiles, AreReplayFiles, AreRightsFiles, AreVerifyFiles, IsMigratedFile, TellsFactorsOf}
 
@@ -38,12 +38,12 @@ use Rattle.command_files.specs.Standing.{AreCheckFiles, AreClearFiles, AreFactor
 pub same-bytes : (a b : List ℕ) (o : Option (List ℕ)) → o ≡ Some a → o ≡ Some b → a ≡ b
 same-bytes a b o first second = Prim.cc
 
-pub same-table : (files : Files) (source : Source) (a b : List ℕ) → IsTable files source a → IsTable files source b → a ≡ b
+pub same-table : (files : Files) (source : Source) (a b : List ℕ) → IsTableFile files source a → IsTableFile files source b → a ≡ b
 same-table files (in_file name) a b first second = same-bytes a b (files name) first second
 same-table files (header_alone header) a b first second = first ∙ sym second
 
 same-texts : (files : Files) (names : MarketNames) (a b : MarketTexts) → HaveTexts files names a → HaveTexts files names b → a ≡ b
-same-texts files names a b h k = same-tables (IsTable files) (same-table files) (table_sources names) a b h k
+same-texts files names a b h k = same-tables (IsTableFile files) (same-table files) (table_sources names) a b h k
 
 pool-files-once : (files : Files) (case offers : List ℕ) → OfOne (ArePoolFiles files case offers)
 pool-files-once files case offers a b h k =
@@ -52,7 +52,7 @@ pool-files-once files case offers a b h k =
     pool-once _ _ a b h.market (rw (same_case, same_offers) at k.market)
 
 same-grid-texts : (files : Files) (names : GridNames) (a b : GridTexts) → HaveGridTexts files names a → HaveGridTexts files names b → a ≡ b
-same-grid-texts files names a b h k = same-grid (IsTable files) (same-table files) (grid_sources names) a b h k
+same-grid-texts files names a b h k = same-grid (IsTableFile files) (same-table files) (grid_sources names) a b h k
 
 check-files-once : (files : Files) (names : CheckNames) → OfOne (AreCheckFiles files names)
 check-files-once files names a b h k =

@@ -7,7 +7,7 @@ use Rattle.factor_maker.specs.declared.stops.MakeStop.{MakeStop}
 use Rattle.factor_maker.specs.declared.stops.MakeStop.TheVariants as make_stop
 use Rattle.factor_tables.specs.declared.by_pair.Column.TheVariants as column
 use Rattle.factor_tables.specs.Factors.{FactorRecords}
-use Rattle.factor_text.specs.Texts.{table_text}
+use Rattle.factor_text.specs.Texts.{factor_table_text}
 use Rattle.factor_laws.specs.Laws.{LossTablesAreReadBack, ShiftTablesAreReadBack}
 use Rattle.factor_tables.specs.Tables.{loss_of}
 use Rattle.dc_network.specs.DcNetworks.{ArePositive}
@@ -106,10 +106,10 @@ module _ (shift_back : ShiftTablesAreReadBack) (loss_back : LossTablesAreReadBac
   of-stop make_stop.Memory stops never = absurd never
 
   abbrev shift_text : MadeTables → List ℕ
-  shift_text tables = table_text column.Bus tables.shift.entries
+  shift_text tables = factor_table_text column.Bus tables.shift.entries
 
   abbrev loss_text : FactorRecords → List ℕ
-  loss_text loss = table_text column.Outage loss.entries
+  loss_text loss = factor_table_text column.Outage loss.entries
 
   of-tables : TellsFactorsOf names inputs t → Kept t → IsFactored names inputs files later text s
   of-tables (fit, stopped why stops tells) = of-stop why stops tells

@@ -32,7 +32,7 @@ use Rattle.net_case.specs.Networks.{LiveNetwork}
 use Rattle.factor_tables.specs.declared.by_pair.Column.TheVariants as column
 use Rattle.factor_tables.specs.Factors.{FactorRecords}
 use Rattle.factor_tables.specs.Tables.{loss_of, shift_of}
-use Rattle.factor_text.specs.Texts.{table_text}
+use Rattle.factor_text.specs.Texts.{factor_table_text}
 use Rattle.factor_maker.specs.declared.stops.MakeStop.{MakeStop}
 use Rattle.factor_maker.specs.declared.stops.MakeStop.TheVariants as make_stop
 use Rattle.case_maker.specs.Rings.{ring_of}
@@ -68,7 +68,7 @@ use Rattle.market_inputs.specs.declared.making.FactorInputs.{FactorInputs}
 use Rattle.command_answers.specs.Checking.{AreResiduals, check_status_of}
 use Rattle.command_answers.specs.declared.checking.Residuals.{Residuals}
 use Rattle.command_answers.specs.Clearing.{ArePassedWithin, most_size, status_of}
-use Rattle.command_answers.specs.Factors.{AreTables, IsFactorsStop, tables_text}
+use Rattle.command_answers.specs.Factors.{AreMadeTables, IsFactorsStop, tables_text}
 use Rattle.command_answers.specs.declared.factors.MadeTables.{MadeTables}
 use Rattle.command_answers.specs.Inputs.{MarketSteps}
 use Rattle.command_answers.specs.Laws.{Certifies, CertifiesLast}
@@ -320,10 +320,10 @@ LawOfCheck = (words : List (List ℕ)) (files : Files) (text : List ℕ) (s : St
 -- The file that is named for the outage factors has the text of their table, and so has that for the shift factors, where it is another one: of
 -- one name, the outage factors stand there at the end. Each text is read, over the network, as the table.
 pub record HaveTables (names : FactorNames) (network : LiveNetwork) (tables : MadeTables) (files : Files) : Type 0 where
-  pub shift : names.lodf_out ≢ Some names.ptdf_out → files names.ptdf_out ≡ Some (table_text column.Bus tables.shift.entries)
-  pub loss : (file : List ℕ) (loss : FactorRecords) → names.lodf_out ≡ Some file → tables.loss ≡ Some loss → files file ≡ Some (table_text column.Outage loss.entries)
-  pub shift_read : shift_of network (table_text column.Bus tables.shift.entries) names.places ≡ Ok tables.shift
-  pub loss_read : (loss : FactorRecords) → tables.loss ≡ Some loss → loss_of network (table_text column.Outage loss.entries) names.places ≡ Ok loss
+  pub shift : names.lodf_out ≢ Some names.ptdf_out → files names.ptdf_out ≡ Some (factor_table_text column.Bus tables.shift.entries)
+  pub loss : (file : List ℕ) (loss : FactorRecords) → names.lodf_out ≡ Some file → tables.loss ≡ Some loss → files file ≡ Some (factor_table_text column.Outage loss.entries)
+  pub shift_read : shift_of network (factor_table_text column.Bus tables.shift.entries) names.places ≡ Ok tables.shift
+  pub loss_read : (loss : FactorRecords) → tables.loss ≡ Some loss → loss_of network (factor_table_text column.Outage loss.entries) names.places ≡ Ok loss
 
 -- why no tables are made where that is refused
 abbrev pub stop_refused : FactorFault → MakeStop Fraction
@@ -334,7 +334,7 @@ stop_refused (factor_fault.NotPositive branch) = make_stop.NotPositive branch
 -- are there where a file is named for them. Or no file is touched: there are too many factors or a reactance is not above 0, or two numbers of
 -- the exact factors, each within 127 bits, pass these together.
 pub data IsFactored (names : FactorNames) (inputs : FactorInputs) (files later : Files) (text : List ℕ) : Status → Type 0 where
-  made_tables : (tables : MadeTables) → AreTables inputs (is_some names.lodf_out) names.places tables → text ≡ tables_text tables
+  made_tables : (tables : MadeTables) → AreMadeTables inputs (is_some names.lodf_out) names.places tables → text ≡ tables_text tables
       → HaveTables names inputs.network tables later → IsFactored names inputs files later text status.Done
   refused_tables : (fault : FactorFault) → IsFactorsStop most_size inputs (is_some names.lodf_out) names.places (stop_refused fault)
       → text ≡ refusal_line (refusal.Factors fault) → SameFiles (Some files) (Some later) → IsFactored names inputs files later text status.Refused
