@@ -21,9 +21,10 @@ use Rattle.market_model.proofs.ChangeLemmas.{on_stair}
 use Rattle.offer_book.specs.declared.offer_table.Offer.{Offer}
 use Rattle.offer_book.specs.declared.offer_table.OfferFault.TheVariants as fault
 use Rattle.offer_book.specs.OfferTable.{offer_header, offer_in, row_in, block_after, block_where, block_in, unit_of_place, follows, last_price, blocks_of_table}
-use Rattle.offer_book.specs.EditLaws.{InOrder, block_prices, LawOfOfferTables}
+use Rattle.offer_book.specs.EditLaws.{block_prices, LawOfOfferTables}
 use Rattle.offer_book.proofs.CurveLemmas.{last_follows}
 use Rattle.offer_book.proofs.RoomLemmas.{room-none, room-records}
+use Rattle.offer_book.specs.Offers.{InOrder}
 
 -- the prices of each stair are in order
 abbrev AreInOrder : List Block → Type 0
