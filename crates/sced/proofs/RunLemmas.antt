@@ -1,7 +1,6 @@
 -- What the text of a run and its status tell: the telling that was put, and what its clears came to.
 use Rattle.std.specs.Prelude.{◌≡◌, ◌⊎◌, ℕ, if◌then◌else◌, List, [], ◌∷◌, ◌++◌, Option, Some, Ok, slice_get, take, All}
 use Rattle.std.proofs.Common.{inl, inr, refl, sym, subst, ap, ◌∙◌, suc, zero}
-use Rattle.std.specs.Option.{option_map_or}
 use Rattle.std.proofs.lemmas.List.{append_cancel_left}
 use Rattle.std.proofs.lemmas.List.Elements.{All-head, All-tail}
 use Rattle.fraction_theory.specs.Fraction.{Fraction}
@@ -13,12 +12,12 @@ use Rattle.market_model.specs.declared.limits.Row.{Row}
 use Rattle.market_model.specs.declared.participants.Parts.{Parts}
 use Rattle.market_model.specs.Market.{IsMarket}
 use Rattle.market_system.specs.Outcomes.{IsClear, IsRightOutcome}
-use Rattle.offer_book.specs.Edits.{judge}
+use Rattle.offer_book.specs.Edits.{judge, answer}
 use Rattle.offer_book.specs.declared.edit_parts.Edit.{Edit}
 use Rattle.offer_book.specs.declared.edit_parts.EditFault.{EditFault}
 use Rattle.edit_table.specs.declared.Step.{Step}
 use Rattle.edit_table.specs.declared.Step.TheVariants as step
-use Rattle.edit_replay.specs.Replays.{IsReplay, IsReply, edited_by, stepped}
+use Rattle.edit_replay.specs.Replays.{IsReplay, IsReply, edited_by, stepped, reply_of}
 use Rattle.edit_replay.specs.declared.step_outcome.StepOutcome.{StepOutcome}
 use Rattle.edit_replay.specs.declared.step_outcome.StepOutcome.TheVariants as reply
 use Rattle.report_text.specs.ReportLaws.{OutcomeFitsReport}
@@ -109,9 +108,9 @@ module _ (bound : ℕ) where
   -- each edit among the steps comes to what it is judged to
   edit-here : (m : Parts) (before between : List Row) (s : Step) (e : Edit) (x : StepOutcome Fraction) → IsReply bound m before s x between → Some s ≡ Some (step.Edit e) → x ≡ outcome_of_edit m e
   edit-here m before between (step.Edit d) e reply.Accepted is same =
-      let here : d ≡ e = cc same in ap (λ (j : Option EditFault). option_map_or reply.Refused j reply.Accepted) (sym is.0) ∙ ap (outcome_of_edit m) here
+      let here : d ≡ e = cc same in ap (λ (j : Option EditFault). reply_of {Fraction} (answer j)) (sym is.0) ∙ ap (outcome_of_edit m) here
   edit-here m before between (step.Edit d) e (reply.Refused f) is same =
-      let here : d ≡ e = cc same in ap (λ (j : Option EditFault). option_map_or reply.Refused j reply.Accepted) (sym is.0) ∙ ap (outcome_of_edit m) here
+      let here : d ≡ e = cc same in ap (λ (j : Option EditFault). reply_of {Fraction} (answer j)) (sym is.0) ∙ ap (outcome_of_edit m) here
   edit-here m before between (step.Edit d) e (reply.Clear o) none same = absurd none
   edit-here m before between step.Clear e x is same = cc same
 

@@ -41,12 +41,12 @@ use Rattle.cert_format.specs.Grammar.{cert_read}
 use Rattle.cert_format.specs.Written.{cert_text}
 use Rattle.cert_format.specs.declared.certificate.Cert.{Cert}
 use Rattle.cert_verify.specs.Certificates.{IsTrueOf, first_reason}
-use Rattle.offer_book.specs.Edits.{judge}
+use Rattle.offer_book.specs.Edits.{judge, answer}
 use Rattle.offer_book.specs.declared.edit_parts.Edit.{Edit}
 use Rattle.offer_book.specs.declared.edit_parts.EditFault.{EditFault}
 use Rattle.edit_table.specs.declared.Step.{Step}
 use Rattle.edit_table.specs.declared.Step.TheVariants as step
-use Rattle.edit_replay.specs.Replays.{IsReplay, edited_by}
+use Rattle.edit_replay.specs.Replays.{IsReplay, edited_by, reply_of}
 use Rattle.edit_replay.specs.declared.step_outcome.StepOutcome.{StepOutcome}
 use Rattle.edit_replay.specs.declared.step_outcome.StepOutcome.TheVariants as reply
 use Rattle.report_text.specs.ReportLaws.{OutcomeFitsReport}
@@ -180,7 +180,7 @@ LawOfInfeasible = (words : List (List ℕ)) (files : Files) (text : List ℕ) (s
 -- ---- replay
 -- what an edit of the market as it is then comes to: it is accepted, or refused for this fault
 abbrev pub outcome_of_edit : Parts → Edit → StepOutcome Fraction
-outcome_of_edit m e = option_map_or reply.Refused (judge m e) reply.Accepted
+outcome_of_edit m e = reply_of (answer (judge m e))
 
 -- The text is that of outcomes of the steps, of these alone, and the status goes with them: each edit comes to what it is judged to, of the
 -- market as the steps before it edit it, and each clear has an outcome.
