@@ -20,7 +20,6 @@ use Rattle.refusal_text.specs.declared.refusals.Refusal.TheVariants as refusal
 use Rattle.report_text.specs.Reports.{range_text}
 use Rattle.command_words.specs.Words.{AsksFactors, FactorNames}
 use Rattle.command_words.proofs.WordsLemmas.{factors-once}
-use Rattle.command_answers.specs.Clearing.{most_size}
 use Rattle.command_answers.specs.Factors.{IsFactorsStop, IsLossIfWanted, IsLossTable, TellsStop, made, stopped, tables_telling}
 use Rattle.command_answers.specs.Tellings.{Telling, certified, refusal_of, tabled, uncertified}
 use Rattle.command_answers.specs.declared.factors.MadeTables.{MadeTables}
@@ -34,6 +33,7 @@ use Rattle.sced.specs.Told as told
 use Rattle.sced.proofs.AskedLemmas.{factors-told, no-other, not-refused}
 use Rattle.sced.proofs.HeadlineLemmas.{bytes-named, kept-at, kept-one, no-outputs}
 use Rattle.sced.proofs.RunLemmas.{printed}
+use Rattle.cert_format.specs.Certificates.{most_part}
 
 -- what is written are the tables that there are, to the files that are named for them
 factors-written : (files : Files) (words : List (List ℕ)) (t : Telling) (w : List (List ℕ × List ℕ)) (names : FactorNames) → AsksFactors words names → AnswersTo (Some files) words t w
@@ -99,7 +99,7 @@ module _ (shift_back : ShiftTablesAreReadBack) (loss_back : LossTablesAreReadBac
   untouched : (e : Telling) → e.outputs ≡ certified None → Kept e → SameFiles (Some files) (Some later)
   untouched e none kept = (subst (λ w. KeepsWrites ⊥ w (Some files) (Some later)) (no-outputs (tabled names.ptdf_out names.lodf_out) e.outputs none) kept).1
 
-  of-stop : (why : MakeStop Fraction) → IsFactorsStop most_size inputs (is_some names.lodf_out) names.places why → TellsStop most_size why t → Kept t → IsFactored names inputs files later text s
+  of-stop : (why : MakeStop Fraction) → IsFactorsStop most_part inputs (is_some names.lodf_out) names.places why → TellsStop most_part why t → Kept t → IsFactored names inputs files later text s
   of-stop (make_stop.TooMany count) stops is = as-told _ is (λ kept. refused_tables (factor_fault.TooMany count) stops refl (untouched (refusal_of (refusal.Factors (factor_fault.TooMany count))) refl kept))
   of-stop (make_stop.NotPositive branch) stops is = as-told _ is (λ kept. refused_tables (factor_fault.NotPositive branch) stops refl (untouched (refusal_of (refusal.Factors (factor_fault.NotPositive branch))) refl kept))
   of-stop (make_stop.Passed p) stops (within, is) = as-told _ is (λ kept. passed_tables p stops within refl (untouched (uncertified status.Range (range_text p)) refl kept))

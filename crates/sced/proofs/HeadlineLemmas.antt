@@ -27,7 +27,7 @@ use Rattle.case_maker.specs.Rings.{ring_of}
 use Rattle.factor_maker.specs.declared.stops.MakeStop.{MakeStop}
 use Rattle.factor_maker.specs.declared.stops.MakeStop.TheVariants as make_stop
 use Rattle.record_reading.specs.Steps.{or_as}
-use Rattle.cert_format.specs.Certificates.{RowsAreDistinct, cert_of_outcome}
+use Rattle.cert_format.specs.Certificates.{RowsAreDistinct, cert_of_outcome, most_part}
 use Rattle.cert_format.specs.Grammar.{cert_read}
 use Rattle.cert_format.specs.Written.{cert_text, certificate_of}
 use Rattle.cert_format.specs.declared.certificate.Cert.{Cert}
@@ -55,7 +55,7 @@ use Rattle.market_inputs.specs.declared.checking.Inputs.{Inputs}
 use Rattle.market_inputs.specs.declared.making.FactorInputs.{FactorInputs}
 use Rattle.command_words.specs.Words.{AsksClear, AsksMigrate, AsksReplay, MarketNames, NamesToWrite}
 use Rattle.command_words.proofs.WordsLemmas.{clears-once, replays-once}
-use Rattle.command_answers.specs.Clearing.{ArePassedWithin, TellsClear, most_size, status_of}
+use Rattle.command_answers.specs.Clearing.{ArePassedWithin, TellsClear, status_of}
 use Rattle.residual_text.specs.ResidualLines.{residuals_text}
 use Rattle.command_answers.specs.Checking.{AreResiduals, TellsCheck, are_within, check_status_of}
 use Rattle.command_answers.specs.declared.checking.Residuals.{Residuals}
@@ -150,15 +150,15 @@ law_of_complete words files text s prints =
           record {
             taken = is.taken;
             begins = is.begins;
-            fits = λ fit. law_of_completeness m is.taken most_size o is.market (law_of_the_numbers m is.taken most_size fit) is.right;
-            decided = λ none. law_of_completeness m is.taken most_size o is.market none is.right;
+            fits = λ fit. law_of_completeness m is.taken most_part o is.market (law_of_the_numbers m is.taken most_part fit) is.right;
+            decided = λ none. law_of_completeness m is.taken most_part o is.market none is.right;
           }),
     )
 
 -- ---- replay
 steps-replayed : (m : Parts) (steps : List Step) (t : Telling) (text : List ℕ) (s : Status) → t.text ≡ text → t.status ≡ s → TellsReplay (record { market = m; steps = steps }) t → IsReplayText m steps text s
 steps-replayed m steps t text s words ends (market, replays) =
-    let fit = replay_fits most_size m [] replays.taken steps replays.outcomes replays.right in
+    let fit = replay_fits most_part m [] replays.taken steps replays.outcomes replays.right in
     let is = sym words ∙ replays.text_is in
     record {
       outcomes = replays.outcomes;
@@ -166,8 +166,8 @@ steps-replayed m steps t text s words ends (market, replays) =
       text_is = is;
       only = λ others fits same. replays_read_apart m steps others replays.outcomes fits fit (sym same ∙ is);
       status_is = sym ends ∙ replays.status_is;
-      edits = λ k e at. edit-at most_size m [] replays.taken steps replays.outcomes k e replays.right at;
-      clears = λ k at. cleared-at most_size m [] replays.taken steps replays.outcomes k replays.right at;
+      edits = λ k e at. edit-at most_part m [] replays.taken steps replays.outcomes k e replays.right at;
+      clears = λ k at. cleared-at most_part m [] replays.taken steps replays.outcomes k replays.right at;
     }
 
 pub law_of_replay : LawOfReplay
@@ -264,7 +264,7 @@ module _ (m : Parts) (c : Cert Fraction) (apart : RowsAreDistinct c) (text : Lis
   verdict-by None is line = yes ((law_of_the_verdict m c apart).0 (ap verdict_of is)) (line ∙ verdict-line-yes)
   verdict-by (Some why) is line = no (λ holds. no-yes why (sym (ap verdict_of is) ∙ (law_of_the_verdict m c apart).1 holds)) (line ∙ ap verdict_line (sym is))
 
-  verdict-of : (t : Telling) (s : Status) → t.text ≡ text → t.status ≡ s → VerifiesTo most_size m c t → IsVerdict m c text s
+  verdict-of : (t : Telling) (s : Status) → t.text ≡ text → t.status ≡ s → VerifiesTo most_part m c t → IsVerdict m c text s
   verdict-of t s words ends (judged is) =
       let line = sym words ∙ ap (λ (x : Telling). x.text) is in
       subst (IsVerdict m c text) (sym (ap (λ (x : Telling). x.status) is) ∙ ends) (verdict-by (first_reason m c) refl line)
@@ -384,7 +384,7 @@ law_of_last_certificate words files later text s names edits file r outcomes rep
     let p = printed words files text s replay in
     let tells = replay-told files words p.telling p.written (Ok r) p.answers steps in
     let same : tells.1.outcomes ≡ outcomes =
-    replays_read_apart r.market r.steps tells.1.outcomes outcomes (replay_fits most_size r.market [] tells.1.taken r.steps tells.1.outcomes tells.1.right) fits (sym tells.1.text_is ∙ p.text_is ∙ is) in
+    replays_read_apart r.market r.steps tells.1.outcomes outcomes (replay_fits most_part r.market [] tells.1.taken r.steps tells.1.outcomes tells.1.right) fits (sym tells.1.text_is ∙ p.text_is ∙ is) in
     let last = last_clear None outcomes in
     let put : p.telling.outputs.certificate ≡ option_map cert_text (option_and_then (cert_of_outcome r.market.factor_places r.market.reserve.listed) last) =
     ap (λ (x : Outputs (List ℕ)). x.certificate) tells.1.certificate_is ∙ ap (λ os. option_and_then (certificate_of r.market.factor_places r.market.reserve.listed) (last_clear None os)) same ∙ text-of-last r.market.factor_places r.market.reserve.listed last in
@@ -489,7 +489,7 @@ module _ (words : List (List ℕ)) (files : Files) (text : List ℕ) (s : Status
     of-steps : (r : MarketSteps) → AsksSteps files words r.market r.steps → TellsReplay r p.telling → Why
     of-steps r asks (market, replays) =
         let here = refused-status replays.outcomes (sym replays.status_is ∙ bad) in
-        let edit = refused-at most_size r.market [] replays.taken r.steps replays.outcomes here.0 here.1 replays.right here.2 in
+        let edit = refused-at most_part r.market [] replays.taken r.steps replays.outcomes here.0 here.1 replays.right here.2 in
         inr (inl (record { market = r.market; steps = r.steps; asks = asks; place = here.0; edit = edit.0; stands = edit.1; fault = here.1; refused = edit.2 }))
 
     of-verdict : (v : MarketCertificate) → TellsVerdict v p.telling → Why
@@ -503,7 +503,7 @@ module _ (words : List (List ℕ)) (files : Files) (text : List ℕ) (s : Status
         range-refused : status.Range ≡ status.Refused → ⊥
         range-refused wrong = cc wrong
 
-    of-fit : (m : Parts) (rights : List TransmissionRight) (price : ℕ → Fraction) (report : List ℕ) → TellsFit most_size m rights price report p.telling → Why
+    of-fit : (m : Parts) (rights : List TransmissionRight) (price : ℕ → Fraction) (report : List ℕ) → TellsFit most_part m rights price report p.telling → Why
     of-fit m rights price report (fitted fit.Fits is-fit is) = let wrong : status.Done ≡ status.Refused = sym (ap (λ (t : Telling). t.status) is) ∙ bad in cc wrong
     of-fit m rights price report (fitted (fit.Breaks row flow) is-fit is) = let wrong : status.Refuted ≡ status.Refused = sym (ap (λ (t : Telling). t.status) is) ∙ bad in cc wrong
     of-fit m rights price report (answers.passed q pair within is) = let wrong : status.Range ≡ status.Refused = sym (ap (λ (t : Telling). t.status) is) ∙ bad in cc wrong
@@ -511,7 +511,7 @@ module _ (words : List (List ℕ)) (files : Files) (text : List ℕ) (s : Status
     of-rights : (r : MarketRights) → TellsRights r p.telling → Why
     of-rights r tells = by tells.entitles.outcome tells.entitles.told
       where
-        by : (o : Outcome Fraction) → TellsOutcome most_size r.market r.rights o p.telling → Why
+        by : (o : Outcome Fraction) → TellsOutcome most_part r.market r.rights o p.telling → Why
         by (outcome.Cleared a) told = of-fit r.market r.rights _ _ told
         by (outcome.Infeasible f) is = let wrong : status.Infeasible ≡ status.Refused = sym (ap (λ (t : Telling). t.status) is) ∙ bad in cc wrong
         by (outcome.Range q) is = let wrong : status.Range ≡ status.Refused = sym (ap (λ (t : Telling). t.status) is) ∙ bad in cc wrong
@@ -532,17 +532,17 @@ module _ (words : List (List ℕ)) (files : Files) (text : List ℕ) (s : Status
         line : (fault : FactorFault) → p.telling ≡ refusal_of (refusal.Factors fault) → text ≡ refusal_line (refusal.Factors fault)
         line fault is = (refusal-put (refusal.Factors fault) is).1
 
-        none : (why : MakeStop Fraction) → making_factors.IsFactorsStop most_size inputs (is_some asks.names.lodf_out) asks.names.places why → making_factors.TellsStop most_size why p.telling → Why
+        none : (why : MakeStop Fraction) → making_factors.IsFactorsStop most_part inputs (is_some asks.names.lodf_out) asks.names.places why → making_factors.TellsStop most_part why p.telling → Why
         none (make_stop.TooMany count) stops is = inr (inr (record { inputs = inputs; asks = asks; fault = factor_fault.TooMany count; why = stops; told = line (factor_fault.TooMany count) is }))
         none (make_stop.NotPositive branch) stops is = inr (inr (record { inputs = inputs; asks = asks; fault = factor_fault.NotPositive branch; why = stops; told = line (factor_fault.NotPositive branch) is }))
         none (make_stop.Passed q) stops (within, is) = let wrong : status.Range ≡ status.Refused = sym (ap (λ (t : Telling). t.status) is) ∙ bad in cc wrong
         none make_stop.Memory stops never = absurd never
 
-        by : MakesFactors most_size inputs (is_some asks.names.lodf_out) asks.names.places p.telling → Why
+        by : MakesFactors most_part inputs (is_some asks.names.lodf_out) asks.names.places p.telling → Why
         by (making_factors.made tables are is) = let wrong : status.Done ≡ status.Refused = sym (ap (λ (t : Telling). t.status) is) ∙ bad in cc wrong
         by (making_factors.stopped why stops tells) = none why stops tells
 
-    of-ring : (buses seed : ℕ) → MakesTo most_size buses seed p.telling → Why
+    of-ring : (buses seed : ℕ) → MakesTo most_part buses seed p.telling → Why
     of-ring buses seed (making.cleared a market right is) = let wrong : status.Done ≡ status.Refused = sym (ap (λ (t : Telling). t.status) is) ∙ bad in cc wrong
     of-ring buses seed (making.passed q pair within is) = let wrong : status.Range ≡ status.Refused = sym (ap (λ (t : Telling). t.status) is) ∙ bad in cc wrong
 
@@ -579,7 +579,7 @@ ring-answer bound buses seed t (making.passed q pair within is) = inr (q, pair, 
 
 ring-made : LawOfTheReserve → (buses seed : ℕ) (t : Telling) (text : List ℕ) (s : Status) → t.text ≡ text → t.status ≡ s
     → ((a : Answer Fraction) × IsMarket (ring_of buses seed) × IsRight (ring_of buses seed) a × (t ≡ uncertified status.Done (making.ring_line buses seed ++ making.summary a)))
-    ⊎ ((p : Passed Fraction) × IsRangeOf (ring_of buses seed) [] most_size p × ArePassedWithin most_size p × (t ≡ uncertified status.Range (making.ring_line buses seed ++ range_text p))) → IsRingText buses seed text s
+    ⊎ ((p : Passed Fraction) × IsRangeOf (ring_of buses seed) [] most_part p × ArePassedWithin most_part p × (t ≡ uncertified status.Range (making.ring_line buses seed ++ range_text p))) → IsRingText buses seed text s
 ring-made law_of_reserve buses seed t text s words ends (inl (a, market, right, is)) =
     let best = right-best law_of_reserve (ring_of buses seed) a market right in
     subst (IsRingText buses seed text) (sym (ap (λ (x : Telling). x.status) is) ∙ ends) (cleared_ring a best.0 best.1 (sym words ∙ ap (λ (x : Telling). x.text) is))
@@ -589,7 +589,7 @@ ring-made law_of_reserve buses seed t text s words ends (inr (p, pair, within, i
 pub law_of_make : LawOfTheReserve → LawOfMake
 law_of_make law_of_reserve words files text s buses seed prints asks =
     let p = printed words files text s prints in
-    ring-made law_of_reserve buses seed p.telling text s p.text_is p.status_is (ring-answer most_size buses seed p.telling (make-told (Some files) words p.telling buses seed asks p.written p.answers))
+    ring-made law_of_reserve buses seed p.telling text s p.text_is p.status_is (ring-answer most_part buses seed p.telling (make-told (Some files) words p.telling buses seed asks p.written p.answers))
 
 -- ---- outside
 -- each file that is written is one of these

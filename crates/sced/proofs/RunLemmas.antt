@@ -26,7 +26,7 @@ use Rattle.report_text.proofs.OutcomeReading.{outcome_fits, reports_apart}
 use Rattle.replay_text.specs.ReplayTextLaws.{OutcomesFit}
 use Rattle.replay_text.specs.ReplayTexts.{replayed}
 use Rattle.replay_text.proofs.ReplayReading.{replay_fits, replays_read_apart}
-use Rattle.command_answers.specs.Clearing.{AreSidesWithin, TellsClear, most_size, status_of}
+use Rattle.command_answers.specs.Clearing.{AreSidesWithin, TellsClear, status_of}
 use Rattle.command_answers.specs.Replaying.{AreStepSidesWithin, TellsReplay, is_done, replay_status, step_status}
 use Rattle.command_answers.specs.Tellings.{Telling}
 use Rattle.command_answers.specs.declared.status.Status.{Status}
@@ -37,6 +37,7 @@ use Rattle.sced.specs.Runs.{Ends, HasText, KeepsWrites, told, unwritten}
 use Rattle.command_files.specs.OnlyReads.{IsSilent}
 use Rattle.sced.specs.Told.{Answers, AnswersTo}
 use Rattle.sced.proofs.AskedLemmas.{clear-told, replay-told}
+use Rattle.cert_format.specs.Certificates.{most_part}
 
 -- ---- the telling that was put
 pub not-silent : (s : Status) → HasText s → ¬ (IsSilent s)
@@ -188,28 +189,28 @@ pub record IsOutcomeOf (words : List (List ℕ)) (files : Files) (text : List �
   pub market : IsMarket m
   pub taken : List Row
   pub begins : BeginsWith words files text m place taken
-  pub right : IsRightOutcome most_size m taken o
-  pub sides : AreSidesWithin most_size o
+  pub right : IsRightOutcome most_part m taken o
+  pub sides : AreSidesWithin most_part o
 
 module _ (words : List (List ℕ)) (files : Files) (text : List ℕ) (m : Parts) (o : Outcome Fraction) (t : Telling) where
   clear-outcome : AsksMarket files words m → OutcomeFitsReport m o → t.text ≡ report_text m o → TellsClear m t → IsOutcomeOf words files text m o 0
   clear-outcome asks fits is (market, clears) =
       let same : clears.outcome ≡ o = reports_apart m clears.outcome o (outcome_fits _ m clears.outcome clears.right) fits (sym clears.text_is ∙ is) in
-      record { market = market; taken = []; begins = in_clear asks; right = subst (IsRightOutcome most_size m []) same clears.right; sides = subst (AreSidesWithin most_size) same clears.sides }
+      record { market = market; taken = []; begins = in_clear asks; right = subst (IsRightOutcome most_part m []) same clears.right; sides = subst (AreSidesWithin most_part) same clears.sides }
 
   step-outcome : (start : Parts) (steps : List Step) (outcomes : List (StepOutcome Fraction)) (k : ℕ) → AsksSteps files words start steps → OutcomesFit start steps outcomes
       → t.text ≡ replayed start steps outcomes → text ≡ replayed start steps outcomes → slice_get outcomes k ≡ Some (reply.Clear o) → m ≡ edited_by start (take k steps)
       → TellsReplay (record { market = start; steps = steps }) t → IsOutcomeOf words files text m o k
   step-outcome start steps outcomes k asks fits is text_is at edited (market, replays) =
-      let same : replays.outcomes ≡ outcomes = replays_read_apart start steps replays.outcomes outcomes (replay_fits most_size start [] replays.taken steps replays.outcomes replays.right) fits (sym replays.text_is ∙ is) in
-      let right = subst (λ (os : List (StepOutcome Fraction)). IsReplay most_size start [] steps os replays.taken) same replays.right in
-      let here = clear-at most_size start [] replays.taken steps outcomes k o right at in
+      let same : replays.outcomes ≡ outcomes = replays_read_apart start steps replays.outcomes outcomes (replay_fits most_part start [] replays.taken steps replays.outcomes replays.right) fits (sym replays.text_is ∙ is) in
+      let right = subst (λ (os : List (StepOutcome Fraction)). IsReplay most_part start [] steps os replays.taken) same replays.right in
+      let here = clear-at most_part start [] replays.taken steps outcomes k o right at in
       record {
         market = subst IsMarket (sym edited) (replays.markets k);
         taken = here.taken;
         begins = in_replay start steps outcomes k here.taken asks fits text_is edited here.replay;
-        right = subst (λ (n : Parts). IsRightOutcome most_size n here.taken o) (sym edited) here.clear.right;
-        sides = sides-at most_size outcomes k o (subst (All (AreStepSidesWithin most_size)) same replays.sides) at;
+        right = subst (λ (n : Parts). IsRightOutcome most_part n here.taken o) (sym edited) here.clear.right;
+        sides = sides-at most_part outcomes k o (subst (All (AreStepSidesWithin most_part)) same replays.sides) at;
       }
 
 pub reported : (words : List (List ℕ)) (files : Files) (text : List ℕ) (s : Status) (m : Parts) (o : Outcome Fraction) (place : ℕ) (after : Option Files) → IsPrinted words files after text s → Reports words files text m o place

@@ -36,7 +36,7 @@ use Rattle.factor_text.specs.Texts.{factor_table_text}
 use Rattle.factor_maker.specs.declared.stops.MakeStop.{MakeStop}
 use Rattle.factor_maker.specs.declared.stops.MakeStop.TheVariants as make_stop
 use Rattle.case_maker.specs.Rings.{ring_of}
-use Rattle.cert_format.specs.Certificates.{cert_of_outcome}
+use Rattle.cert_format.specs.Certificates.{cert_of_outcome, most_part}
 use Rattle.cert_format.specs.Grammar.{cert_read}
 use Rattle.cert_format.specs.Written.{cert_text}
 use Rattle.cert_format.specs.declared.certificate.Cert.{Cert}
@@ -67,7 +67,7 @@ use Rattle.market_inputs.specs.declared.checking.Inputs.{Inputs}
 use Rattle.market_inputs.specs.declared.making.FactorInputs.{FactorInputs}
 use Rattle.command_answers.specs.Checking.{AreResiduals, check_status_of}
 use Rattle.command_answers.specs.declared.checking.Residuals.{Residuals}
-use Rattle.command_answers.specs.Clearing.{ArePassedWithin, most_size, status_of}
+use Rattle.command_answers.specs.Clearing.{ArePassedWithin, status_of}
 use Rattle.command_answers.specs.Factors.{AreMadeTables, IsFactorsStop, tables_text}
 use Rattle.command_answers.specs.declared.factors.MadeTables.{MadeTables}
 use Rattle.command_answers.specs.Inputs.{MarketSteps}
@@ -140,7 +140,7 @@ pub data BeginsWith (words : List (List ℕ)) (files : Files) (text : List ℕ) 
   in_clear : AsksMarket files words m → BeginsWith words files text m 0 []
   in_replay : (start : Parts) (steps : List Step) (outcomes : List (StepOutcome Fraction)) (k : ℕ) (taken : List Row) → AsksSteps files words start steps
       → OutcomesFit start steps outcomes → text ≡ replayed start steps outcomes → m ≡ edited_by start (take k steps)
-      → IsReplay most_size start [] (take k steps) (take k outcomes) taken → BeginsWith words files text m k taken
+      → IsReplay most_part start [] (take k steps) (take k outcomes) taken → BeginsWith words files text m k taken
 
 -- ---- cleared
 -- within the offers of energy and of reserve, in balance, within every limit of the base and after every listed outage, up to its excess, whose
@@ -210,8 +210,8 @@ pub record IsReported (m : Parts) (text : List ℕ) (s : Status) : Type 0 where
 pub record IsDecidedFrom (words : List (List ℕ)) (files : Files) (text : List ℕ) (m : Parts) (o : Outcome Fraction) (place : ℕ) : Type 0 where
   pub taken : List Row
   pub begins : BeginsWith words files text m place taken
-  pub fits : AllNumbersFit m taken most_size → IsDecided m o
-  pub decided : NoPairPasses m taken most_size → IsDecided m o
+  pub fits : AllNumbersFit m taken most_part → IsDecided m o
+  pub decided : NoPairPasses m taken most_part → IsDecided m o
 
 abbrev pub LawOfComplete : Type 0
 LawOfComplete = (words : List (List ℕ)) (files : Files) (text : List ℕ) (s : Status) → Prints words files text s
@@ -224,8 +224,8 @@ LawOfComplete = (words : List (List ℕ)) (files : Files) (text : List ℕ) (s :
 pub record IsRangeFrom (words : List (List ℕ)) (files : Files) (text : List ℕ) (m : Parts) (p : Passed Fraction) (place : ℕ) : Type 0 where
   pub taken : List Row
   pub begins : BeginsWith words files text m place taken
-  pub pair : IsRangeOf m taken most_size p
-  pub sides : ArePassedWithin most_size p
+  pub pair : IsRangeOf m taken most_part p
+  pub sides : ArePassedWithin most_part p
 
 -- where range is printed the two printed numbers are so
 abbrev pub LawOfRange : Type 0
@@ -238,7 +238,7 @@ LawOfRange = (words : List (List ℕ)) (files : Files) (text : List ℕ) (s : St
 pub data IsVerdict (m : Parts) (c : Cert Fraction) (text : List ℕ) : Status → Type 0 where
   yes : IsTrueOf m c → text ≡ codes "yes\n" → IsVerdict m c text status.Done
   no : ¬ (IsTrueOf m c) → text ≡ verdict_line (first_reason m c) → IsVerdict m c text status.Refuted
-  passes : (p : Passed Fraction) → IsCertificateStop m most_size c p → ArePassedWithin most_size p → text ≡ range_text p → IsVerdict m c text status.Range
+  passes : (p : Passed Fraction) → IsCertificateStop m most_part c p → ArePassedWithin most_part p → text ≡ range_text p → IsVerdict m c text status.Range
 
 abbrev pub LawOfVerify : Type 0
 LawOfVerify = (words : List (List ℕ)) (files : Files) (text : List ℕ) (s : Status) (m : Parts) (c : Cert Fraction)
@@ -287,10 +287,10 @@ pub data IsEntitled (m : Parts) (rights : List TransmissionRight) (text : List �
       → IsEntitled m rights text status.Refuted
   nothing_qualifies : (f : Farkas Fraction) → ((x : Dispatch) → ¬ (Feasible m x)) → IsFarkas m f → text ≡ report_text m (Infeasible f)
       → IsEntitled m rights text status.Infeasible
-  clear_passes : (p : Passed Fraction) → IsRangeOf m [] most_size p → ArePassedWithin most_size p → text ≡ report_text m (Range p)
+  clear_passes : (p : Passed Fraction) → IsRangeOf m [] most_part p → ArePassedWithin most_part p → text ≡ report_text m (Range p)
       → IsEntitled m rights text status.Range
   rights_pass : (a : Answer Fraction) (p : Passed Fraction) → HasGreatestWelfare m (dispatch_in a) → IsPriced m a
-      → IsRightsRefusal m rights (total_at (λ x. x) a.prices) most_size p → ArePassedWithin most_size p → text ≡ report_text m (Cleared a) ++ range_text p
+      → IsRightsRefusal m rights (total_at (λ x. x) a.prices) most_part p → ArePassedWithin most_part p → text ≡ report_text m (Cleared a) ++ range_text p
       → IsEntitled m rights text status.Range
 
 abbrev pub LawOfRights : Type 0
@@ -336,9 +336,9 @@ stop_refused (factor_fault.NotPositive branch) = make_stop.NotPositive branch
 pub data IsFactored (names : FactorNames) (inputs : FactorInputs) (files later : Files) (text : List ℕ) : Status → Type 0 where
   made_tables : (tables : MadeTables) → AreMadeTables inputs (is_some names.lodf_out) names.places tables → text ≡ tables_text tables
       → HaveTables names inputs.network tables later → IsFactored names inputs files later text status.Done
-  refused_tables : (fault : FactorFault) → IsFactorsStop most_size inputs (is_some names.lodf_out) names.places (stop_refused fault)
+  refused_tables : (fault : FactorFault) → IsFactorsStop most_part inputs (is_some names.lodf_out) names.places (stop_refused fault)
       → text ≡ refusal_line (refusal.Factors fault) → SameFiles (Some files) (Some later) → IsFactored names inputs files later text status.Refused
-  passed_tables : (p : Passed Fraction) → IsFactorsStop most_size inputs (is_some names.lodf_out) names.places (make_stop.Passed p) → ArePassedWithin most_size p
+  passed_tables : (p : Passed Fraction) → IsFactorsStop most_part inputs (is_some names.lodf_out) names.places (make_stop.Passed p) → ArePassedWithin most_part p
       → text ≡ range_text p → SameFiles (Some files) (Some later) → IsFactored names inputs files later text status.Range
 
 abbrev pub LawOfFactors : Type 0
@@ -382,7 +382,7 @@ pub record RefusesFactors (words : List (List ℕ)) (files : Files) (text : List
   pub inputs : FactorInputs
   pub asks : AsksForFactors files words (Ok inputs)
   pub fault : FactorFault
-  pub why : IsFactorsStop most_size inputs (is_some asks.names.lodf_out) asks.names.places (stop_refused fault)
+  pub why : IsFactorsStop most_part inputs (is_some asks.names.lodf_out) asks.names.places (stop_refused fault)
   pub told : text ≡ refusal_line (refusal.Factors fault)
 
 -- a fault of the files is told wherever there is one, and no file is touched then; and its status comes only there, for an edit that is refused,
@@ -397,7 +397,7 @@ LawOfFaults = (words : List (List ℕ)) (files : Files) (text : List ℕ) (s : S
 pub data IsRingText (buses seed : ℕ) (text : List ℕ) : Status → Type 0 where
   cleared_ring : (a : Answer Fraction) → HasGreatestWelfare (ring_of buses seed) (dispatch_in a) → IsPriced (ring_of buses seed) a
       → text ≡ ring_line buses seed ++ summary a → IsRingText buses seed text status.Done
-  range_ring : (p : Passed Fraction) → IsRangeOf (ring_of buses seed) [] most_size p → ArePassedWithin most_size p → text ≡ ring_line buses seed ++ range_text p
+  range_ring : (p : Passed Fraction) → IsRangeOf (ring_of buses seed) [] most_part p → ArePassedWithin most_part p → text ≡ ring_line buses seed ++ range_text p
       → IsRingText buses seed text status.Range
 
 abbrev pub LawOfMake : Type 0
