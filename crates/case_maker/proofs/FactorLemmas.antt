@@ -8,7 +8,7 @@ use Rattle.market_data.specs.Scales.{factor_one, most_factor}
 use Rattle.market_model.specs.declared.participants.Factor.{Factor}
 use Rattle.market_model.specs.Dispatch.{places}
 use Rattle.market_model.specs.Market.{AreTableFactors, IsTableFactor}
-use Rattle.case_maker.specs.Rings.{factor_by, factors_by, loss_of, share, shift_of}
+use Rattle.case_maker.specs.Rings.{factor_by, ring_factors, ring_loss, share, ring_shift}
 use Rattle.case_maker.proofs.PlaceLists.{All-flat, All-places, AllPairs-append, at-place, flat-more, map-more}
 
 module _ (value : ℕ → ℕ → ℤ) where
@@ -36,7 +36,7 @@ module _ (value : ℕ → ℕ → ℤ) where
       (All-places (λ (f : Factor). All (Apart f) (flat_map (row n) (range_with_len (a + 1) m))) (factor a) n
       (λ i lt. All-weaker (λ (g : Factor). a + 1 ≤ g.line) (Apart (factor a i)) (λ g up same. absurd (omega (arith, up, same))) (flat_map (row n) (range_with_len (a + 1) m)) later))
 
-  pub are-factors : (n : ℕ) → ((l i : ℕ) → l < n → i < n → unsigned_abs (value l i) ≤ most_factor) → AreTableFactors n n (factors_by value n)
+  pub are-factors : (n : ℕ) → ((l i : ℕ) → l < n → i < n → unsigned_abs (value l i) ≤ most_factor) → AreTableFactors n n (ring_factors value n)
   are-factors n small = record {
     each = All-flat (IsTableFactor n n) (row n) 0 n (λ l p q. let l' : l < n = omega (arith, q) in All-places (IsTableFactor n n) (factor l) n (λ i lt. record { line = l'; of = lt; size = small l i l' lt }));
     distinct = rows-apart n 0 n;
@@ -57,14 +57,14 @@ module _ (value : ℕ → ℕ → ℤ) where
 share-small : (parts n : ℕ) → parts ≤ 64 → unsigned_abs (share parts n) ≤ most_factor
 share-small parts n few = let h : parts * factor_one / n ≤ parts * factor_one = div-le_self (parts * factor_one) n in omega (arith, h, few)
 
-pub shift-small : (n l i : ℕ) → n ≤ 64 → i < n → unsigned_abs (shift_of n l i) ≤ most_factor
+pub shift-small : (n l i : ℕ) → n ≤ 64 → i < n → unsigned_abs (ring_shift n l i) ≤ most_factor
 shift-small n l i few lt = by (ltb l i)
   where
     by : (b : Bool) → unsigned_abs (if b then neg_ℤ (share (n - i) n) else share i n) ≤ most_factor
     by true = subst (λ (k : ℕ). k ≤ most_factor) (sym (unsigned_abs-neg (share (n - i) n))) (share-small (n - i) n (omega (arith, few)))
     by false = share-small i n (omega (arith, few, lt))
 
-pub loss-small : (l lost : ℕ) → unsigned_abs (loss_of l lost) ≤ most_factor
+pub loss-small : (l lost : ℕ) → unsigned_abs (ring_loss l lost) ≤ most_factor
 loss-small l lost = by (l == lost)
   where
     by : (b : Bool) → unsigned_abs (if b then pos 0 else neg_ℤ (pos factor_one)) ≤ most_factor

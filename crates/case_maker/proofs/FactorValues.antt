@@ -8,7 +8,7 @@ use Rattle.market_data.specs.WholeSums.{int_sum}
 use Rattle.market_model.specs.declared.participants.Factor.{Factor}
 use Rattle.market_model.specs.Dispatch.{places}
 use Rattle.market_model.specs.Factors.{factor_in, is_pair}
-use Rattle.case_maker.specs.Rings.{factor_by, factors_by, shift_of}
+use Rattle.case_maker.specs.Rings.{factor_by, ring_factors, ring_shift}
 use Rattle.case_maker.proofs.RingMarkets.{by-size}
 
 -- ---- by pair
@@ -52,7 +52,7 @@ module _ (value : ℕ → ℕ → ℤ) (l i : ℕ) where
           ∙ its-line 0 n (flat_map (λ k. map (factor_by value k) (places n)) (range_with_len (a + 1) m)) (omega arith) (omega (arith, lt))
       by (inr t) later = other-line a 0 n (flat_map (λ k. map (factor_by value k) (places n)) (range_with_len (a + 1) m)) t.1 ∙ later t.1
 
-pub factor-of : (value : ℕ → ℕ → ℤ) (n l i : ℕ) → l < n → i < n → factor_in (factors_by value n) l i ≡ value l i
+pub factor-of : (value : ℕ → ℕ → ℤ) (n l i : ℕ) → l < n → i < n → factor_in (ring_factors value n) l i ≡ value l i
 factor-of value n l i p q = lines-from value l i n 0 n q (omega arith) (omega (arith, p))
 
 -- ---- one of n parts is whole
@@ -84,17 +84,17 @@ module _ (n : ℕ) (parts : HasParts n) (i : ℕ) (lt : i < n) where
       let sum : (i + (n - i)) * parts.part ≡ i * parts.part + (n - i) * parts.part = omega arith in
       sym sum ∙ ap (λ (k : ℕ). k * parts.part) all ∙ parts.all
 
-  pub before : (l : ℕ) → l < i → shift_of n l i ≡ neg_ℤ (pos against)
+  pub before : (l : ℕ) → l < i → ring_shift n l i ≡ neg_ℤ (pos against)
   before l h = ap (λ (b : Bool). if b then neg_ℤ (pos ((n - i) * factor_one / n)) else pos (i * factor_one / n)) (lt-ltb l i h) ∙ ap (λ (k : ℕ). neg_ℤ (pos k)) (parts.shares (n - i))
 
-  pub behind : (l : ℕ) → i ≤ l → shift_of n l i ≡ pos along
+  pub behind : (l : ℕ) → i ≤ l → ring_shift n l i ≡ pos along
   behind l h = ap (λ (b : Bool). if b then neg_ℤ (pos ((n - i) * factor_one / n)) else pos (i * factor_one / n)) (le-ltb l i h) ∙ ap pos (parts.shares i)
 
   -- at a bus
   abbrev pub put_whole : ℕ → ℤ
   put_whole j = if i == j then pos factor_one else pos 0
 
-  pub node : (j : ℕ) → shift_of n (j + 1) i ≡ shift_of n j i +ℤ put_whole (j + 1)
+  pub node : (j : ℕ) → ring_shift n (j + 1) i ≡ ring_shift n j i +ℤ put_whole (j + 1)
   node j = by (eqb_tells i (j + 1)) (order i j)
     where
       order : (a b : ℕ) → (a ≤ b) ⊎ (b < a)
@@ -102,7 +102,7 @@ module _ (n : ℕ) (parts : HasParts n) (i : ℕ) (lt : i < n) where
       order (suc a) zero = inr (omega arith)
       order (suc a) (suc b) = elim (order a b) [ inl h ↦ inl (omega (arith, h)) | inr h ↦ inr (omega (arith, h)) ]
 
-      by : ((i == (j + 1) ≡ true) × (i ≡ j + 1)) ⊎ ((i == (j + 1) ≡ false) × (i ≢ j + 1)) → (i ≤ j) ⊎ (j < i) → shift_of n (j + 1) i ≡ shift_of n j i +ℤ put_whole (j + 1)
+      by : ((i == (j + 1) ≡ true) × (i ≡ j + 1)) ⊎ ((i == (j + 1) ≡ false) × (i ≢ j + 1)) → (i ≤ j) ⊎ (j < i) → ring_shift n (j + 1) i ≡ ring_shift n j i +ℤ put_whole (j + 1)
       by (inl t) h =
           let sum : along + against ≡ factor_one = both-ways in
           let step : pos along ≡ neg_ℤ (pos against) +ℤ pos factor_one = omega (arith, ints, sum) in
@@ -118,14 +118,14 @@ module _ (n : ℕ) (parts : HasParts n) (i : ℕ) (lt : i < n) where
           ∙ ap₂ (λ (u v : ℤ). u +ℤ v) (sym (before j h)) (ap (λ (b : Bool). if b then pos factor_one else pos 0) (sym t.0))
 
   -- round the ring
-  sum-behind : (a m : ℕ) → i ≤ a → int_sum (λ l. shift_of n l i) (range_with_len a m) ≡ pos (m * along)
+  sum-behind : (a m : ℕ) → i ≤ a → int_sum (λ l. ring_shift n l i) (range_with_len a m) ≡ pos (m * along)
   sum-behind a zero h = let e : pos 0 ≡ pos (0 * along) = ap pos (let z : 0 ≡ 0 * along = omega arith in z) in e
   sum-behind a (suc m) h =
       let more : along + m * along ≡ suc m * along = omega arith in
       let step : pos along +ℤ pos (m * along) ≡ pos (along + m * along) = omega (arith, ints) in
       ap₂ (λ (u v : ℤ). u +ℤ v) (behind a h) (sum-behind (a + 1) m (omega (arith, h))) ∙ step ∙ ap pos more
 
-  sum-all : (x a m y : ℕ) → i ≡ a + x → m ≡ x + y → int_sum (λ l. shift_of n l i) (range_with_len a m) ≡ neg_ℤ (pos (x * against)) +ℤ pos (y * along)
+  sum-all : (x a m y : ℕ) → i ≡ a + x → m ≡ x + y → int_sum (λ l. ring_shift n l i) (range_with_len a m) ≡ neg_ℤ (pos (x * against)) +ℤ pos (y * along)
   sum-all zero a m y e f =
       let same : m ≡ y = omega (arith, f) in
       let none : 0 * against ≡ 0 = omega arith in
@@ -138,7 +138,7 @@ module _ (n : ℕ) (parts : HasParts n) (i : ℕ) (lt : i < n) where
       ap₂ (λ (u v : ℤ). u +ℤ v) (before a (omega (arith, e))) (sum-all x (a + 1) m y (omega (arith, e)) (omega (arith, f))) ∙ step
       ∙ ap (λ (k : ℕ). neg_ℤ (pos k) +ℤ pos (y * along)) more
 
-  pub round : int_sum (λ l. shift_of n l i) (places n) ≡ pos 0
+  pub round : int_sum (λ l. ring_shift n l i) (places n) ≡ pos 0
   round =
       let same : i * against ≡ (n - i) * along = mul_left_comm i (n - i) parts.part in
       sum-all i 0 n (n - i) (omega arith) (omega (arith, lt)) ∙ (let none : neg_ℤ (pos (i * against)) +ℤ pos ((n - i) * along) ≡ pos 0 = omega (arith, ints, same) in none)

@@ -13,7 +13,7 @@ use Rattle.market_data.specs.WholeSums.{int_sum}
 use Rattle.market_model.specs.Dispatch.{places, zero}
 use Rattle.market_model.specs.LimitRows.{shift_factor}
 use Rattle.case_maker.specs.Kirchhoff.{ObeysKirchhoff}
-use Rattle.case_maker.specs.Rings.{loss_of, ring_of, shift_of}
+use Rattle.case_maker.specs.Rings.{ring_loss, ring_of, ring_shift}
 use Rattle.case_maker.proofs.FactorValues.{HasParts, factor-of, node, put_whole, round, size-parts}
 use Rattle.case_maker.proofs.PlaceLists.{place-below}
 
@@ -40,23 +40,23 @@ over-less : over (neg_ℤ (pos factor_one)) factor_one ≡ neg_ℚ (whole (pos 1
 over-less = over-same (neg_ℤ (pos factor_one)) (neg_ℤ (pos 1)) factor_one 1 (omega arith) (omega arith) refl ∙ over-one (neg_ℤ (pos 1)) ∙ whole-neg (pos 1)
 
 module _ (n seed : ℕ) (parts : HasParts n) where
-  shift-at : (l i : ℕ) → l < n → i < n → shift_factor (ring_of n seed) l i ≡ over (shift_of n l i) factor_one
-  shift-at l i p q = ap (λ (v : ℤ). over v factor_one) (factor-of (shift_of n) n l i p q)
+  shift-at : (l i : ℕ) → l < n → i < n → shift_factor (ring_of n seed) l i ≡ over (ring_shift n l i) factor_one
+  shift-at l i p q = ap (λ (v : ℤ). over v factor_one) (factor-of (ring_shift n) n l i p q)
 
   pub obeys : ObeysKirchhoff n seed
   obeys = record {
     nodes = λ j i p q.
         shift-at (j + 1) i p q
         ∙ ap (λ (v : ℤ). over v factor_one) (node n parts i q j)
-        ∙ over-plus (shift_of n j i) (put_whole n parts i q (j + 1)) factor_one (omega arith)
+        ∙ over-plus (ring_shift n j i) (put_whole n parts i q (j + 1)) factor_one (omega arith)
         ∙ ap₂ ◌+ℚ◌ (sym (shift-at j i (omega (arith, p)) q)) (over-put (i == (j + 1)));
     loop = λ i q.
-        sum_by-members (λ l. shift_factor (ring_of n seed) l i) (λ l. over (shift_of n l i) factor_one) (places n) (λ l c. shift-at l i (place-below n l c) q)
-        ∙ sum-over (λ l. shift_of n l i) factor_one (omega arith) (places n)
+        sum_by-members (λ l. shift_factor (ring_of n seed) l i) (λ l. over (ring_shift n l i) factor_one) (places n) (λ l c. shift-at l i (place-below n l c) q)
+        ∙ sum-over (λ l. ring_shift n l i) factor_one (omega arith) (places n)
         ∙ ap (λ (v : ℤ). over v factor_one) (round n parts i q)
         ∙ over-zero factor_one (omega arith);
     lost = λ l k p q other.
-        ap (λ (v : ℤ). over v factor_one) (factor-of loss_of n l k p q ∙ ap (λ (b : Bool). if b then pos 0 else neg_ℤ (pos factor_one)) (ne_eqb l k other))
+        ap (λ (v : ℤ). over v factor_one) (factor-of ring_loss n l k p q ∙ ap (λ (b : Bool). if b then pos 0 else neg_ℤ (pos factor_one)) (ne_eqb l k other))
         ∙ over-less;
   }
 

@@ -15,7 +15,7 @@ use Rattle.market_model.specs.declared.limits.Cause.TheVariants.{Base, Branch}
 use Rattle.market_model.specs.LimitRows.{bears, lost_lines, place_of_line, rows, rows_of}
 use Rattle.market_model.proofs.RowMembers.{lines_of}
 use Rattle.case_maker.specs.Laws.{HasCounts}
-use Rattle.case_maker.specs.Rings.{blocks_of, bus_of, drawn, line_of, ring_of, unit_of}
+use Rattle.case_maker.specs.Rings.{ring_blocks, ring_bus, drawn, ring_branch, ring_of, ring_unit}
 use Rattle.case_maker.proofs.PlaceLists.{count-all, count-others, length-flat, places-at}
 use Rattle.case_maker.proofs.RingParts.{line-at}
 
@@ -24,7 +24,7 @@ module _ (n seed : ℕ) where
   m = ring_of n seed
 
   lines-count : length m.lines ≡ n
-  lines-count = length-map-range_with_len (λ i. line_of i (drawn seed i)) 0 n
+  lines-count = length-map-range_with_len (λ i. ring_branch i (drawn seed i)) 0 n
 
   -- those under a cause are as many as the lines that bear it
   kept-count : (cause : Cause) → length (rows_of m cause) ≡ length (filter (bears m cause) (places n))
@@ -88,9 +88,9 @@ module _ (n seed : ℕ) where
 
   pub has-counts : 0 < n → HasCounts n seed
   has-counts some = record {
-    buses = length-map-range_with_len (λ i. bus_of i (drawn seed i)) 0 n;
-    units = length-map-range_with_len unit_of 0 n;
-    blocks = (let h : length m.blocks ≡ n * 2 = length-flat (λ i. blocks_of i (drawn seed i)) 0 n 2 (λ i p q. refl) in omega (arith, h));
+    buses = length-map-range_with_len (λ i. ring_bus i (drawn seed i)) 0 n;
+    units = length-map-range_with_len ring_unit 0 n;
+    blocks = (let h : length m.blocks ≡ n * 2 = length-flat (λ i. ring_blocks i (drawn seed i)) 0 n 2 (λ i p q. refl) in omega (arith, h));
     lines = lines-count;
     outages = length-map-range_with_len (λ i. i + 1) 0 n;
     limits = limits-count some;

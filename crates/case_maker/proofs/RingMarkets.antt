@@ -20,7 +20,7 @@ use Rattle.market_model.specs.Dispatch.{places}
 use Rattle.market_model.specs.Market.{HasRoom, IsBlock, IsLine, IsMarket}
 use Rattle.market_model.specs.Stairs.{offered, same_side, stair_in}
 use Rattle.market_model.proofs.LinePenalties.{hard_is_line}
-use Rattle.case_maker.specs.Rings.{blocks_of, bus_of, drawn, half_sold, line_of, loss_of, mw, ring_of, shift_of, unit_of}
+use Rattle.case_maker.specs.Rings.{ring_blocks, ring_bus, drawn, half_sold, ring_branch, ring_loss, mw, ring_of, ring_shift, ring_unit}
 use Rattle.case_maker.proofs.DrawLemmas.{drawn-small}
 use Rattle.case_maker.proofs.FactorLemmas.{are-factors, loss-small, shift-small}
 use Rattle.case_maker.proofs.PlaceLists.{All-flat, All-places, at-place, length-flat, numbers-differ}
@@ -47,7 +47,7 @@ size-some n h = by-size (λ k. 0 < k) (omega arith) (omega arith) (omega arith) 
 -- ---- what a unit's blocks offer
 module _ (seed : ℕ) where
   abbrev blocks_from : ℕ → ℕ → List Block
-  blocks_from a n = flat_map (λ i. blocks_of i (drawn seed i)) (range_with_len a n)
+  blocks_from a n = flat_map (λ i. ring_blocks i (drawn seed i)) (range_with_len a n)
 
   -- the stair of a unit, by whether it is the first one's
   abbrev stair_by : Bool → ℕ → List Block → List Block
@@ -92,56 +92,56 @@ module _ (seed : ℕ) where
           subst (λ (bs : List Block). offered bs ≤ℤ mw 100) (sym stair) rest
 
 -- ---- each part
-bus-kept : (i : ℕ) (seed : ℕ) → IsBus (bus_of i (drawn seed i))
+bus-kept : (i : ℕ) (seed : ℕ) → IsBus (ring_bus i (drawn seed i))
 bus-kept i seed = let s = drawn-small seed i in record { load = omega (arith, s.load); shunt = omega arith }
 
-unit-kept : (n i : ℕ) → i < n → IsUnit n (unit_of i)
+unit-kept : (n i : ℕ) → i < n → IsUnit n (ring_unit i)
 unit-kept n i lt = record { row = omega arith; bus = lt; fixed = omega arith; up = omega (arith, ints); down = omega (arith, ints) }
 
 half-kept : (n i price : ℕ) → i < n → price ≤ 149 → IsBlock n (half_sold i price)
 half-kept n i price lt few = record { unit = lt; quantity = omega (arith, ints); price = omega (arith, few) }
 
-line-kept : (i : ℕ) (seed : ℕ) → IsLine (line_of i (drawn seed i))
+line-kept : (i : ℕ) (seed : ℕ) → IsLine (ring_branch i (drawn seed i))
 line-kept i seed = hard_is_line (i + 1) (Some (mw (drawn seed i).base_limit)) (Some (mw (drawn seed i).post_limit)) (pos 0) (omega arith) (omega (arith, ints)) (omega (arith, ints)) (omega arith)
 
 -- ---- the market
 pub ring-kept : (n seed : ℕ) → n ≤ 64 → IsMarket (ring_of n seed)
 ring-kept n seed few =
-    let buses : length (ring_of n seed).buses ≡ n = length-map-range_with_len (λ i. bus_of i (drawn seed i)) 0 n in
-    let units : length (ring_of n seed).units ≡ n = length-map-range_with_len unit_of 0 n in
-    let blocks : length (ring_of n seed).blocks ≡ n * 2 = length-flat (λ i. blocks_of i (drawn seed i)) 0 n 2 (λ i p q. refl) in
-    let lines : length (ring_of n seed).lines ≡ n = length-map-range_with_len (λ i. line_of i (drawn seed i)) 0 n in
+    let buses : length (ring_of n seed).buses ≡ n = length-map-range_with_len (λ i. ring_bus i (drawn seed i)) 0 n in
+    let units : length (ring_of n seed).units ≡ n = length-map-range_with_len ring_unit 0 n in
+    let blocks : length (ring_of n seed).blocks ≡ n * 2 = length-flat (λ i. ring_blocks i (drawn seed i)) 0 n 2 (λ i p q. refl) in
+    let lines : length (ring_of n seed).lines ≡ n = length-map-range_with_len (λ i. ring_branch i (drawn seed i)) 0 n in
     let outages : length (ring_of n seed).outages ≡ n = length-map-range_with_len (λ i. i + 1) 0 n in
-    let rows : map (λ (l : Line). l.row) (ring_of n seed).lines ≡ (ring_of n seed).outages = map-map (λ (l : Line). l.row) (λ i. line_of i (drawn seed i)) (places n) in
+    let rows : map (λ (l : Line). l.row) (ring_of n seed).lines ≡ (ring_of n seed).outages = map-map (λ (l : Line). l.row) (λ i. ring_branch i (drawn seed i)) (places n) in
     record {
       bus_count = omega (arith, buses, few);
       unit_count = omega (arith, units, few);
       block_count = omega (arith, blocks, few);
       line_count = omega (arith, lines, few);
       outage_count = omega (arith, outages, few);
-      buses = All-places IsBus (λ i. bus_of i (drawn seed i)) n (λ i lt. bus-kept i seed);
-      bus_numbers = subst (AllPairs (λ a b. a ≢ b)) (sym (map-map (λ (b : Bus). b.number) (λ i. bus_of i (drawn seed i)) (places n))) (numbers-differ n);
-      units = subst (λ (k : ℕ). All (IsUnit k) (ring_of n seed).units) (sym buses) (All-places (IsUnit n) unit_of n (unit-kept n));
-      unit_rows = subst (AllPairs (λ a b. a ≢ b)) (sym (map-map (λ (u : unit.Unit). u.row) unit_of (places n))) (numbers-differ n);
-      blocks = subst (λ (k : ℕ). All (IsBlock k) (ring_of n seed).blocks) (sym units) (All-flat (IsBlock n) (λ i. blocks_of i (drawn seed i)) 0 n (λ i p q.
+      buses = All-places IsBus (λ i. ring_bus i (drawn seed i)) n (λ i lt. bus-kept i seed);
+      bus_numbers = subst (AllPairs (λ a b. a ≢ b)) (sym (map-map (λ (b : Bus). b.number) (λ i. ring_bus i (drawn seed i)) (places n))) (numbers-differ n);
+      units = subst (λ (k : ℕ). All (IsUnit k) (ring_of n seed).units) (sym buses) (All-places (IsUnit n) ring_unit n (unit-kept n));
+      unit_rows = subst (AllPairs (λ a b. a ≢ b)) (sym (map-map (λ (u : unit.Unit). u.row) ring_unit (places n))) (numbers-differ n);
+      blocks = subst (λ (k : ℕ). All (IsBlock k) (ring_of n seed).blocks) (sym units) (All-flat (IsBlock n) (λ i. ring_blocks i (drawn seed i)) 0 n (λ i p q.
           let s = drawn-small seed i in
           let lt : i < n = omega (arith, q) in
           All-cons (IsBlock n) (half_sold i (drawn seed i).first_price) (half_sold i (drawn seed i).second_price ∷ []) (half-kept n i (drawn seed i).first_price lt (omega (arith, s.first_price)))
           (All-cons (IsBlock n) (half_sold i (drawn seed i).second_price) [] (half-kept n i (drawn seed i).second_price lt s.second_price) (All-nil (IsBlock n)))));
       room = room units;
-      lines = All-places IsLine (λ i. line_of i (drawn seed i)) n (λ i lt. line-kept i seed);
+      lines = All-places IsLine (λ i. ring_branch i (drawn seed i)) n (λ i lt. line-kept i seed);
       line_rows = subst (AllPairs (λ a b. a ≢ b)) (sym rows) (numbers-differ n);
       outages = subst (λ rs. All (Contains rs) (ring_of n seed).outages) (sym rows) (All-contains_itself (ring_of n seed).outages);
       outages_distinct = numbers-differ n;
-      shift = rw (lines, buses) (are-factors (shift_of n) n (λ l i p q. shift-small n l i few q));
-      loss = rw lines (are-factors loss_of n (λ l i p q. loss-small l i));
+      shift = rw (lines, buses) (are-factors (ring_shift n) n (λ l i p q. shift-small n l i few q));
+      loss = rw lines (are-factors ring_loss n (λ l i p q. loss-small l i));
       unit_outages = no_unit_outages (length (ring_of n seed).units);
       reserve = is_no_reserve (length (ring_of n seed).units);
     }
   where
-    unit-room : (place : ℕ) → HasRoom (ring_of n seed).blocks place (unit_of place)
+    unit-room : (place : ℕ) → HasRoom (ring_of n seed).blocks place (ring_unit place)
     unit-room place Sell = sells-within seed place 0 n
     unit-room place Buy = let none : offered (stair_in place Buy (ring_of n seed).blocks) ≡ pos 0 = ap offered (no-buys seed place 0 n) in omega (arith, ints, none)
 
     room : length (ring_of n seed).units ≡ n → (place : ℕ) (d : unit.Unit) → place < length (ring_of n seed).units → HasRoom (ring_of n seed).blocks place (get_or (ring_of n seed).units place d)
-    room units place d lt = subst (HasRoom (ring_of n seed).blocks place) (sym (at-place unit_of n place d (omega (arith, lt, units)))) (unit-room place)
+    room units place d lt = subst (HasRoom (ring_of n seed).blocks place) (sym (at-place ring_unit n place d (omega (arith, lt, units)))) (unit-room place)

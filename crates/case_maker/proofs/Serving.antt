@@ -30,7 +30,7 @@ use Rattle.market_model.proofs.Excesses.{within_most}
 use Rattle.market_model.proofs.MarketSums.{balance-by_injections, demand-by_parts, fixed_part, injection-by_parts}
 use Rattle.market_model.proofs.PlainMarkets.{distinct_by_rise}
 use Rattle.market_model.proofs.WholeDispatch.{is_dispatch-by_whole}
-use Rattle.case_maker.specs.Rings.{blocks_of, bus_of, drawn, half_sold, line_of, mw, ring_of, unit_of}
+use Rattle.case_maker.specs.Rings.{ring_blocks, ring_bus, drawn, half_sold, ring_branch, mw, ring_of, ring_unit}
 use Rattle.case_maker.proofs.DrawLemmas.{drawn-small}
 use Rattle.case_maker.proofs.PlaceLists.{All-flat, All-places, Contains-place, at-any, first-of, halves, length-flat, place-below, places-rise, second-of}
 use Rattle.case_maker.proofs.RingParts.{bus-at, first-block, second-block, unit-at}
@@ -54,10 +54,10 @@ module _ (n seed : ℕ) where
   taken-count = length-flat (λ i. load i ∷ pos 0 ∷ []) 0 n 2 (λ i p q. refl)
 
   blocks-count : length m.blocks ≡ n * 2
-  blocks-count = length-flat (λ i. blocks_of i (drawn seed i)) 0 n 2 (λ i p q. refl)
+  blocks-count = length-flat (λ i. ring_blocks i (drawn seed i)) 0 n 2 (λ i p q. refl)
 
   buses-count : length m.buses ≡ n
-  buses-count = length-map-range_with_len (λ i. bus_of i (drawn seed i)) 0 n
+  buses-count = length-map-range_with_len (λ i. ring_bus i (drawn seed i)) 0 n
 
   accepted-is : (j : ℕ) → j < n * 2 → accepted serving j ≡ whole (get_or taken j (pos 0))
   accepted-is j lt = get_or-map whole taken j (pos 0) zero (omega (arith, lt, taken-count))
@@ -80,7 +80,7 @@ module _ (n seed : ℕ) where
       (All-cons IsTaken (pos 0) [] (record { least = omega (arith, ints); most = omega (arith, ints) }) (All-nil IsTaken)))
 
   all-halves : All (λ (b : Block). b.quantity ≡ mw 50) m.blocks
-  all-halves = All-flat (λ (b : Block). b.quantity ≡ mw 50) (λ i. blocks_of i (drawn seed i)) 0 n (λ i p q.
+  all-halves = All-flat (λ (b : Block). b.quantity ≡ mw 50) (λ i. ring_blocks i (drawn seed i)) 0 n (λ i p q.
       All-cons (λ (b : Block). b.quantity ≡ mw 50) (half_sold i (drawn seed i).first_price) (half_sold i (drawn seed i).second_price ∷ []) refl
       (All-cons (λ (b : Block). b.quantity ≡ mw 50) (half_sold i (drawn seed i).second_price) [] refl (All-nil (λ (b : Block). b.quantity ≡ mw 50))))
 
@@ -130,7 +130,7 @@ module _ (n seed : ℕ) where
           ]
 
   no-fixed : (u : ℕ) → (unit_at m u).fixed ≡ pos 0
-  no-fixed = at-any (λ (u : unit.Unit). u.fixed ≡ pos 0) m.units _ (All-places (λ (u : unit.Unit). u.fixed ≡ pos 0) unit_of n (λ i lt. refl)) refl
+  no-fixed = at-any (λ (u : unit.Unit). u.fixed ≡ pos 0) m.units _ (All-places (λ (u : unit.Unit). u.fixed ≡ pos 0) ring_unit n (λ i lt. refl)) refl
 
   fixed-at : (i : ℕ) → sum_by (fixed_part m) (units_at m i) ≡ zero
   fixed-at i = sum_by-same (fixed_part m) (λ u. zero) (units_at m i) (λ u. ap whole (no-fixed u)) ∙ sum_by-nil (units_at m i)
@@ -162,7 +162,7 @@ module _ (n seed : ℕ) where
 
   lines-plain : (l : ℕ) → IsPlain (line_at m l)
   lines-plain = at-any IsPlain m.lines _
-      (All-places IsPlain (λ i. line_of i (drawn seed i)) n (λ i lt. record {
+      (All-places IsPlain (λ i. ring_branch i (drawn seed i)) n (λ i lt. record {
         offset = refl;
         base = whole-≤ℚ (pos 0) (mw (drawn seed i).base_limit) (omega (arith, ints));
         post = whole-≤ℚ (pos 0) (mw (drawn seed i).post_limit) (omega (arith, ints));

@@ -47,23 +47,23 @@ mw n = pos (n * mw_one)
 abbrev pub per_mwh : ℕ → ℤ
 per_mwh n = pos (n * price_one)
 
-abbrev pub bus_of : ℕ → Drawn → Bus
-bus_of i d = record { number = i + 1; pd = mw d.load; gs = pos 0 }
+abbrev pub ring_bus : ℕ → Drawn → Bus
+ring_bus i d = record { number = i + 1; pd = mw d.load; gs = pos 0 }
 
 -- each bus has a unit, which may sell 100 MW
-abbrev pub unit_of : ℕ → unit.Unit
-unit_of i = record { row = i + 1; bus = i; fixed = pos 0; up = mw 100; down = pos 0 }
+abbrev pub ring_unit : ℕ → unit.Unit
+ring_unit i = record { row = i + 1; bus = i; fixed = pos 0; up = mw 100; down = pos 0 }
 
 -- a block of 50 MW that a unit sells
 abbrev pub half_sold : ℕ → ℕ → Block
 half_sold i price = record { unit = i; side = Sell; quantity = mw 50; price = per_mwh price }
 
-abbrev pub blocks_of : ℕ → Drawn → List Block
-blocks_of i d = half_sold i d.first_price ∷ half_sold i d.second_price ∷ []
+abbrev pub ring_blocks : ℕ → Drawn → List Block
+ring_blocks i d = half_sold i d.first_price ∷ half_sold i d.second_price ∷ []
 
 -- the branch from bus i to the next one, and from the last bus to the first
-abbrev pub line_of : ℕ → Drawn → Line
-line_of i d = hard_line (i + 1) (Some (mw d.base_limit)) (Some (mw d.post_limit)) (pos 0)
+abbrev pub ring_branch : ℕ → Drawn → Line
+ring_branch i d = hard_line (i + 1) (Some (mw d.base_limit)) (Some (mw d.post_limit)) (pos 0)
 
 -- ---- factors
 -- so many of so many parts, in 10^-9
@@ -72,39 +72,39 @@ share parts n = pos (parts * factor_one / n)
 
 -- All branches are alike, and what bus i puts in leaves at the first bus. Two ways lead there, and each carries the part of the ring that the
 -- other one is: against the i branches before the bus, and along the n - i from it on.
-abbrev pub shift_of : ℕ → ℕ → ℕ → ℤ
-shift_of n l i = if nat_lt l i then neg_ℤ (share (n - i) n) else share i n
+abbrev pub ring_shift : ℕ → ℕ → ℕ → ℤ
+ring_shift n l i = if nat_lt l i then neg_ℤ (share (n - i) n) else share i n
 
 -- what a lost branch carried goes the other way round, over all the others
-abbrev pub loss_of : ℕ → ℕ → ℤ
-loss_of l lost = if l == lost then pos 0 else neg_ℤ (pos (factor_one))
+abbrev pub ring_loss : ℕ → ℕ → ℤ
+ring_loss l lost = if l == lost then pos 0 else neg_ℤ (pos (factor_one))
 
 abbrev pub factor_by : (ℕ → ℕ → ℤ) → ℕ → ℕ → Factor
 factor_by value l i = record { line = l; of = i; value = value l i }
 
 -- a factor for each pair, line by line, also where it is 0
-abbrev pub factors_by : (ℕ → ℕ → ℤ) → ℕ → List Factor
-factors_by value n = flat_map (λ l. map (factor_by value l) (places n)) (places n)
+abbrev pub ring_factors : (ℕ → ℕ → ℤ) → ℕ → List Factor
+ring_factors value n = flat_map (λ l. map (factor_by value l) (places n)) (places n)
 
 -- ---- the ring
 -- the market of a ring of n buses; each branch is an outage
 abbrev pub ring_of : ℕ → ℕ → Parts
 ring_of n seed = record (bare_parts
-    (map (λ i. bus_of i (drawn seed i)) (places n))
-    (map unit_of (places n))
-    (flat_map (λ i. blocks_of i (drawn seed i)) (places n))) {
-      lines = map (λ i. line_of i (drawn seed i)) (places n);
+    (map (λ i. ring_bus i (drawn seed i)) (places n))
+    (map ring_unit (places n))
+    (flat_map (λ i. ring_blocks i (drawn seed i)) (places n))) {
+      lines = map (λ i. ring_branch i (drawn seed i)) (places n);
       outages = map (λ i. i + 1) (places n);
-      shift = factors_by (shift_of n) n;
-      loss = factors_by loss_of n;
+      shift = ring_factors (ring_shift n) n;
+      loss = ring_factors ring_loss n;
     }
 
 -- a market with one bus more: with its unit, its blocks and the branch that leaves it, which is an outage too
 abbrev pub with_bus : Parts → ℕ → Drawn → Parts
 with_bus m i d = record m {
-  buses = m.buses ++ bus_of i d ∷ [];
-  units = m.units ++ unit_of i ∷ [];
-  blocks = m.blocks ++ blocks_of i d;
-  lines = m.lines ++ line_of i d ∷ [];
+  buses = m.buses ++ ring_bus i d ∷ [];
+  units = m.units ++ ring_unit i ∷ [];
+  blocks = m.blocks ++ ring_blocks i d;
+  lines = m.lines ++ ring_branch i d ∷ [];
   outages = m.outages ++ (i + 1) ∷ [];
 }

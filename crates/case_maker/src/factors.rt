@@ -1,7 +1,7 @@
 //! The factors of a ring.
 
 ghost use Rattle.std.specs.Prelude.{◌≡◌, ◌<◌, ◌≤◌, IfOk};
-ghost use Rattle.case_maker.specs.Rings.{factor_by, factors_by, loss_of, share, shift_of};
+ghost use Rattle.case_maker.specs.Rings.{factor_by, ring_factors, ring_loss, share, ring_shift};
 
 use market_data::FACTOR_ONE;
 use market_model::{Factor, List, Memory};
@@ -21,7 +21,7 @@ fn share(parts: usize, size: usize) -> i64
 fn shift_factor(size: usize, line: usize, bus: usize) -> Factor
     requires bus { bus < size }
     requires few { size ≤ 64 }
-    ensures { result ≡ factor_by (shift_of size) line bus }
+    ensures { result ≡ factor_by (ring_shift size) line bus }
 {
     let value = if line < bus {
         -share(size - bus, size)
@@ -37,7 +37,7 @@ fn shift_factor(size: usize, line: usize, bus: usize) -> Factor
 
 /// What goes over to a line of what a lost one carried.
 fn loss_factor(line: usize, lost: usize) -> Factor
-    ensures { result ≡ factor_by loss_of line lost }
+    ensures { result ≡ factor_by ring_loss line lost }
 {
     let value = if line == lost {
         0
@@ -54,7 +54,7 @@ fn loss_factor(line: usize, lost: usize) -> Factor
 /// The shift factors of a ring, a row of buses for each line.
 pub(crate) fn shift_factors(alloc: Global, size: usize) -> Result<List<Factor>, Memory>
     requires { size ≤ 64 }
-    ensures { IfOk result (λ factors. factors ≡ factors_by (shift_of size) size) }
+    ensures { IfOk result (λ factors. factors ≡ ring_factors (ring_shift size) size) }
 {
     let mut factors = List::new(alloc);
     for line in 0..size {
@@ -67,7 +67,7 @@ pub(crate) fn shift_factors(alloc: Global, size: usize) -> Result<List<Factor>, 
 
 /// The loss factors of a ring, a row of lost lines for each line.
 pub(crate) fn loss_factors(alloc: Global, size: usize) -> Result<List<Factor>, Memory>
-    ensures { IfOk result (λ factors. factors ≡ factors_by loss_of size) }
+    ensures { IfOk result (λ factors. factors ≡ ring_factors ring_loss size) }
 {
     let mut factors = List::new(alloc);
     for line in 0..size {

@@ -2,7 +2,7 @@
 
 ghost use Rattle.std.specs.Prelude.{◌≡◌, ◌+◌, ◌≤◌, ◌<◌, IfOk};
 ghost use Rattle.market_model.specs.Market.{IsMarket};
-ghost use Rattle.case_maker.specs.Rings.{bus_of, half_sold, line_of, mw, ring_of, unit_of, with_bus};
+ghost use Rattle.case_maker.specs.Rings.{ring_bus, half_sold, ring_branch, mw, ring_of, ring_unit, with_bus};
 ghost use Rattle.market_data.specs.Scales.{IsRingSize};
 
 use crate::draws::{Drawn, Draws};
@@ -40,7 +40,7 @@ fn number_of(place: usize) -> u32
 
 fn bus_of(place: usize, drawn: &Drawn) -> Bus
     requires { place < 64 }
-    ensures { result ≡ bus_of place drawn.now }
+    ensures { result ≡ ring_bus place drawn.now }
 {
     Bus {
         number: number_of(place),
@@ -51,7 +51,7 @@ fn bus_of(place: usize, drawn: &Drawn) -> Bus
 
 fn unit_of(place: usize) -> Unit
     requires { place < 64 }
-    ensures { result ≡ unit_of place }
+    ensures { result ≡ ring_unit place }
 {
     Unit {
         row: number_of(place),
@@ -65,7 +65,7 @@ fn unit_of(place: usize) -> Unit
 /// The branch from a bus to the next one.
 fn line_of(place: usize, drawn: &Drawn) -> Line
     requires { place < 64 }
-    ensures { result ≡ line_of place drawn.now }
+    ensures { result ≡ ring_branch place drawn.now }
 {
     Line::hard(
         number_of(place),

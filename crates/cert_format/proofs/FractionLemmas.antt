@@ -17,7 +17,7 @@ use Rattle.fraction_theory.specs.Code.{over_parts}
 use Rattle.fraction_theory.specs.Fraction.{Fraction}
 use Rattle.exact_fraction.specs.Written.{number_text, sign_text, parts_text}
 use Rattle.cert_format.specs.Certificates.{Fits}
-use Rattle.cert_format.specs.FractionTexts.{Spells, fits, fraction_of, is_slash, quotient_of}
+use Rattle.cert_format.specs.FractionTexts.{Spells, fits, fraction_of_text, is_slash, quotient_of}
 
 -- ---- digits
 abbrev pub IsDigit : ℕ → Type 0
@@ -127,26 +127,26 @@ Fits-fits : (most : ℕ) (x : Fraction) → Fits most x → fits most x ≡ true
 Fits-fits most x h = and_from _ _ (le-leb _ _ h.num) (le-leb _ _ h.den)
 
 -- what is read is spelled by the text
-pub fraction_of-spells : (most : ℕ) (text : List ℕ) (x : Fraction) → fraction_of most text ≡ Some x → Spells most text x
-unfolding fraction_of
-fraction_of-spells most text x h =
+pub fraction_of_text-spells : (most : ℕ) (text : List ℕ) (x : Fraction) → fraction_of_text most text ≡ Some x → Spells most text x
+unfolding fraction_of_text
+fraction_of_text-spells most text x h =
     let found = cond_some (bytes_eq (parts_text (quotient_of text)) text && fits most (quotient_of text)) (quotient_of text) x h in
     let both = and_parts _ _ found.0 in
     let text_is = (bytes_eq-Decides (parts_text (quotient_of text)) text).0 both.0 in
     subst (Spells most text) found.1 (record { spelling = sym text_is; fits = fits-Fits most (quotient_of text) both.1 })
 
 -- what is spelled is read
-pub fraction_of-read : (most : ℕ) (text : List ℕ) (x : Fraction) → Spells most text x → fraction_of most text ≡ Some x
-unfolding fraction_of
-fraction_of-read most text x h =
+pub fraction_of_text-read : (most : ℕ) (text : List ℕ) (x : Fraction) → Spells most text x → fraction_of_text most text ≡ Some x
+unfolding fraction_of_text
+fraction_of_text-read most text x h =
     let is : quotient_of text ≡ x = ap quotient_of h.spelling ∙ quotient-parts_text x in
     let same = (bytes_eq-Decides (parts_text x) text).1 (sym h.spelling) in
     rw (is, same, Fits-fits most x h.fits) refl
 
 -- and a text that spells nothing is read as nothing
-pub fraction_of-none : (most : ℕ) (text : List ℕ) → ((x : Fraction) → ¬ (Spells most text x)) → fraction_of most text ≡ None
-fraction_of-none most text none = by (fraction_of most text) refl
+pub fraction_of_text-none : (most : ℕ) (text : List ℕ) → ((x : Fraction) → ¬ (Spells most text x)) → fraction_of_text most text ≡ None
+fraction_of_text-none most text none = by (fraction_of_text most text) refl
   where
-    by : (o : Option Fraction) → fraction_of most text ≡ o → fraction_of most text ≡ None
+    by : (o : Option Fraction) → fraction_of_text most text ≡ o → fraction_of_text most text ≡ None
     by None e = e
-    by (Some x) e = absurd (none x (fraction_of-spells most text x e))
+    by (Some x) e = absurd (none x (fraction_of_text-spells most text x e))

@@ -20,11 +20,11 @@ use Rattle.cert_format.specs.declared.forms.Kind.TheVariants as kind
 use Rattle.cert_format.specs.declared.forms.Version.{Version}
 use Rattle.cert_format.specs.declared.forms.Version.TheVariants as version
 use Rattle.cert_format.specs.Certificates.{CertFits, ClearedReserveFits, DualFits, Fits, NamesNoRowTwice, ReserveDualsFit, RoomFits, RowsAreDistinct, most_part}
-use Rattle.cert_format.specs.FractionTexts.{fraction_of}
+use Rattle.cert_format.specs.FractionTexts.{fraction_of_text}
 use Rattle.cert_format.specs.Grammar.{above_0, cert_in, cert_read, check, cleared_reserve_in, distinct, each, farkas_in, fraction_at, fraction_in, fractions_at, has_size, if_distinct, in_32, json_of, kind_in, limit_in, limits_in, member_count, members_with, need, number_at, of_kind, optimal_in, places_in, reserve_duals_in, reserve_in, room_dual_in, rooms_at, unit_member, unit_in, version_in}
 use Rattle.cert_format.specs.Laws.{LawOfMigration}
 use Rattle.cert_format.proofs.CertLemmas.{reads-back}
-use Rattle.cert_format.proofs.FractionLemmas.{fraction_of-spells}
+use Rattle.cert_format.proofs.FractionLemmas.{fraction_of_text-spells}
 use Rattle.cert_format.proofs.RowLemmas.{distinct-names, not_0}
 
 -- ---- parts that are there
@@ -46,7 +46,7 @@ ok_is x y h = cc
 
 -- ---- numbers
 fraction_in-fits : (most : ℕ) (d : Data) (x : Fraction) → fraction_in most d ≡ Some x → Fits most x
-fraction_in-fits most d x h = option_and_then_some (fraction_of most) (as_str d) x h (λ t e f. (fraction_of-spells most t x f).fits)
+fraction_in-fits most d x h = option_and_then_some (fraction_of_text most) (as_str d) x h (λ t e f. (fraction_of_text-spells most t x f).fits)
 
 fraction_at-fits : (most : ℕ) (name : List ℕ) (d : Data) (x : Fraction) → fraction_at most name d ≡ Some x → Fits most x
 fraction_at-fits most name d x h = option_and_then_some (fraction_in most) (get name d) x h (λ v e f. fraction_in-fits most v x f)

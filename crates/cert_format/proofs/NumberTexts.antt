@@ -9,10 +9,10 @@ use Rattle.serde_json.specs.Read.{of_items}
 use Rattle.serde_json.specs.View.{items_of}
 use Rattle.serde_json.specs.Written.{items_have_float, items_outline}
 use Rattle.cert_format.specs.Certificates.{Fits, most_part}
-use Rattle.cert_format.specs.FractionTexts.{fraction_of}
+use Rattle.cert_format.specs.FractionTexts.{fraction_of_text}
 use Rattle.cert_format.specs.Grammar.{each, fraction_in}
 use Rattle.cert_format.specs.Written.{fraction_data}
-use Rattle.cert_format.proofs.FractionLemmas.{fraction_of-read}
+use Rattle.cert_format.proofs.FractionLemmas.{fraction_of_text-read}
 use Rattle.cert_format.proofs.TextLemmas.{ItemsArePlain, utf8-parts_text}
 
 pub key_utf8 : (cs : List ℕ) → are_ascii cs ≡ true → IsUtf8 cs
@@ -36,8 +36,8 @@ pub fractions-again : (xs : List Fraction) → of_items (items_outline (items_of
 fractions-again [] = refl
 fractions-again (x ∷ xs) = rw (fractions-again xs) refl
 
-pub fraction-back : (most : ℕ) (x : Fraction) → Fits most x → fraction_of most (parts_text x) ≡ Some x
-fraction-back most x h = fraction_of-read most (parts_text x) x (record { spelling = refl; fits = h })
+pub fraction-back : (most : ℕ) (x : Fraction) → Fits most x → fraction_of_text most (parts_text x) ≡ Some x
+fraction-back most x h = fraction_of_text-read most (parts_text x) x (record { spelling = refl; fits = h })
 
 pub fractions-back : (xs : List Fraction) → All (Fits most_part) xs → each (fraction_in most_part) (items_of (map fraction_data xs)) ≡ Some xs
 unfolding each

@@ -19,24 +19,24 @@ use Rattle.cert_format.specs.declared.certificate.Key.TheVariants as key
 use Rattle.cert_format.specs.declared.certificate.ReserveDuals.{ReserveDuals}
 use Rattle.cert_format.specs.declared.forms.Version.TheVariants as version
 use Rattle.cert_format.specs.Certificates.{Fits, NamesFit, RowFits, most_part}
-use Rattle.cert_format.specs.FractionTexts.{fraction_of}
+use Rattle.cert_format.specs.FractionTexts.{fraction_of_text}
 use Rattle.cert_format.specs.Grammar.{cert_in, cert_read, cleared_reserve_in, each, farkas_in, fraction_in, if_distinct, distinct, limit_in, members_with, optimal_in, places_named, reserve_duals_in, room_dual_in}
 use Rattle.cert_format.specs.Laws.{LawOfMigratedTexts}
 use Rattle.cert_format.specs.Written.{cert_data, cert_text, cleared_reserve_data, fraction_data, limit_data, reserve_duals_data, room_data}
 use Rattle.cert_format.proofs.CertLemmas.{after_unit, one-reader, places-back, read-cert_text, utf8-cert_text}
-use Rattle.cert_format.proofs.FractionLemmas.{fraction_of-read, fraction_of-spells}
+use Rattle.cert_format.proofs.FractionLemmas.{fraction_of_text-read, fraction_of_text-spells}
 use Rattle.cert_format.proofs.InverseLemmas.{needed, ok_is}
 use Rattle.cert_format.proofs.ReserveTexts.{UnitsFit}
 use Rattle.cert_format.proofs.RowLemmas.{not_0}
 
 -- a text spells one fraction, whatever the bounds of its parts
-fraction-same : (most : ℕ) (x y : Fraction) → fraction_of most (parts_text x) ≡ Some y → y ≡ x
+fraction-same : (most : ℕ) (x y : Fraction) → fraction_of_text most (parts_text x) ≡ Some y → y ≡ x
 fraction-same most x y h =
-    let s = fraction_of-spells most (parts_text x) y h in
+    let s = fraction_of_text-spells most (parts_text x) y h in
     let wide = most + unsigned_abs x.num + x.den in
     let own : Fits wide x = record { num = omega arith; den = omega arith } in
     let other : Fits wide y = record { num = omega (arith, s.fits.num); den = omega (arith, s.fits.den) } in
-    same_Some _ _ (sym (fraction_of-read wide (parts_text x) y (record { spelling = s.spelling; fits = other })) ∙ fraction_of-read wide (parts_text x) x (record { spelling = refl; fits = own }))
+    same_Some _ _ (sym (fraction_of_text-read wide (parts_text x) y (record { spelling = s.spelling; fits = other })) ∙ fraction_of_text-read wide (parts_text x) x (record { spelling = refl; fits = own }))
 
 -- so items are read as those that they were written of
 each-same : {A : Type 0} (P : A → Type 0) (read : Data → Option A) (data_of : A → Data) → ((x y : A) → P x → read (data_of x) ≡ Some y → y ≡ x)
@@ -53,11 +53,11 @@ each-same P read data_of same (x ∷ xs) ys all h =
 -- ---- the duals of a limit
 module _ (branch outage : ℕ) (up down : Fraction) (b : branch < 2 ^ 32) (o : outage < 2 ^ 32) where
   prices-same : (unit : ℕ) (y : Dual Fraction) (sized : Bool)
-      → option_and_then (λ u. option_and_then (λ d. if sized then Some (after_unit branch outage u d unit) else None) (fraction_of most_part (parts_text down))) (fraction_of most_part (parts_text up)) ≡ Some y
+      → option_and_then (λ u. option_and_then (λ d. if sized then Some (after_unit branch outage u d unit) else None) (fraction_of_text most_part (parts_text down))) (fraction_of_text most_part (parts_text up)) ≡ Some y
       → y ≡ after_unit branch outage up down unit
   prices-same unit y sized h =
-      option_and_then_some _ (fraction_of most_part (parts_text up)) y h (λ u e1 h1.
-      option_and_then_some _ (fraction_of most_part (parts_text down)) y h1 (λ d e2 h2.
+      option_and_then_some _ (fraction_of_text most_part (parts_text up)) y h (λ u e1 h1.
+      option_and_then_some _ (fraction_of_text most_part (parts_text down)) y h1 (λ d e2 h2.
       sym (cond_some sized (after_unit branch outage u d unit) y h2).1
       ∙ ap₂ (λ (v w : Fraction). after_unit branch outage v w unit) (fraction-same most_part up u e1) (fraction-same most_part down d e2)))
 
@@ -84,7 +84,7 @@ limits-same-3 ds es rows h = limits-same ds es rows (ap (λ (read : Data → Opt
 room-same : (d y : RoomDual Fraction) → d.unit < 2 ^ 32 → room_dual_in most_part (room_data d) ≡ Some y → y ≡ d
 unfolding serde_json_on_literals room_dual_in
 room-same d y u h =
-    option_and_then_some _ (fraction_of most_part (parts_text d.price)) y (rw (lt-ltb _ _ u) at h) (λ price e1 h1.
+    option_and_then_some _ (fraction_of_text most_part (parts_text d.price)) y (rw (lt-ltb _ _ u) at h) (λ price e1 h1.
     sym (same_Some _ _ h1) ∙ ap (λ (p : Fraction). record { unit = d.unit; price = p }) (fraction-same most_part d.price price e1))
 
 abbrev priced : Fraction → List (RoomDual Fraction) → ReserveDuals Fraction
@@ -94,9 +94,9 @@ abbrev rooms_read : List (RoomDual Fraction) → Option (List (RoomDual Fraction
 rooms_read rooms = each (room_dual_in most_part) (items_of (map room_data rooms))
 
 reserve-same : (price : Fraction) (rooms : List (RoomDual Fraction)) (y : ReserveDuals Fraction) → UnitsFit rooms
-    → option_and_then (λ p. option_and_then (λ rs. Some (priced p rs)) (rooms_read rooms)) (fraction_of most_part (parts_text price)) ≡ Some y → y ≡ priced price rooms
+    → option_and_then (λ p. option_and_then (λ rs. Some (priced p rs)) (rooms_read rooms)) (fraction_of_text most_part (parts_text price)) ≡ Some y → y ≡ priced price rooms
 reserve-same price rooms y units h =
-    option_and_then_some _ (fraction_of most_part (parts_text price)) y h (λ p e1 h1.
+    option_and_then_some _ (fraction_of_text most_part (parts_text price)) y h (λ p e1 h1.
     option_and_then_some _ (rooms_read rooms) y h1 (λ rs e2 h2.
     sym (same_Some _ _ h2) ∙ ap₂ priced (fraction-same most_part price p e1) (each-same (λ d. d.unit < 2 ^ 32) (room_dual_in most_part) room_data room-same rooms rs units e2)))
 
@@ -124,7 +124,7 @@ part-same (Some y) x o same h = sym (same_Some _ _ h) ∙ ap (λ r. Some r) (sam
 cert-same : (c d : Cert Fraction) → NamesFit c → cert_in most_part (cert_data c) ≡ Ok d → d ≡ c
 unfolding serde_json_on_literals cert_in optimal_in farkas_in
 cert-same (cert.Optimal blocks energy limits places None) d names h =
-    let e = needed key.Energy (fraction_of most_part (parts_text energy)) _ d h in
+    let e = needed key.Energy (fraction_of_text most_part (parts_text energy)) _ d h in
     let b = needed key.Blocks (each (fraction_in most_part) (items_of (map fraction_data blocks))) _ d e.rest in
     let l = needed key.Limits (option_and_then if_distinct (each (limit_in most_part version.Second) (items_of (map limit_data limits)))) _ d b.rest in
     let p = needed key.Places (places_named (place_count places)) _ d l.rest in
@@ -135,7 +135,7 @@ cert-same (cert.Optimal blocks energy limits places None) d names h =
     let same_places = same_Some _ _ (sym p.is ∙ places-back places) in
     sym is ∙ (λ i. cert.Optimal (same_blocks i) (same_energy i) (same_limits i) (same_places i) None)
 cert-same (cert.Optimal blocks energy limits places (Some cleared)) d names h =
-    let e = needed key.Energy (fraction_of most_part (parts_text energy)) _ d h in
+    let e = needed key.Energy (fraction_of_text most_part (parts_text energy)) _ d h in
     let b = needed key.Blocks (each (fraction_in most_part) (items_of (map fraction_data blocks))) _ d e.rest in
     let l = needed key.Limits (option_and_then if_distinct (each (limit_in most_part version.Third) (items_of (map limit_data limits)))) _ d b.rest in
     let p = needed key.Places (places_named (place_count places)) _ d l.rest in
@@ -148,7 +148,7 @@ cert-same (cert.Optimal blocks energy limits places (Some cleared)) d names h =
     let same_reserve = part-same (cleared_reserve_in most_part (cleared_reserve_data cleared)) cleared r.value (λ y f. cleared-same cleared y names.rooms f) r.is in
     sym is ∙ (λ i. cert.Optimal (same_blocks i) (same_energy i) (same_limits i) (same_places i) (same_reserve i))
 cert-same (cert.Farkas energy limits places None) d names h =
-    let e = needed key.Energy (fraction_of most_part (parts_text energy)) _ d h in
+    let e = needed key.Energy (fraction_of_text most_part (parts_text energy)) _ d h in
     let l = needed key.Limits (option_and_then if_distinct (each (limit_in most_part version.Second) (items_of (map limit_data limits)))) _ d e.rest in
     let p = needed key.Places (places_named (place_count places)) _ d l.rest in
     let is = ok_is (cert.Farkas e.value l.value p.value None) d p.rest in
@@ -157,7 +157,7 @@ cert-same (cert.Farkas energy limits places None) d names h =
     let same_places = same_Some _ _ (sym p.is ∙ places-back places) in
     sym is ∙ (λ i. cert.Farkas (same_energy i) (same_limits i) (same_places i) None)
 cert-same (cert.Farkas energy limits places (Some duals)) d names h =
-    let e = needed key.Energy (fraction_of most_part (parts_text energy)) _ d h in
+    let e = needed key.Energy (fraction_of_text most_part (parts_text energy)) _ d h in
     let l = needed key.Limits (option_and_then if_distinct (each (limit_in most_part version.Third) (items_of (map limit_data limits)))) _ d e.rest in
     let p = needed key.Places (places_named (place_count places)) _ d l.rest in
     let r = needed key.Reserve (option_map (λ x. Some x) (reserve_duals_in 2 most_part (reserve_duals_data duals))) _ d p.rest in

@@ -27,5 +27,5 @@ abbrev pub fits : ℕ → Fraction → Bool
 fits most x = nat_le (unsigned_abs x.num) most && nat_le x.den most
 
 -- the fraction that a text spells; a law says that it is the one that `Spells` tells
-unfoldable pub fraction_of : ℕ → List ℕ → Option Fraction
-fraction_of most text = if bytes_eq (parts_text (quotient_of text)) text && fits most (quotient_of text) then Some (quotient_of text) else None
+unfoldable pub fraction_of_text : ℕ → List ℕ → Option Fraction
+fraction_of_text most text = if bytes_eq (parts_text (quotient_of text)) text && fits most (quotient_of text) then Some (quotient_of text) else None

@@ -26,7 +26,7 @@ use Rattle.cert_format.specs.declared.forms.Kind.TheVariants as kind
 use Rattle.cert_format.specs.declared.forms.Version.{Version}
 use Rattle.cert_format.specs.declared.forms.Version.TheVariants as version
 use Rattle.cert_format.specs.Certificates.{most_part}
-use Rattle.cert_format.specs.FractionTexts.{fraction_of}
+use Rattle.cert_format.specs.FractionTexts.{fraction_of_text}
 
 -- ---- the members of an object
 -- how many they are; each name is there once
@@ -51,7 +51,7 @@ text_at name d = option_and_then as_str (get name d)
 
 -- a fraction whose parts are at most `most`, as in all that follows
 abbrev pub fraction_in : ℕ → Data → Option Fraction
-fraction_in most d = option_and_then (fraction_of most) (as_str d)
+fraction_in most d = option_and_then (fraction_of_text most) (as_str d)
 
 abbrev pub fraction_at : ℕ → List ℕ → Data → Option Fraction
 fraction_at most name d = option_and_then (fraction_in most) (get name d)

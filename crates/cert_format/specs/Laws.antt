@@ -3,13 +3,13 @@ use Rattle.std.specs.Prelude.{◌≡◌, ◌↔◌, ℕ, List, Some, Ok}
 use Rattle.fraction_theory.specs.Fraction.{Fraction}
 use Rattle.cert_format.specs.declared.certificate.Cert.{Cert}
 use Rattle.cert_format.specs.Certificates.{CertFits, NamesFit}
-use Rattle.cert_format.specs.FractionTexts.{Spells, fraction_of}
+use Rattle.cert_format.specs.FractionTexts.{Spells, fraction_of_text}
 use Rattle.cert_format.specs.Grammar.{cert_read}
 use Rattle.cert_format.specs.Written.{cert_text}
 
 -- a text is read as the fraction that it spells, and as none where it spells none
 abbrev pub ReadsSpelling : Type 0
-ReadsSpelling = (most : ℕ) (text : List ℕ) (x : Fraction) → (fraction_of most text ≡ Some x) ↔ Spells most text x
+ReadsSpelling = (most : ℕ) (text : List ℕ) (x : Fraction) → (fraction_of_text most text ≡ Some x) ↔ Spells most text x
 
 -- what is written is read back
 abbrev pub ReadsBack : Type 0

@@ -6,7 +6,7 @@ ghost use Rattle.std.specs.Str.Parse.{starts_with_minus};
 ghost use Rattle.fraction_theory.specs.Fraction.{Fraction, neg_ℚ, whole};
 ghost use Rattle.exact_fraction.specs.Written.{number_text, parts_text};
 ghost use Rattle.cert_format.specs.Certificates.{Fits};
-ghost use Rattle.cert_format.specs.FractionTexts.{Spells, fraction_of, is_slash, without_sign};
+ghost use Rattle.cert_format.specs.FractionTexts.{Spells, fraction_of_text, is_slash, without_sign};
 
 use exact_fraction::{Exact, Sign};
 
@@ -100,7 +100,7 @@ fn is_spelling<N: Exact>(text: &[u8], number: N) -> bool
 
 /// The fraction that a text spells as `num/den` in lowest terms, where its parts are within the bound of the type.
 pub(crate) fn fraction<N: Exact>(text: &[u8]) -> Option<N>
-    ensures { option_map N.value result ≡ fraction_of N.bound text.now }
+    ensures { option_map N.value result ≡ fraction_of_text N.bound text.now }
 {
     let number = quotient::<N>(text)?;
     if is_spelling(text, number) {

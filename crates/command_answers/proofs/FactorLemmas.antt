@@ -7,7 +7,7 @@ use Rattle.net_case.specs.Networks.{LiveNetwork}
 use Rattle.factor_residuals.specs.declared.spots.Spot.{Spot}
 use Rattle.factor_tables.specs.Factors.{FactorRecords}
 use Rattle.factor_tables.specs.declared.by_pair.Column.TheVariants as column
-use Rattle.factor_text.specs.Texts.{table_text}
+use Rattle.factor_text.specs.Texts.{factor_table_text}
 use Rattle.dc_network.specs.DcNetworks.{ArePositive}
 use Rattle.dc_network.specs.Laws.{IsSound}
 use Rattle.factor_maker.specs.Made.{IsMadeLoss}
@@ -24,7 +24,7 @@ use Rattle.command_answers.specs.declared.status.Status.{Status}
 use Rattle.command_answers.specs.declared.status.Status.TheVariants as status
 use Rattle.command_answers.specs.declared.told.Outputs.{Outputs}
 use Rattle.command_answers.specs.Checking.{AreResiduals, TellsCheck, are_within}
-use Rattle.command_answers.specs.Factors.{AreTables, IsFactorsStop, IsLossIfWanted, IsLossTable, IsShiftTable, MakesFactors, TellsFactors, TellsStop, made, of_loss, of_shift, stop_at, stopped, tables_telling}
+use Rattle.command_answers.specs.Factors.{AreMadeTables, IsFactorsStop, IsLossIfWanted, IsLossTable, IsShiftTable, MakesFactors, TellsFactors, TellsStop, made, of_loss, of_shift, stop_at, stopped, tables_telling}
 use Rattle.command_answers.specs.FactorLaws.{AreReadBack, LawOfCheckedTables, LawOfMadeTables, LossIsReadBack, checked_with}
 use Rattle.command_answers.specs.Tellings.{Telling}
 
@@ -83,13 +83,13 @@ sound inputs fit positive = record { network_is = fit.network; reactances = fit.
 
 -- ---- read back
 loss-back : (inputs : FactorInputs) (wanted : Bool) (places : FactorPlaces) (loss : Option FactorRecords) → AreFitToMake inputs → ArePositive inputs.reactances → IsLossIfWanted inputs wanted places loss
-    → LossIsReadBack inputs.network places loss (option_map (λ (table : FactorRecords). table_text column.Outage table.entries) loss)
+    → LossIsReadBack inputs.network places loss (option_map (λ (table : FactorRecords). factor_table_text column.Outage table.entries) loss)
 loss-back inputs true places (Some loss) fit positive is = (loss_read_back inputs.network inputs.reactances inputs.outages places loss (sound inputs fit positive) fit.outages is.made).1
 loss-back inputs true places None fit positive is = absurd is
 loss-back inputs false places (Some loss) fit positive is = absurd is
 loss-back inputs false places None fit positive is = tt
 
-tables-back : (inputs : FactorInputs) (wanted : Bool) (places : FactorPlaces) (tables : MadeTables) → AreFitToMake inputs → AreTables inputs wanted places tables
+tables-back : (inputs : FactorInputs) (wanted : Bool) (places : FactorPlaces) (tables : MadeTables) → AreFitToMake inputs → AreMadeTables inputs wanted places tables
     → IfSome (tables_telling tables).outputs.ptdf (λ ptdf. AreReadBack inputs wanted places ptdf (tables_telling tables).outputs.lodf)
 tables-back inputs wanted places tables fit are = record {
   tables = tables;

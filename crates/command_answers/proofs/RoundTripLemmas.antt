@@ -39,9 +39,10 @@ use Rattle.market_inputs.specs.Files.{most_file, sized, sized_tables}
 use Rattle.market_inputs.specs.Replaying.{certificate_in, steps_in}
 use Rattle.market_inputs.specs.RightsInputs.{rights_in}
 use Rattle.market_inputs.proofs.OnceLemmas.{OfOne, clear-once, is-once, then-once}
-use Rattle.command_answers.specs.Clearing.{TellsClear, most_size}
+use Rattle.market_inputs.specs.Texts.{IsLimited}
+use Rattle.command_answers.specs.Clearing.{TellsClear}
 use Rattle.command_answers.specs.Laws.{Certifies, CertifiesLast, IsEdit, IsYesOrRange, LawOfTheReplay, LawOfTheRoundTrip, LawOfTheSameFiles, LawOfYes}
-use Rattle.command_answers.specs.Inputs.{AreEntitled, IsCertified, IsLimited, IsReplayed, MarketCertificate, MarketSteps}
+use Rattle.command_answers.specs.Inputs.{AreEntitled, IsCertified, IsReplayed, MarketCertificate, MarketSteps}
 use Rattle.command_answers.specs.Replaying.{ReplaysTo, last_clear}
 use Rattle.command_answers.specs.Tellings.{ComesTo, Telling, Tells, uncertified}
 use Rattle.command_answers.specs.Verdicts.{verdict_line}
@@ -60,8 +61,8 @@ certified m c text right fits is =
     }
 
 -- that of a right outcome
-of_outcome : (m : Parts) (taken : List Row) (o : Outcome Fraction) (text : List ℕ) → IsMarket m → IsRightOutcome most_size m taken o
-    → IfSome (cert_of_outcome m.factor_places m.reserve.listed o) (NumbersFit most_size) → certificate_of m.factor_places m.reserve.listed o ≡ Some text
+of_outcome : (m : Parts) (taken : List Row) (o : Outcome Fraction) (text : List ℕ) → IsMarket m → IsRightOutcome most_part m taken o
+    → IfSome (cert_of_outcome m.factor_places m.reserve.listed o) (NumbersFit most_part) → certificate_of m.factor_places m.reserve.listed o ≡ Some text
     → (c : Cert Fraction) × (cert_of_outcome m.factor_places m.reserve.listed o ≡ Some c) × Certifies m text c
 of_outcome m taken (outcome.Cleared a) text market right fits is =
     let c = cert_of m.factor_places m.reserve.listed a in (c, refl, certified m c text (law_of_right_answers m a market right) fits is)
@@ -116,7 +117,7 @@ last_of bound m before after (edit.Clear ∷ steps) (step.Refused f ∷ outcomes
 last_of bound m before after (edit.Clear ∷ steps) (step.Clear q ∷ outcomes) prior o replay is =
     clear_first bound m before steps prior q o replay.1.right (last_of bound m replay.0 after steps outcomes (Some q) o replay.2 (sym (last_first prior (step.Clear q) outcomes) ∙ is))
 
-module _ (r : MarketSteps) (t : Telling) (text : List ℕ) (replays : ReplaysTo most_size r.market r.steps t) where
+module _ (r : MarketSteps) (t : Telling) (text : List ℕ) (replays : ReplaysTo most_part r.market r.steps t) where
   -- the certificate of an outcome of a market, and its text: edits change neither how many places factors have nor whether reserve is listed
   abbrev cert_in : Parts → Outcome Fraction → Option (Cert Fraction)
   cert_in m = cert_of_outcome m.factor_places m.reserve.listed
@@ -124,7 +125,7 @@ module _ (r : MarketSteps) (t : Telling) (text : List ℕ) (replays : ReplaysTo 
   abbrev text_in : Parts → Outcome Fraction → Option (List ℕ)
   text_in m = certificate_of m.factor_places m.reserve.listed
 
-  last_certifies : (o : Outcome Fraction) → IsOfLast most_size r.market r.steps o → IfSome (cert_in r.market o) (NumbersFit most_size) → text_in r.market o ≡ Some text
+  last_certifies : (o : Outcome Fraction) → IsOfLast most_part r.market r.steps o → IfSome (cert_in r.market o) (NumbersFit most_part) → text_in r.market o ≡ Some text
       → (c : Cert Fraction) × (cert_in r.market o ≡ Some c) × CertifiesLast r text c
   last_certifies o h fits is =
       let front_is : take (length h.front) r.steps ≡ h.front = ap (take (length h.front)) h.steps_are ∙ take-append_seam h.front (edit.Clear ∷ h.rest) in
@@ -132,15 +133,15 @@ module _ (r : MarketSteps) (t : Telling) (text : List ℕ) (replays : ReplaysTo 
       let last : Parts = edited_by r.market h.front in
       let same : SameFrame r.market last = steps_frame r.market h.front in
       let cert = ap (λ (p : Parts). cert_in p o) same in
-      let k = of_outcome last h.taken o text market h.right (subst (λ (c : Option (Cert Fraction)). IfSome c (NumbersFit most_size)) cert fits) (sym (ap (λ (p : Parts). text_in p o) same) ∙ is) in
+      let k = of_outcome last h.taken o text market h.right (subst (λ (c : Option (Cert Fraction)). IfSome c (NumbersFit most_part)) cert fits) (sym (ap (λ (p : Parts). text_in p o) same) ∙ is) in
       (k.0, cert ∙ k.1, record { front = h.front; rest = h.rest; steps_are = h.steps_are; last = h.last; certifies = k.2 })
 
-  by_last : (last : Option (Outcome Fraction)) → last_clear None replays.outcomes ≡ last → IfSome (option_and_then (cert_in r.market) last) (NumbersFit most_size) → option_and_then (text_in r.market) last ≡ Some text
+  by_last : (last : Option (Outcome Fraction)) → last_clear None replays.outcomes ≡ last → IfSome (option_and_then (cert_in r.market) last) (NumbersFit most_part) → option_and_then (text_in r.market) last ≡ Some text
       → (c : Cert Fraction) × (option_and_then (cert_in r.market) last ≡ Some c) × CertifiesLast r text c
   by_last None e fits is = cc is
-  by_last (Some o) e fits is = from (last_of most_size r.market [] replays.taken r.steps replays.outcomes None o replays.right e)
+  by_last (Some o) e fits is = from (last_of most_part r.market [] replays.taken r.steps replays.outcomes None o replays.right e)
     where
-      from : LastOr most_size r.market r.steps None o → (c : Cert Fraction) × (cert_in r.market o ≡ Some c) × CertifiesLast r text c
+      from : LastOr most_part r.market r.steps None o → (c : Cert Fraction) × (cert_in r.market o ≡ Some c) × CertifiesLast r text c
       from (inl (none, all)) = cc none
       from (inr h) = last_certifies o h fits is
 

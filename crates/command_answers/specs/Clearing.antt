@@ -53,10 +53,6 @@ pub record ClearsTo (bound : ℕ) (m : Parts) (t : Telling) : Type 0 where
   pub certificate_is : t.outputs ≡ certified (certificate_of m.factor_places m.reserve.listed outcome)
   pub certificate_fits : IfSome (cert_of_outcome m.factor_places m.reserve.listed outcome) (NumbersFit bound)
 
--- the greatest size of a numerator or denominator, in what is told and in certificates
-abbrev pub most_size : ℕ
-most_size = most_part
-
 -- the same of a market, which keeps what every market keeps, by numbers of 127 bits
 abbrev pub TellsClear : Parts → Telling → Type 0
-TellsClear m t = IsMarket m × ClearsTo most_size m t
+TellsClear m t = IsMarket m × ClearsTo most_part m t

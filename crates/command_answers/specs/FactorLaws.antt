@@ -12,7 +12,7 @@ use Rattle.command_answers.specs.declared.factors.MadeTables.{MadeTables}
 use Rattle.command_answers.specs.declared.status.Status.TheVariants as status
 use Rattle.command_answers.specs.declared.told.Outputs.{Outputs}
 use Rattle.command_answers.specs.Checking.{TellsCheck}
-use Rattle.command_answers.specs.Factors.{AreTables, IsShiftTable, TellsFactors}
+use Rattle.command_answers.specs.Factors.{AreMadeTables, IsShiftTable, TellsFactors}
 use Rattle.command_answers.specs.Tellings.{Telling}
 
 -- ---- read back
@@ -26,7 +26,7 @@ LossIsReadBack network places None (Some lodf) = ⊥
 -- the bytes of outputs are read back as tables that are made
 pub record AreReadBack (inputs : FactorInputs) (wanted : Bool) (places : FactorPlaces) (ptdf : List ℕ) (lodf : Option (List ℕ)) : Type 0 where
   pub tables : MadeTables
-  pub made : AreTables inputs wanted places tables
+  pub made : AreMadeTables inputs wanted places tables
   pub shift : shift_of inputs.network ptdf places ≡ Ok tables.shift
   pub loss : LossIsReadBack inputs.network places tables.loss lodf
 

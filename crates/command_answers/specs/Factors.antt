@@ -5,7 +5,7 @@ use Rattle.market_data.specs.declared.scales.FactorPlaces.{FactorPlaces}
 use Rattle.market_model.specs.Valued.{passed_at}
 use Rattle.factor_tables.specs.declared.by_pair.Column.TheVariants as column
 use Rattle.factor_tables.specs.Factors.{FactorRecords}
-use Rattle.factor_text.specs.Texts.{table_text}
+use Rattle.factor_text.specs.Texts.{factor_table_text}
 use Rattle.dc_network.specs.DcNetworks.{ArePositive}
 use Rattle.factor_maker.specs.Made.{IsMadeLoss, IsMadeShift}
 use Rattle.factor_maker.specs.Stops.{IsLossStop, IsShiftStop, loss_count, most_made, shift_count}
@@ -19,8 +19,9 @@ use Rattle.market_inputs.specs.declared.making.FactorInputs.{FactorInputs}
 use Rattle.command_answers.specs.declared.factors.MadeTables.{MadeTables}
 use Rattle.command_answers.specs.declared.status.Status.TheVariants as status
 use Rattle.command_answers.specs.declared.told.Outputs.{Outputs}
-use Rattle.command_answers.specs.Clearing.{ArePassedWithin, most_size}
+use Rattle.command_answers.specs.Clearing.{ArePassedWithin}
 use Rattle.command_answers.specs.Tellings.{Telling, refusal_of, tabled, uncertified}
+use Rattle.cert_format.specs.Certificates.{most_part}
 
 -- ---- the tables
 -- a table of shift factors is made where there are not too many of them and all reactances are above 0
@@ -42,7 +43,7 @@ IsLossIfWanted inputs true places None = ⊥
 IsLossIfWanted inputs false places (Some loss) = ⊥
 IsLossIfWanted inputs false places None = Unit {0}
 
-pub record AreTables (inputs : FactorInputs) (wanted : Bool) (places : FactorPlaces) (tables : MadeTables) : Type 0 where
+pub record AreMadeTables (inputs : FactorInputs) (wanted : Bool) (places : FactorPlaces) (tables : MadeTables) : Type 0 where
   pub shift : IsShiftTable inputs places tables.shift
   pub loss : IsLossIfWanted inputs wanted places tables.loss
 
@@ -74,7 +75,7 @@ tables_text tables = count_line (codes "shift records ") tables.shift ++ loss_li
 
 -- the texts of the tables
 abbrev pub table_outputs : MadeTables → Outputs (List ℕ)
-table_outputs tables = tabled (table_text column.Bus tables.shift.entries) (option_map (λ loss. table_text column.Outage loss.entries) tables.loss)
+table_outputs tables = tabled (factor_table_text column.Bus tables.shift.entries) (option_map (λ loss. factor_table_text column.Outage loss.entries) tables.loss)
 
 abbrev pub tables_telling : MadeTables → Telling
 tables_telling tables = record { status = status.Done; text = tables_text tables; outputs = table_outputs tables }
@@ -88,9 +89,9 @@ TellsStop bound stop.Memory t = ⊥
 
 -- What is told is how many factors were made, with the tables that there are to write; or, with nothing to write, why they are not made.
 pub data MakesFactors (bound : ℕ) (inputs : FactorInputs) (wanted : Bool) (places : FactorPlaces) (t : Telling) : Type 0 where
-  made : (tables : MadeTables) → AreTables inputs wanted places tables → t ≡ tables_telling tables → MakesFactors bound inputs wanted places t
+  made : (tables : MadeTables) → AreMadeTables inputs wanted places tables → t ≡ tables_telling tables → MakesFactors bound inputs wanted places t
   stopped : (why : MakeStop Fraction) → IsFactorsStop bound inputs wanted places why → TellsStop bound why t → MakesFactors bound inputs wanted places t
 
 -- the same of what tables may be made of, by numbers of 127 bits
 abbrev pub TellsFactors : Bool → FactorPlaces → FactorInputs → Telling → Type 0
-TellsFactors wanted places inputs t = AreFitToMake inputs × MakesFactors most_size inputs wanted places t
+TellsFactors wanted places inputs t = AreFitToMake inputs × MakesFactors most_part inputs wanted places t

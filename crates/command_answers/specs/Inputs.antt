@@ -12,30 +12,18 @@ use Rattle.edit_replay.specs.Replays.{edited_by}
 use Rattle.refusal_text.specs.declared.refusals.Input.TheVariants as input
 use Rattle.refusal_text.specs.declared.refusals.Refusal.{Refusal}
 use Rattle.refusal_text.specs.declared.refusals.Refusal.TheVariants as refusal
-use Rattle.market_tables.specs.Tables.{GridTexts, MarketTexts}
-use Rattle.market_inputs.specs.Checking.{AreInputs}
-use Rattle.market_inputs.specs.Clearing.{IsClearMarket}
-use Rattle.market_inputs.specs.Files.{sized, sized_grid, sized_tables}
-use Rattle.market_inputs.specs.Pooling.{IsPoolMarket}
+use Rattle.market_tables.specs.Tables.{MarketTexts}
+use Rattle.market_inputs.specs.Files.{sized}
 use Rattle.market_inputs.specs.Replaying.{certificate_in, steps_in}
 use Rattle.market_inputs.specs.RightsInputs.{rights_in}
 use Rattle.market_inputs.specs.Steps.{Is, Then}
 use Rattle.market_inputs.specs.Making.{AreFactorInputs}
-use Rattle.market_inputs.specs.declared.checking.Inputs.{Inputs}
 use Rattle.market_inputs.specs.declared.making.FactorInputs.{FactorInputs}
 use Rattle.market_inputs.specs.declared.stops.InputStop.{InputStop}
+use Rattle.market_inputs.specs.Texts.{IsLimited}
 use Rattle.command_answers.specs.declared.replaying.Replayed.{Replayed}
 use Rattle.command_answers.specs.declared.rights.Entitled.{Entitled}
 use Rattle.command_answers.specs.declared.verifying.Certified.{Certified}
-
--- ---- markets
--- what a case and offers stand for
-abbrev pub IsPool : List ℕ → List ℕ → Result Parts Refusal → Type 0
-IsPool case offers told = IsPoolMarket (sized (refusal.TooLong input.Case) case) (sized (refusal.TooLong input.Offers) offers) told
-
--- what the tables of a market stand for, by the rating after an outage and the places that factors may have
-abbrev pub IsLimited : PostRating → FactorPlaces → MarketTexts → Result Parts Refusal → Type 0
-IsLimited rating places texts told = IsClearMarket rating places (sized_tables texts) told
 
 -- ---- a market with steps
 pub record MarketSteps : Type 0 where
@@ -98,11 +86,6 @@ AreEntitled rating places texts rights told =
     Then (IsLimited rating places texts) (λ market.
     Then (Is (rights_in market (sized (refusal.TooLong input.Rights) rights))) (λ held.
     Is (Ok (record { market = market; rights = held })))) told
-
--- ---- a check
--- what a case and its tables stand for, whose factors may have so many places
-abbrev pub IsCheck : FactorPlaces → GridTexts → Result Inputs Refusal → Type 0
-IsCheck places texts told = AreInputs places (sized_grid texts) told
 
 -- ---- the making of factors
 -- what a case and a table of outages stand for

@@ -21,6 +21,7 @@ use Rattle.market_tables.specs.Tables.{MarketTexts}
 use Rattle.market_inputs.specs.Files.{most_file, sized}
 use Rattle.market_inputs.specs.Replaying.{steps_in}
 use Rattle.market_inputs.specs.Tables.{ListsNoReserve}
+use Rattle.market_inputs.specs.Texts.{IsLimited}
 use Rattle.market_data.specs.declared.scales.FactorPlaces.{FactorPlaces}
 use Rattle.net_case.specs.declared.live_parts.PostRating.{PostRating}
 use Rattle.report_text.specs.ReportLaws.{DualsFitReport, FitsReport}
@@ -30,7 +31,7 @@ use Rattle.rights_test.specs.declared.right_parts.Payments.{Payments}
 use Rattle.refusal_text.specs.declared.refusals.Input.TheVariants as input
 use Rattle.refusal_text.specs.declared.refusals.Refusal.TheVariants as refusal
 use Rattle.command_answers.specs.Clearing.{TellsClear}
-use Rattle.command_answers.specs.Inputs.{IsCertified, IsLimited, MarketSteps}
+use Rattle.command_answers.specs.Inputs.{IsCertified, MarketSteps}
 use Rattle.command_answers.specs.Replaying.{TellsReplay, last_clear}
 use Rattle.command_answers.specs.Rights.{EntitlesTo}
 use Rattle.command_answers.specs.RightsLines.{rights_lines}

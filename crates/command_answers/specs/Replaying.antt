@@ -8,7 +8,7 @@ use Rattle.market_model.specs.Market.{IsMarket}
 use Rattle.market_system.specs.Growth.{Growth}
 use Rattle.market_system.specs.Outcomes.{IsDecided}
 use Rattle.market_system.specs.WorkingPairs.{NoPairPasses}
-use Rattle.cert_format.specs.Certificates.{NumbersFit, cert_of_outcome}
+use Rattle.cert_format.specs.Certificates.{NumbersFit, cert_of_outcome, most_part}
 use Rattle.cert_format.specs.Written.{certificate_of}
 use Rattle.offer_book.specs.Edits.{step_of}
 use Rattle.edit_table.specs.declared.Step.{Step}
@@ -19,7 +19,7 @@ use Rattle.edit_replay.specs.Replays.{IsReplay, edited_by}
 use Rattle.replay_text.specs.ReplayTexts.{replayed}
 use Rattle.command_answers.specs.declared.status.Status.{Status}
 use Rattle.command_answers.specs.declared.status.Status.TheVariants as status
-use Rattle.command_answers.specs.Clearing.{AreSidesWithin, most_size, status_of}
+use Rattle.command_answers.specs.Clearing.{AreSidesWithin, status_of}
 use Rattle.command_answers.specs.Inputs.{MarketSteps}
 use Rattle.command_answers.specs.Tellings.{Telling, certified}
 
@@ -96,4 +96,4 @@ pub record ReplaysTo (bound : ℕ) (m : Parts) (steps : List Step) (t : Telling)
 
 -- the same of a market, which keeps what every market keeps, by numbers of 127 bits
 abbrev pub TellsReplay : MarketSteps → Telling → Type 0
-TellsReplay r t = IsMarket r.market × ReplaysTo most_size r.market r.steps t
+TellsReplay r t = IsMarket r.market × ReplaysTo most_part r.market r.steps t

@@ -17,10 +17,11 @@ use Rattle.rights_test.specs.Fits.{IsFit, IsFitRefusal}
 use Rattle.rights_test.specs.Paid.{IsPayRefusal, payments_of}
 use Rattle.command_answers.specs.declared.status.Status.{Status}
 use Rattle.command_answers.specs.declared.status.Status.TheVariants as status
-use Rattle.command_answers.specs.Clearing.{ArePassedWithin, AreSidesWithin, most_size}
+use Rattle.command_answers.specs.Clearing.{ArePassedWithin, AreSidesWithin}
 use Rattle.command_answers.specs.Inputs.{MarketRights}
 use Rattle.command_answers.specs.RightsLines.{rights_lines}
 use Rattle.command_answers.specs.Tellings.{Telling, uncertified}
+use Rattle.cert_format.specs.Certificates.{most_part}
 
 -- done where they fit, and refuted where they do not
 abbrev pub fit_status : Fit Fraction → Status
@@ -56,4 +57,4 @@ pub record EntitlesTo (bound : ℕ) (m : Parts) (rights : List TransmissionRight
 pub record TellsRights (r : MarketRights) (t : Telling) : Type 0 where
   pub market : IsMarket r.market
   pub rights : All (IsTransmissionRight (length r.market.buses)) r.rights
-  pub entitles : EntitlesTo most_size r.market r.rights t
+  pub entitles : EntitlesTo most_part r.market r.rights t

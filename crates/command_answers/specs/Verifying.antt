@@ -6,12 +6,13 @@ use Rattle.market_model.specs.declared.participants.Parts.{Parts}
 use Rattle.market_model.specs.Market.{IsMarket}
 use Rattle.report_text.specs.Reports.{range_text}
 use Rattle.cert_format.specs.declared.certificate.Cert.{Cert}
+use Rattle.cert_format.specs.Certificates.{most_part}
 use Rattle.cert_verify.specs.Certificates.{first_reason}
 use Rattle.cert_verify.specs.Stops.{IsCertificateStop}
 use Rattle.cert_verify.specs.declared.verdicts.Reason.{Reason}
 use Rattle.command_answers.specs.declared.status.Status.{Status}
 use Rattle.command_answers.specs.declared.status.Status.TheVariants as status
-use Rattle.command_answers.specs.Clearing.{ArePassedWithin, most_size}
+use Rattle.command_answers.specs.Clearing.{ArePassedWithin}
 use Rattle.command_answers.specs.Inputs.{MarketCertificate}
 use Rattle.command_answers.specs.Tellings.{Telling, uncertified}
 use Rattle.command_answers.specs.Verdicts.{verdict_line}
@@ -29,4 +30,4 @@ pub data VerifiesTo (bound : ℕ) (m : Parts) (c : Cert Fraction) (t : Telling) 
 
 -- the same of a market, which keeps what every market keeps, by numbers of 127 bits
 abbrev pub TellsVerdict : MarketCertificate → Telling → Type 0
-TellsVerdict v t = IsMarket v.market × VerifiesTo most_size v.market v.certificate t
+TellsVerdict v t = IsMarket v.market × VerifiesTo most_part v.market v.certificate t

@@ -3,8 +3,8 @@
 ghost use Rattle.std.specs.Prelude.{◌≡◌, Bool, IfOk};
 ghost use Rattle.market_tables.specs.Tables.{grid_lent};
 ghost use Rattle.market_inputs.specs.Checking.{AreFit};
+ghost use Rattle.market_inputs.specs.Texts.{IsCheck};
 ghost use Rattle.command_answers.specs.Checking.{AreResiduals, TellsCheck, are_within, check_status_of};
-ghost use Rattle.command_answers.specs.Inputs.{IsCheck};
 ghost use Rattle.command_answers.specs.Status.{IsOfWork};
 ghost use Rattle.command_answers.specs.Tellings.{Tells, telling_of};
 

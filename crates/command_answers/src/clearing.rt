@@ -8,9 +8,9 @@ ghost use Rattle.market_model.specs.Valued.{outcome_at, passed_at};
 ghost use Rattle.market_system.specs.Outcomes.{IsRightOutcome};
 ghost use Rattle.report_text.specs.Reports.{range_text};
 ghost use Rattle.command_answers.specs.Clearing.{AreSidesWithin, ClearsTo, TellsCertified, TellsClear, status_of};
-ghost use Rattle.command_answers.specs.Inputs.{IsLimited, IsPool};
 ghost use Rattle.command_answers.specs.Status.{IsOfWork};
 ghost use Rattle.command_answers.specs.Tellings.{MadeTo, Tells, telling_of};
+ghost use Rattle.market_inputs.specs.Texts.{IsPool, IsLimited};
 
 use crate::status::Status;
 use crate::told::{Outputs, Told, refused};

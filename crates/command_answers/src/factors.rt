@@ -3,7 +3,7 @@
 ghost use Rattle.std.specs.Prelude.{◌≡◌, ◌++◌, codes, true, IfErr, IfOk};
 ghost use Rattle.factor_maker.specs.Stops.{IsLossStop};
 ghost use Rattle.market_inputs.specs.Making.{AreFitToMake};
-ghost use Rattle.command_answers.specs.Factors.{AreTables, IsFactorsStop, IsLossIfWanted, MakesFactors, TellsFactors, TellsStop, count_line, loss_line, stop_at, table_outputs, tables_telling, tables_text};
+ghost use Rattle.command_answers.specs.Factors.{AreMadeTables, IsFactorsStop, IsLossIfWanted, MakesFactors, TellsFactors, TellsStop, count_line, loss_line, stop_at, table_outputs, tables_telling, tables_text};
 ghost use Rattle.command_answers.specs.Inputs.{IsFactorWork};
 ghost use Rattle.command_answers.specs.Status.{IsOfWork};
 ghost use Rattle.command_answers.specs.Tellings.{Tells, map_outputs, telling_of};
@@ -62,7 +62,7 @@ fn make_tables(
     places: FactorPlaces,
 ) -> Result<MadeTables, MakeStop<Frac>>
     requires { AreFitToMake inputs.now }
-    ensures made { IfOk result (AreTables inputs.now wanted places) }
+    ensures made { IfOk result (AreMadeTables inputs.now wanted places) }
     ensures stop { IfErr result (λ why. IsFactorsStop ⟦<Frac as Exact>⟧.bound inputs.now wanted places (stop_at ⟦<Frac as Exact>⟧.value why)) }
 {
     let shift = make_shift(alloc, &inputs.network, &inputs.reactances, places)?;

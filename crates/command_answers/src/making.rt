@@ -3,7 +3,7 @@
 ghost use Rattle.std.specs.Prelude.{◌≡◌, ◌≤◌, ◌<◌, ◌^◌, ◌++◌, [], IfOk, decimal};
 ghost use Rattle.case_maker.specs.Rings.{ring_of};
 ghost use Rattle.market_model.specs.Valued.{answer_at, outcome_at};
-ghost use Rattle.command_answers.specs.Clearing.{AreSidesWithin, most_size};
+ghost use Rattle.command_answers.specs.Clearing.{AreSidesWithin};
 ghost use Rattle.command_answers.specs.Making.{MakesTo, counts, summary, title};
 ghost use Rattle.command_answers.specs.Status.{IsOfWork};
 ghost use Rattle.command_answers.specs.Tellings.{telling_of};
@@ -12,6 +12,7 @@ ghost use Rattle.market_model.specs.Market.{IsMarket};
 ghost use Rattle.market_system.specs.Outcomes.{IsRightOutcome};
 ghost use Rattle.report_text.specs.Reports.{report_text};
 ghost use Rattle.market_data.specs.Scales.{IsRingSize};
+ghost use Rattle.cert_format.specs.Certificates.{most_part};
 
 use crate::clearing::cleared;
 use crate::status::Status;
@@ -151,7 +152,7 @@ pub fn make_told(alloc: Global, buses: usize, seed: u64) -> Result<Told, Memory>
     requires size { IsRingSize buses }
     requires small { seed ≤ 4294967295 }
     ensures status { IfOk result (λ told. IsOfWork told.status) }
-    ensures makes { IfOk result (λ told. MakesTo most_size buses seed (telling_of told)) }
+    ensures makes { IfOk result (λ told. MakesTo most_part buses seed (telling_of told)) }
 {
     let market = ring(alloc, buses, seed)?;
     ring_told::<Frac>(

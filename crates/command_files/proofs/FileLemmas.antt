@@ -17,23 +17,24 @@ use Rattle.market_inputs.proofs.FileLemmas.{AreAlike, alike-grid, alike-tables, 
 use Rattle.market_tables.specs.Tables.{EachOf, GridTexts, MarketTexts}
 use Rattle.market_tables.proofs.EachLemmas.{Found, found-grid, found-tables}
 use Rattle.market_inputs.specs.declared.making.FactorInputs.{FactorInputs}
-use Rattle.edit_table.specs.EditTable.{header as edit_header}
+use Rattle.market_inputs.specs.Texts.{IsPool, IsLimited, IsCheck}
+use Rattle.edit_table.specs.EditTable.{edit_header}
 use Rattle.factor_tables.specs.OutageNumbers.{outage_header}
 use Rattle.command_words.specs.Words.{CheckNames, FactorNames, MarketNames}
 use Rattle.command_answers.specs.Checking.{TellsCheck}
 use Rattle.command_answers.specs.Clearing.{TellsClear}
-use Rattle.command_answers.specs.Inputs.{AreEntitled, IsCertificate, IsCertified, IsCheck, IsFactorWork, IsLimited, IsPool, IsReplayed, MarketCertificate, MarketRights, MarketSteps}
+use Rattle.command_answers.specs.Inputs.{AreEntitled, IsCertificate, IsCertified, IsFactorWork, IsReplayed, MarketCertificate, MarketRights, MarketSteps}
 use Rattle.command_answers.specs.Migrating.{TellsMigration}
 use Rattle.command_answers.specs.Replaying.{TellsReplay}
 use Rattle.command_answers.specs.Rights.{TellsRights}
 use Rattle.command_answers.specs.Tellings.{Telling, Tells}
 use Rattle.command_answers.specs.Verifying.{TellsVerdict}
-use Rattle.command_files.specs.Reading.{IsTable, ReadsGrid, ReadsMarket, ReadsTable, Source, grid_sources, header_alone, in_file, source_of, table_sources}
+use Rattle.command_files.specs.Reading.{IsTableFile, ReadsGrid, ReadsMarket, ReadsTable, Source, grid_sources, header_alone, in_file, source_of, table_sources}
 use Rattle.command_files.specs.Standing.{AreCheckFiles, AreClearFiles, AreFactorFiles, ArePoolFiles, AreReplayFiles, AreRightsFiles, AreVerifyFiles, IsMigratedFile, OfFiles, TellsFactorsOf}
 
 -- ---- a table
 -- the whole text of a table that was read
-pub whole-table : (f : Files) (source : Source) (bytes : List ℕ) → ReadsTable (Some f) source bytes → (whole : List ℕ) × IsTable f source whole × AreAlike bytes whole
+pub whole-table : (f : Files) (source : Source) (bytes : List ℕ) → ReadsTable (Some f) source bytes → (whole : List ℕ) × IsTableFile f source whole × AreAlike bytes whole
 whole-table f (in_file name) bytes (whole, at, cut) = (whole, at, λ file. ap (sized file) cut ∙ sized-cut file whole)
 whole-table f (header_alone header) bytes read = (bytes, read, λ file. refl)
 
@@ -63,8 +64,8 @@ certified-same rating places a b edits edits' certificate certificate' told same
 }
 
 -- ---- the files of a market
-whole-market : (f : Files) (names : MarketNames) (bytes : MarketTexts) → ReadsMarket (Some f) names bytes → Found (IsTable f) AreAlike (table_sources names) bytes
-whole-market f names bytes read = found-tables (ReadsTable (Some f)) (IsTable f) AreAlike (whole-table f) (table_sources names) bytes read
+whole-market : (f : Files) (names : MarketNames) (bytes : MarketTexts) → ReadsMarket (Some f) names bytes → Found (IsTableFile f) AreAlike (table_sources names) bytes
+whole-market f names bytes read = found-tables (ReadsTable (Some f)) (IsTableFile f) AreAlike (whole-table f) (table_sources names) bytes read
 
 -- ---- what is told of the files
 pub files-pool : (files : Option Files) (case offers case_read offers_read : List ℕ) (t : Telling) → Reads files case 33554432 case_read → Reads files offers 33554432 offers_read
@@ -178,7 +179,7 @@ pub files-check : (files : Option Files) (names : CheckNames) (bytes : GridTexts
     → OfFiles files (λ f. AreCheckFiles f names) TellsCheck t
 files-check None names bytes t read right = tt
 files-check (Some f) names bytes t read right =
-    let w = found-grid (ReadsTable (Some f)) (IsTable f) AreAlike (whole-table f) (grid_sources names.tables) bytes read in
+    let w = found-grid (ReadsTable (Some f)) (IsTableFile f) AreAlike (whole-table f) (grid_sources names.tables) bytes read in
     record {
       told = right.told;
       stands = record { texts = w.found; have = w.first; inputs = subst (λ grid. AreInputs names.places grid right.told) (alike-grid bytes w.found w.second) right.stands };

@@ -53,9 +53,9 @@ ReadsTable files (in_file name) bytes = Reads files name most_file bytes
 ReadsTable files (header_alone header) bytes = bytes ≡ header_line header
 
 -- the whole text of a table
-abbrev pub IsTable : Files → Source → List ℕ → Type 0
-IsTable files (in_file name) text = files name ≡ Some text
-IsTable files (header_alone header) text = text ≡ header_line header
+abbrev pub IsTableFile : Files → Source → List ℕ → Type 0
+IsTableFile files (in_file name) text = files name ≡ Some text
+IsTableFile files (header_alone header) text = text ≡ header_line header
 
 -- what is read of a case and of its tables, and of the files of a market
 abbrev pub ReadsGrid : Option Files → GridNames → GridTexts → Type 0
@@ -66,7 +66,7 @@ ReadsMarket files names bytes = EachOf (ReadsTable files) (table_sources names) 
 
 -- their whole texts
 abbrev pub HaveGridTexts : Files → GridNames → GridTexts → Type 0
-HaveGridTexts files names texts = EachOfGrid (IsTable files) (grid_sources names) texts
+HaveGridTexts files names texts = EachOfGrid (IsTableFile files) (grid_sources names) texts
 
 abbrev pub HaveTexts : Files → MarketNames → MarketTexts → Type 0
-HaveTexts files names texts = EachOf (IsTable files) (table_sources names) texts
+HaveTexts files names texts = EachOf (IsTableFile files) (table_sources names) texts

@@ -5,16 +5,17 @@ use Rattle.outside_store.specs.Files.{Files}
 use Rattle.cert_format.specs.declared.certificate.Cert.{Cert}
 use Rattle.market_inputs.specs.declared.checking.Inputs.{Inputs}
 use Rattle.market_inputs.specs.declared.making.FactorInputs.{FactorInputs}
+use Rattle.market_inputs.specs.Texts.{IsPool, IsLimited, IsCheck}
 use Rattle.market_model.specs.declared.participants.Parts.{Parts}
 use Rattle.market_tables.specs.Tables.{GridTexts, MarketTexts}
 use Rattle.refusal_text.specs.declared.refusals.Refusal.{Refusal}
-use Rattle.edit_table.specs.EditTable.{header as edit_header}
+use Rattle.edit_table.specs.EditTable.{edit_header}
 use Rattle.factor_tables.specs.OutageNumbers.{outage_header}
 use Rattle.command_words.specs.Words.{CheckNames, FactorNames, MarketNames}
 use Rattle.command_answers.specs.Factors.{TellsFactors}
-use Rattle.command_answers.specs.Inputs.{AreEntitled, IsCertificate, IsCertified, IsCheck, IsFactorWork, IsLimited, IsPool, IsReplayed, MarketCertificate, MarketRights, MarketSteps}
+use Rattle.command_answers.specs.Inputs.{AreEntitled, IsCertificate, IsCertified, IsFactorWork, IsReplayed, MarketCertificate, MarketRights, MarketSteps}
 use Rattle.command_answers.specs.Tellings.{Telling, Tells}
-use Rattle.command_files.specs.Reading.{HaveGridTexts, HaveTexts, IsTable, source_of}
+use Rattle.command_files.specs.Reading.{HaveGridTexts, HaveTexts, IsTableFile, source_of}
 
 -- the files of a pool stand for this market, or this is their first fault
 pub record ArePoolFiles (files : Files) (case_name offers_name : List ℕ) (told : Result Parts Refusal) : Type 0 where
@@ -44,7 +45,7 @@ pub record AreVerifyFiles (files : Files) (names : MarketNames) (edits_name : Op
   pub edits : List ℕ
   pub certificate : List ℕ
   pub have : HaveTexts files names texts
-  pub edits_are : IsTable files (source_of edit_header edits_name) edits
+  pub edits_are : IsTableFile files (source_of edit_header edits_name) edits
   pub certificate_is : files certificate_name ≡ Some certificate
   pub certified : IsCertified names.rating names.places texts edits certificate told
 
@@ -73,7 +74,7 @@ pub record AreFactorFiles (files : Files) (names : FactorNames) (told : Result F
   pub case : List ℕ
   pub outages : List ℕ
   pub case_is : files names.case ≡ Some case
-  pub outages_are : IsTable files (source_of outage_header names.contingencies) outages
+  pub outages_are : IsTableFile files (source_of outage_header names.contingencies) outages
   pub work : IsFactorWork case outages told
 
 -- what these come to, with a table of outage factors where a file is named for it, and factors of so many places

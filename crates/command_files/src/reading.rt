@@ -13,7 +13,7 @@ use command_answers::Status;
 use command_words::{GridNames, MarketNames};
 use csv_table::header_line;
 use factor_tables::{LOSS_HEADER, OFFSET_HEADER, OUTAGE_HEADER, PENALTY_HEADER};
-use market_inputs::MOST_BYTES;
+use market_inputs::MOST_FILE;
 use market_tables::{GridTables, MarketTables};
 use offer_book::RESERVE_HEADER;
 use outage_list::UNIT_OUTAGE_HEADER;
@@ -26,7 +26,7 @@ pub fn read_file<S: Store>(alloc: Global, store: &mut S, name: &str) -> Result<V
     ensures stop { IfErr result IsSilent }
     ensures reads { OnlyReads S.Store store.old store.new (λ file. file ≡ name.now) (result ≡ Err Status.ReadFailed) }
 {
-    match store.read(alloc, name, MOST_BYTES) {
+    match store.read(alloc, name, MOST_FILE) {
         Ok(bytes) => Ok(bytes),
         Err(ReadStop::Failed) => Err(Status::ReadFailed),
         Err(ReadStop::Memory) => Err(Status::Memory),

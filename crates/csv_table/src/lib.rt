@@ -145,10 +145,10 @@ fn records_of(alloc: Global, bytes: &[u8]) -> Result<Records, RecordsStop>
         .flexible(true)
         .from_reader(alloc, bytes);
     let mut records = Records::new(alloc);
-    let mut row = ByteRecord::new(alloc);
-    'rows: for _ in 0..usize::MAX {
-        match reader.read_byte_record(&mut row) {
-            Ok(true) => records.push(&row)?,
+    let mut record = ByteRecord::new(alloc);
+    'records: for _ in 0..usize::MAX {
+        match reader.read_byte_record(&mut record) {
+            Ok(true) => records.push(&record)?,
             Ok(false) => return Ok(records),
             Err(error) => return Err(RecordsStop::Reader(error)),
         }

@@ -3,6 +3,6 @@ use Rattle.std.specs.Prelude.{◌≡◌, false, Option, Some, None}
 use Rattle.linear_dict.specs.Dictionaries.{Dictionary, IsDictionary}
 
 -- one that is kept is sound, and no pivot of it was refused
-abbrev pub IsStart : Option Dictionary → Type 0
-IsStart None = Unit {0}
-IsStart (Some d) = IsDictionary d × (d.spent ≡ false)
+abbrev pub IsKeptStart : Option Dictionary → Type 0
+IsKeptStart None = Unit {0}
+IsKeptStart (Some d) = IsDictionary d × (d.spent ≡ false)

@@ -21,7 +21,7 @@ impl<N: Exact> Model for Warm<N> {
     ghost use Rattle.std.specs.Prelude.{Option};
     ghost use Rattle.std.specs.Coded.{coded_option};
     ghost use Rattle.linear_dict.specs.Dictionaries.{Dictionary, dictionary_code};
-    ghost use Rattle.dual_restart.specs.Keeping.{IsStart};
+    ghost use Rattle.dual_restart.specs.Keeping.{IsKeptStart};
 
     ghost Value = { Option Dictionary };
 
@@ -29,7 +29,7 @@ impl<N: Exact> Model for Warm<N> {
 
     ghost view = { λ w. w.dict };
 
-    ghost invariant = { λ w. IsStart w.dict };
+    ghost invariant = { λ w. IsKeptStart w.dict };
 }
 
 impl<N: Exact> Warm<N> {

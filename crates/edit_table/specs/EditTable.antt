@@ -1,5 +1,5 @@
 -- What a table of edits stands for: the steps of its records, or the first fault.
-use Rattle.std.specs.Prelude.{⊤, ℕ, ℤ, ◌≤◌, ◌==◌, ◌&&◌, Bool, true, false, List, [], ◌∷◌, codes, length, All, Option, Some, None, option_map, Result, Ok, Err, if◌then◌else◌}
+use Rattle.std.specs.Prelude.{⊤, ℕ, ℤ, ◌≤◌, ◌&&◌, Bool, true, false, List, [], ◌∷◌, codes, length, All, Option, Some, None, option_map, Result, Ok, Err, if◌then◌else◌}
 use Rattle.std.specs.Option.{option_map_or}
 use Rattle.std.specs.Str.{bytes_eq}
 use Rattle.market_data.specs.Participants.{IsDatum}
@@ -12,6 +12,7 @@ use Rattle.record_reading.specs.Gathering.{read_records}
 use Rattle.csv_table.specs.Table.{framed, number_in}
 use Rattle.offer_book.specs.Edits.{number_of}
 use Rattle.offer_book.specs.declared.edit_parts.Edit.TheVariants as edit
+use Rattle.offer_book.specs.Reserving.{is_empty}
 use Rattle.edit_table.specs.declared.Form.{Form}
 use Rattle.edit_table.specs.declared.Form.TheVariants as form
 use Rattle.edit_table.specs.declared.Step.{Step}
@@ -24,8 +25,8 @@ abbrev pub most_steps : ℕ
 most_steps = 10000
 
 -- ---- the columns
-abbrev pub header : Record
-header = codes "op" ∷ codes "target" ∷ codes "side" ∷ codes "block" ∷ codes "value" ∷ []
+abbrev pub edit_header : Record
+edit_header = codes "op" ∷ codes "target" ∷ codes "side" ∷ codes "block" ∷ codes "value" ∷ []
 
 abbrev pub op : ℕ
 op = 0
@@ -43,11 +44,8 @@ abbrev pub value : ℕ
 value = 4
 
 -- ---- the words of a record
-abbrev pub says : Record → ℕ → List ℕ → Bool
-says r col word = bytes_eq (cell_of r col) word
-
-abbrev pub is_empty : Record → ℕ → Bool
-is_empty r col = length (cell_of r col) == 0
+abbrev pub says_at : Record → ℕ → List ℕ → Bool
+says_at r col word = bytes_eq (cell_of r col) word
 
 -- a record of its first word and its number, and one of its first word alone
 abbrev pub is_plain : Record → Bool
@@ -58,21 +56,21 @@ is_bare r = is_plain r && is_empty r value
 
 -- the side of an offer
 unfoldable pub side_in : Record → Option Side
-side_in r = if says r side (codes "sell") then Some Sell else if says r side (codes "buy") then Some Buy else None
+side_in r = if says_at r side (codes "sell") then Some Sell else if says_at r side (codes "buy") then Some Buy else None
 
 -- whether a limit is that after an outage
 unfoldable pub post_in : Record → Option Bool
-post_in r = if says r side (codes "base") then Some false else if says r side (codes "post") then Some true else None
+post_in r = if says_at r side (codes "base") then Some false else if says_at r side (codes "post") then Some true else None
 
 -- what a record is, as its words say: its first cell names it, and those that it has no use for are empty
 unfoldable pub form_in : Record → Option Form
 form_in r =
-    if says r op (codes "price") then option_map (λ s. form.Price s) (side_in r)
-    else if says r op (codes "quantity") then option_map (λ s. form.Quantity s) (side_in r)
-    else if says r op (codes "demand") && is_empty r side && is_empty r block then Some form.Demand
-    else if says r op (codes "limit") && is_empty r block then option_map (λ post. form.Limit post) (post_in r)
-    else if says r op (codes "need") && is_plain r then Some form.Need
-    else if says r op (codes "clear") && is_bare r then Some form.Clear
+    if says_at r op (codes "price") then option_map (λ s. form.Price s) (side_in r)
+    else if says_at r op (codes "quantity") then option_map (λ s. form.Quantity s) (side_in r)
+    else if says_at r op (codes "demand") && is_empty r side && is_empty r block then Some form.Demand
+    else if says_at r op (codes "limit") && is_empty r block then option_map (λ post. form.Limit post) (post_in r)
+    else if says_at r op (codes "need") && is_plain r then Some form.Need
+    else if says_at r op (codes "clear") && is_bare r then Some form.Clear
     else None
 
 -- ---- the numbers of a record
@@ -109,7 +107,7 @@ step_in line r = option_map_or (numbers_in line r) (form_in r) (Err (fault.Word 
 
 -- the steps that the bytes stand for, in the order of their records
 unfoldable pub steps_of_table : List ℕ → Result (List Step) StepFault
-steps_of_table bytes = and_then (framed fault.Frame header (Some most_steps) bytes) (read_records (λ _. step_in) [] 2)
+steps_of_table bytes = and_then (framed fault.Frame edit_header (Some most_steps) bytes) (read_records (λ _. step_in) [] 2)
 
 -- ---- what is kept of steps
 -- an edit's number has at most 63 bits

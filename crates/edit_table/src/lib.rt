@@ -3,8 +3,9 @@
 
 ghost use Rattle.std.specs.Prelude.{◌≡◌, ◌≢◌, ◌+◌, ◌<◌, ◌≤◌, ◌^◌, length, get_or, [], Ok, Err, IfOk};
 ghost use Rattle.record_reading.specs.Gathering.{read_records};
-ghost use Rattle.edit_table.specs.EditTable.{AreSteps, IsStep, form_in, is_bare, is_empty, is_plain, most_steps, numbers_in, post_in, side_in, step_in, steps_of_table};
+ghost use Rattle.edit_table.specs.EditTable.{AreSteps, IsStep, form_in, is_bare, is_plain, most_steps, numbers_in, post_in, side_in, step_in, steps_of_table};
 ghost use Rattle.edit_table.specs.declared.Form.TheVariants as form;
+ghost use Rattle.offer_book.specs.Reserving.{is_empty};
 
 use csv_table::{Table, read_table};
 use market_model::{List, MW_PLACES, Memory, PRICE_PLACES, Side};

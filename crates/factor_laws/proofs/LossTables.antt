@@ -26,7 +26,7 @@ use Rattle.factor_residuals.specs.Residuals.{AreLost, AreOutageLoopSpots, IsOuta
 use Rattle.factor_residuals.specs.declared.spots.Residual.{Residual}
 use Rattle.factor_residuals.specs.declared.spots.Spot.{Spot}
 use Rattle.factor_text.specs.Laws.{IsTableOver, NamesWhatIsLive, ObeysRules}
-use Rattle.factor_text.specs.Texts.{table_text}
+use Rattle.factor_text.specs.Texts.{factor_table_text}
 use Rattle.factor_text.proofs.RecordsRead.{read-back}
 use Rattle.factor_maker.specs.Made.{IsLossEntry, IsMadeLoss, loss_pairs}
 use Rattle.factor_maker.proofs.Lists as lists
@@ -105,8 +105,8 @@ module _ (network : LiveNetwork) (xs : List ℤ) (outages : List ℕ) (places : 
     once = once;
   }
 
-  back : IsTableOver column.Outage network loss × (loss_of network (table_text column.Outage loss.entries) places ≡ Ok loss)
-  back = (over, subst (λ (p : FactorPlaces). table_of column.Outage network (table_text column.Outage loss.entries) p ≡ Ok loss) made.places_are (read-back column.Outage network loss sound.network_is over))
+  back : IsTableOver column.Outage network loss × (loss_of network (factor_table_text column.Outage loss.entries) places ≡ Ok loss)
+  back = (over, subst (λ (p : FactorPlaces). table_of column.Outage network (factor_table_text column.Outage loss.entries) p ≡ Ok loss) made.places_are (read-back column.Outage network loss sound.network_is over))
 
   -- ---- each column is that of exact factors, rounded
   -- the record of a branch and a lost one is of the two

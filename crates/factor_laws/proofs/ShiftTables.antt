@@ -25,7 +25,7 @@ use Rattle.factor_residuals.specs.Residuals.{IsBusResidual, IsLoopResidual, bus_
 use Rattle.factor_residuals.specs.declared.spots.Residual.{Residual}
 use Rattle.factor_residuals.specs.declared.spots.Spot.{Spot}
 use Rattle.factor_text.specs.Laws.{IsTableOver, NamesWhatIsLive, ObeysRules}
-use Rattle.factor_text.specs.Texts.{table_text}
+use Rattle.factor_text.specs.Texts.{factor_table_text}
 use Rattle.factor_text.proofs.RecordsRead.{read-back}
 use Rattle.factor_maker.specs.Made.{IsMadeShift, IsShiftEntry, shift_pairs}
 use Rattle.factor_maker.proofs.Lists as lists
@@ -128,10 +128,10 @@ module _ (network : LiveNetwork) (xs : List ℤ) (places : FactorPlaces) (shift 
       (subst (λ (col : Column). exceeds (loop_spot (reactance_at network xs) col b.0) ≡ false) i.2
       (All-contains (λ (members : List Member). exceeds (loop_spot (reactance_at network xs) (shift_column network shift i.0) members) ≡ false) is.loops b.0 ((explained i.0 i.1).round_loops is.loops is.are) b.1)))
 
-  back : IsTableOver column.Bus network shift × (shift_of network (table_text column.Bus shift.entries) places ≡ Ok shift)
+  back : IsTableOver column.Bus network shift × (shift_of network (factor_table_text column.Bus shift.entries) places ≡ Ok shift)
   back = (
     over,
-    subst (λ (p : FactorPlaces). table_of column.Bus network (table_text column.Bus shift.entries) p ≡ Ok shift) made.places_are
+    subst (λ (p : FactorPlaces). table_of column.Bus network (factor_table_text column.Bus shift.entries) p ≡ Ok shift) made.places_are
         (read-back column.Bus network shift sound.network_is over),
   )
 

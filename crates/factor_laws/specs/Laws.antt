@@ -11,18 +11,18 @@ use Rattle.factor_residuals.specs.declared.spots.Residual.{Residual}
 use Rattle.dc_network.specs.Laws.{IsSound}
 use Rattle.factor_maker.specs.Made.{IsMadeLoss, IsMadeShift}
 use Rattle.factor_text.specs.Laws.{IsTableOver}
-use Rattle.factor_text.specs.Texts.{table_text}
+use Rattle.factor_text.specs.Texts.{factor_table_text}
 
 -- ---- read back
 -- A shift table that is made of a network obeys its rules, and its text is read over it as the table.
 abbrev pub ShiftTablesAreReadBack : Type 0
 ShiftTablesAreReadBack = (network : LiveNetwork) (xs : List ℤ) (places : FactorPlaces) (shift : FactorRecords) → IsSound network xs None → IsMadeShift network xs places shift
-    → IsTableOver column.Bus network shift × (shift_of network (table_text column.Bus shift.entries) places ≡ Ok shift)
+    → IsTableOver column.Bus network shift × (shift_of network (factor_table_text column.Bus shift.entries) places ≡ Ok shift)
 
 -- and so does an outage table
 abbrev pub LossTablesAreReadBack : Type 0
 LossTablesAreReadBack = (network : LiveNetwork) (xs : List ℤ) (outages : List ℕ) (places : FactorPlaces) (loss : FactorRecords) → IsSound network xs None → AreOutages network outages
-    → IsMadeLoss network xs outages places loss → IsTableOver column.Outage network loss × (loss_of network (table_text column.Outage loss.entries) places ≡ Ok loss)
+    → IsMadeLoss network xs outages places loss → IsTableOver column.Outage network loss × (loss_of network (factor_table_text column.Outage loss.entries) places ≡ Ok loss)
 
 -- ---- within rounding
 -- no residual is beyond its bound

@@ -42,9 +42,9 @@ has_penalty entries limit = is_some (softness_at entries limit)
 -- a price above 0, for an excess that is not below 0
 pub record IsSoftness (softness : Softness) : Type 0 where
   pub costs : pos 0 <ℤ softness.price
-  pub exceeds : pos 0 ≤ℤ softness.excess
+  pub exceeds : pos 0 ≤ℤ softness.most_excess
   pub price : IsDatum softness.price
-  pub excess : IsDatum softness.excess
+  pub excess : IsDatum softness.most_excess
 
 -- each record has a penalty, and no limit stands twice
 pub record ArePenalties (entries : List PenaltyEntry) : Type 0 where
@@ -63,7 +63,7 @@ unfoldable pub penalty_faults : LiveNetwork → ℕ → PenaltyRecord → List (
 penalty_faults network line r =
     (not (is_row network r.branch), fault.NoBranch line)
     ∷ (not (has_branch_limit network r.branch r.post), fault.NoLimit line)
-    ∷ (le_z r.softness.price (pos 0) || lt_z r.softness.excess (pos 0), fault.Penalty line)
+    ∷ (le_z r.softness.price (pos 0) || lt_z r.softness.most_excess (pos 0), fault.Penalty line)
     ∷ []
 
 -- the limit of a record whose number names a row

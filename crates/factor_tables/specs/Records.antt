@@ -54,7 +54,7 @@ penalty_in line r =
     and_then (number line r 0 0) (λ branch.
     and_then (number line r 2 price_places) (λ price.
     and_then (number line r 3 mw_places) (λ excess.
-    Ok (record { branch = branch; post = post; softness = record { price = price; excess = excess } })))))
+    Ok (record { branch = branch; post = post; softness = record { price = price; most_excess = excess } })))))
 
 -- ---- what is known of numbers that were read
 pub record FactorIsRead (r : FactorRecord) : Type 0 where
@@ -69,4 +69,4 @@ pub record OffsetIsRead (r : OffsetRecord) : Type 0 where
 pub record PenaltyIsRead (r : PenaltyRecord) : Type 0 where
   pub branch : unsigned_abs r.branch < 2 ^ 63
   pub price : unsigned_abs r.softness.price < 2 ^ 63
-  pub excess : unsigned_abs r.softness.excess < 2 ^ 63
+  pub excess : unsigned_abs r.softness.most_excess < 2 ^ 63

@@ -127,6 +127,9 @@ pub(crate) fn penalty_of(table: &Table, place: usize) -> Result<PenaltyRecord, T
     Ok(PenaltyRecord {
         branch,
         post,
-        softness: Softness { price, excess },
+        softness: Softness {
+            price,
+            most_excess: excess,
+        },
     })
 }

@@ -12,7 +12,7 @@ pub struct Softness {
     /// What a MW beyond the limit costs, in 10^-6 per MWh.
     pub price: i64,
     /// The most by which a flow may exceed the limit, in 10^-9 MW.
-    pub excess: i64,
+    pub most_excess: i64,
 }
 
 /// The penalties of the limits that give way, by the row of the branch and whether it is the limit after an outage. Contracts see it

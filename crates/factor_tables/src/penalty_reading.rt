@@ -53,7 +53,7 @@ fn check_penalty(network: &Network, numbers: PenaltyRecord, line: usize) -> Resu
     if !has_branch_limit(network, numbers.branch, numbers.post) {
         return Err(TableFault::NoLimit { line });
     }
-    if numbers.softness.price <= 0 || numbers.softness.excess < 0 {
+    if numbers.softness.price <= 0 || numbers.softness.most_excess < 0 {
         return Err(TableFault::Penalty { line });
     }
     Ok(())

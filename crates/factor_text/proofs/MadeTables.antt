@@ -13,7 +13,7 @@ use Rattle.factor_tables.specs.Made.{AreApart, AreInBounds, made_entry, made_pai
 use Rattle.factor_tables.specs.Tables.{table_of}
 use Rattle.factor_tables.proofs.MadeLemmas.{entry-size}
 use Rattle.factor_text.specs.Laws.{IsTableOver, NamesWhatIsLive, ObeysRules}
-use Rattle.factor_text.specs.Texts.{table_text}
+use Rattle.factor_text.specs.Texts.{factor_table_text}
 use Rattle.factor_text.proofs.RecordsRead.{read-back}
 
 entry-obeys : (kind : Column) (network : LiveNetwork) (places : FactorPlaces) (made : MadeFactor) → NamesWhatIsLive kind network (made_pair made) → unsigned_abs made.units * place_step places ≤ most_factor
@@ -44,7 +44,7 @@ made-over kind network places records apart bounds names = record {
 
 pub made-back : (kind : Column) (network : LiveNetwork) (places : FactorPlaces) (records : List MadeFactor) → IsNetwork network → AreApart records → AreInBounds places records
     → All (λ made. NamesWhatIsLive kind network (made_pair made)) records
-    → IsTableOver kind network (made_table places records) × (table_of kind network (table_text kind (made_table places records).entries) places ≡ Ok (made_table places records))
+    → IsTableOver kind network (made_table places records) × (table_of kind network (factor_table_text kind (made_table places records).entries) places ≡ Ok (made_table places records))
 made-back kind network places records is apart bounds names =
     let over = made-over kind network places records apart bounds names in
     (over, read-back kind network (made_table places records) is over)

@@ -29,7 +29,7 @@ use Rattle.factor_tables.specs.Rules.{is_live_branch, is_live_bus, is_row, is_us
 use Rattle.factor_tables.specs.Tables.{entry_in, factors_of, header_of, table_of}
 use Rattle.factor_tables.proofs.FactorLemmas.{one_pair}
 use Rattle.factor_tables.proofs.NameLemmas.{bus-range}
-use Rattle.factor_text.specs.Texts.{table_text}
+use Rattle.factor_text.specs.Texts.{factor_table_text}
 use Rattle.factor_text.specs.Laws.{IsTableOver, ObeysRules}
 use Rattle.factor_text.proofs.NumbersRead.{factor-read, number-read}
 use Rattle.factor_text.proofs.TextsDerived.{IsInRange, cells_of, table-framed}
@@ -141,12 +141,12 @@ all-in-range kind network places [] is rules = tt
 all-in-range kind network places (entry ∷ entries) is rules = (in-range kind network places entry is rules.0, all-in-range kind network places entries is rules.1)
 
 -- ---- the table
-pub read-back : (kind : Column) (network : LiveNetwork) (table : FactorRecords) → IsNetwork network → IsTableOver kind network table → table_of kind network (table_text kind table.entries) table.places ≡ Ok table
+pub read-back : (kind : Column) (network : LiveNetwork) (table : FactorRecords) → IsNetwork network → IsTableOver kind network table → table_of kind network (factor_table_text kind table.entries) table.places ≡ Ok table
 unfolding factors_of
 read-back kind network table is over =
     let rules : AllByRecursion (ObeysRules kind network table.places) table.entries = recursion_from_All (ObeysRules kind network table.places) table.entries over.records in
     let ranges = all-in-range kind network table.places table.entries is rules in
-    then-ok (factors_of kind network (table_text kind table.entries) table.places) table.entries _ (Ok table)
-    (then-ok (framed fault.Frame (header_of kind) None (table_text kind table.entries)) (map cells_of table.entries) _ (Ok table.entries) (ap (or_as fault.Frame) (table-framed kind table.entries ranges))
+    then-ok (factors_of kind network (factor_table_text kind table.entries) table.places) table.entries _ (Ok table)
+    (then-ok (framed fault.Frame (header_of kind) None (factor_table_text kind table.entries)) (map cells_of table.entries) _ (Ok table.entries) (ap (or_as fault.Frame) (table-framed kind table.entries ranges))
     (all-read kind network table.places table.entries [] 2 rules ranges over.once))
     refl

@@ -14,7 +14,7 @@ use Rattle.factor_tables.specs.declared.by_pair.Column.{Column}
 use Rattle.factor_tables.specs.declared.by_pair.Column.TheVariants as column
 use Rattle.factor_tables.specs.Factors.{Entry}
 use Rattle.factor_tables.specs.Tables.{header_of}
-use Rattle.factor_text.specs.Texts.{record_line, table_text}
+use Rattle.factor_text.specs.Texts.{record_line, factor_table_text}
 use Rattle.factor_text.proofs.NumbersRead.{factor-bytes, is_cell_byte, number-bytes}
 
 -- a record whose numbers are read back
@@ -52,8 +52,8 @@ entries-text [] = refl
 entries-text (entry ∷ entries) =
     line-text (codes ",") (codes "\n") (decimal entry.0.0) (decimal entry.0.1) (decimal_text 9 entry.1) (lines_text (entry_lines entries)) ∙ ap (λ t. record_line entry ++ t) (entries-text entries)
 
-text-is : (kind : Column) (entries : List Entry) → table_text kind entries ≡ lines_text (all_lines kind entries)
-unfolding table_text
+text-is : (kind : Column) (entries : List Entry) → factor_table_text kind entries ≡ lines_text (all_lines kind entries)
+unfolding factor_table_text
 text-is column.Bus entries = ap (λ t. header_line (header_of column.Bus) ++ t) (sym (entries-text entries))
 text-is column.Outage entries = ap (λ t. header_line (header_of column.Outage) ++ t) (sym (entries-text entries))
 
@@ -105,7 +105,7 @@ wide kind [] = tt
 wide column.Bus (entry ∷ entries) = (refl, wide column.Bus entries)
 wide column.Outage (entry ∷ entries) = (refl, wide column.Outage entries)
 
-table-derived : (kind : Column) (entries : List Entry) → AllByRecursion IsInRange entries → IsTable (header_of kind) None (table_text kind entries) (map cells_of entries)
+table-derived : (kind : Column) (entries : List Entry) → AllByRecursion IsInRange entries → IsTable (header_of kind) None (factor_table_text kind entries) (map cells_of entries)
 table-derived kind entries are = record {
   text = (record { mark = false; lines = all_lines kind entries }, text-is kind entries, record { lines = lines-are kind entries are; unmarked = unmarked kind entries }, records-are kind entries);
   wide = wide kind entries;
@@ -113,5 +113,5 @@ table-derived kind entries are = record {
 }
 
 -- so these cells are read
-pub table-framed : (kind : Column) (entries : List Entry) → AllByRecursion IsInRange entries → frame_of (header_of kind) None (table_of (table_text kind entries)) ≡ Ok (map cells_of entries)
-table-framed kind entries are = table-read (header_of kind) None (table_text kind entries) (map cells_of entries) (table-derived kind entries are)
+pub table-framed : (kind : Column) (entries : List Entry) → AllByRecursion IsInRange entries → frame_of (header_of kind) None (table_of (factor_table_text kind entries)) ≡ Ok (map cells_of entries)
+table-framed kind entries are = table-read (header_of kind) None (factor_table_text kind entries) (map cells_of entries) (table-derived kind entries are)

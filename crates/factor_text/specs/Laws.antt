@@ -10,7 +10,7 @@ use Rattle.factor_tables.specs.Factors.{Entry, FactorRecords, HasNoPairTwice, Pa
 use Rattle.factor_tables.specs.Made.{AreApart, AreInBounds, made_pair, made_table}
 use Rattle.factor_tables.specs.Rules.{is_live_branch, is_live_bus, is_row}
 use Rattle.factor_tables.specs.Tables.{table_of}
-use Rattle.factor_text.specs.Texts.{table_text}
+use Rattle.factor_text.specs.Texts.{factor_table_text}
 
 -- whether a number of the second column names a bus of the case, or a branch row
 abbrev pub is_second : Column → LiveNetwork → ℤ → Bool
@@ -40,7 +40,7 @@ pub record IsTableOver (kind : Column) (network : LiveNetwork) (table : FactorRe
 
 -- what is written of such a table is read back as the table
 abbrev pub TablesAreReadBack : Type 0
-TablesAreReadBack = (kind : Column) (network : LiveNetwork) (table : FactorRecords) → IsNetwork network → IsTableOver kind network table → table_of kind network (table_text kind table.entries) table.places ≡ Ok table
+TablesAreReadBack = (kind : Column) (network : LiveNetwork) (table : FactorRecords) → IsNetwork network → IsTableOver kind network table → table_of kind network (factor_table_text kind table.entries) table.places ≡ Ok table
 
 -- ---- tables that are made
 -- a pair names a branch row of the case and a bus or another branch row, both live
@@ -55,4 +55,4 @@ abbrev pub MadeTablesAreReadBack : Type 0
 MadeTablesAreReadBack =
     (kind : Column) (network : LiveNetwork) (places : FactorPlaces) (records : List MadeFactor) → IsNetwork network → AreApart records → AreInBounds places records
     → All (λ made. NamesWhatIsLive kind network (made_pair made)) records
-    → IsTableOver kind network (made_table places records) × (table_of kind network (table_text kind (made_table places records).entries) places ≡ Ok (made_table places records))
+    → IsTableOver kind network (made_table places records) × (table_of kind network (factor_table_text kind (made_table places records).entries) places ≡ Ok (made_table places records))

@@ -13,5 +13,5 @@ unfoldable pub record_line : Entry → List ℕ
 record_line entry = decimal entry.0.0 ++ codes "," ++ decimal entry.0.1 ++ codes "," ++ decimal_text factor_places entry.1 ++ codes "\n"
 
 -- the header of a table of this kind, then a line for each record
-unfoldable pub table_text : Column → List Entry → List ℕ
-table_text kind entries = header_line (header_of kind) ++ flat_map record_line entries
+unfoldable pub factor_table_text : Column → List Entry → List ℕ
+factor_table_text kind entries = header_line (header_of kind) ++ flat_map record_line entries

@@ -5,7 +5,7 @@ ghost use Rattle.std.specs.List.{flat_map};
 ghost use Rattle.factor_tables.specs.Factors.{listed_entry};
 ghost use Rattle.factor_tables.specs.Tables.{header_of};
 ghost use Rattle.factor_tables.specs.declared.by_pair.Column.TheVariants as column;
-ghost use Rattle.factor_text.specs.Texts.{record_line, table_text};
+ghost use Rattle.factor_text.specs.Texts.{record_line, factor_table_text};
 
 use csv_table::header_line;
 use factor_tables::{FactorTable, LOSS_HEADER, ListedFactor, Loss, SHIFT_HEADER, Shift, TableKind};
@@ -40,14 +40,14 @@ fn put_records<K: TableKind>(text: &mut Text, table: &FactorTable<K>) -> Result<
 }
 
 /// The text of a table under a header.
-#[tactic(auto, unfolding(crate::specs::Texts::table_text))]
+#[tactic(auto, unfolding(crate::specs::Texts::factor_table_text))]
 fn table_text<K: TableKind>(
     alloc: Global,
     header: &[&str],
     table: &FactorTable<K>,
 ) -> Result<Vec<u8>, Memory>
     requires { map (λ name. name.now) header.now ≡ header_of K.column }
-    ensures { IfOk result (λ text. text.items ≡ table_text K.column table.now.entries) }
+    ensures { IfOk result (λ text. text.items ≡ factor_table_text K.column table.now.entries) }
 {
     let Ok(line) = header_line(alloc, header) else {
         return Err(Memory);
@@ -61,14 +61,14 @@ fn table_text<K: TableKind>(
 /// The text of a shift table: the header, then a line for each record in the table's order, with its branch's row, its bus's number and
 /// its factor as a decimal without zeros at its end. Lines end with a line feed.
 pub fn shift_text(alloc: Global, shift: &Shift) -> Result<Vec<u8>, Memory>
-    ensures { IfOk result (λ text. text.items ≡ table_text column.Bus shift.now.entries) }
+    ensures { IfOk result (λ text. text.items ≡ factor_table_text column.Bus shift.now.entries) }
 {
     table_text(alloc, SHIFT_HEADER, shift)
 }
 
 /// The text of an outage table, likewise, where the second number is the row of the outage's branch.
 pub fn loss_text(alloc: Global, loss: &Loss) -> Result<Vec<u8>, Memory>
-    ensures { IfOk result (λ text. text.items ≡ table_text column.Outage loss.now.entries) }
+    ensures { IfOk result (λ text. text.items ≡ factor_table_text column.Outage loss.now.entries) }
 {
     table_text(alloc, LOSS_HEADER, loss)
 }

@@ -72,7 +72,7 @@ live-rows network rows lost i d lt = let o = lost.are.each i d lt in (o.branch, 
 
 -- ---- lines
 -- the penalty of a record, or of nothing
-pub penalty_is : (given : Option Softness) → IfSome given IsSoftness → IsPenalty (unwrap_or given (record { price = pos 0; excess = pos 0 })).price (unwrap_or given (record { price = pos 0; excess = pos 0 })).excess
+pub penalty_is : (given : Option Softness) → IfSome given IsSoftness → IsPenalty (unwrap_or given (record { price = pos 0; most_excess = pos 0 })).price (unwrap_or given (record { price = pos 0; most_excess = pos 0 })).most_excess
 penalty_is None h = no_cost
 penalty_is (Some penalty) h = let above = h.costs in record { costs = Prim.grind (arith, ints, above); exceeds = h.exceeds; priced = λ _. h.costs }
 

@@ -16,14 +16,14 @@ use Rattle.net_paths.specs.Connection.{IsSplit, bus_number}
 use Rattle.refusal_text.specs.declared.refusals.Input.TheVariants as input
 use Rattle.refusal_text.specs.declared.refusals.Refusal.{Refusal}
 use Rattle.refusal_text.specs.declared.refusals.Refusal.TheVariants as refusal
-use Rattle.market_inputs.specs.Cases.{IsJoined, IsJoinedNetwork, joined, matrices_in, network_in, reactances_in, split}
+use Rattle.market_inputs.specs.Cases.{IsJoined, IsJoinedNetwork, joined, matrices_in, network_in, case_reactances, split}
 use Rattle.market_inputs.specs.Checking.{AreInputs, inputs_of}
 use Rattle.market_inputs.specs.Clearing.{IsClearMarket, market_of}
 use Rattle.market_inputs.specs.Files.{SizedGrid, SizedTables, sized}
 use Rattle.market_inputs.specs.Making.{AreFactorInputs}
 use Rattle.market_inputs.specs.Pooling.{IsPoolMarket, pool_of}
 use Rattle.market_inputs.specs.Steps.{Is, Onward, Then}
-use Rattle.market_inputs.specs.Tables.{AreListed, AreOutagesIn, AreTables, cover_in, loss_in, numbers_in, offers_in, offsets_in, penalties_in, reserves_in, shift_in, unit_outages_in}
+use Rattle.market_inputs.specs.Tables.{AreListed, AreOutagesIn, AreTables, cover_in, loss_in, outage_numbers_in, offers_in, offsets_in, penalties_in, reserves_in, shift_in, unit_outages_in}
 use Rattle.market_inputs.proofs.ListingOnce.{list-once}
 use Rattle.market_inputs.proofs.NetworkRows.{network-rows}
 
@@ -85,7 +85,7 @@ module _ (network : LiveNetwork) (kept : HasRows network) where
   listed-once numbers a b h k = h.same ∙ ap (or_as refusal.Outages) (list-once network kept numbers h.listed k.listed h.made k.made h.is k.is) ∙ sym k.same
 
   outages-once : (bytes : Result (List ℕ) Refusal) → OfOne (AreOutagesIn network bytes)
-  outages-once bytes = then-once _ _ (is-once (numbers_in bytes)) (λ numbers _. listed-once numbers)
+  outages-once bytes = then-once _ _ (is-once (outage_numbers_in bytes)) (λ numbers _. listed-once numbers)
 
   tables-once : (places : FactorPlaces) (grid : SizedGrid) → OfOne (AreTables places network grid)
   tables-once places grid =
@@ -115,7 +115,7 @@ pub inputs-once : (places : FactorPlaces) (files : SizedGrid) → OfOne (AreInpu
 inputs-once places files =
     then-once _ _ (is-once (matrices_in files.case))
     (λ matrices _. then-once _ _ (joined-network-once rating.C matrices)
-    (λ network is. then-once _ _ (is-once (reactances_in matrices network))
+    (λ network is. then-once _ _ (is-once (case_reactances matrices network))
     (λ reactances _. then-once _ _ (tables-once network (joined-rows rating.C matrices network is) places files)
     (λ tables _. is-once (Ok (inputs_of network reactances tables))))))
 
@@ -124,6 +124,6 @@ pub factor-inputs-once : (case contingencies : List ℕ) → OfOne (AreFactorInp
 factor-inputs-once case contingencies =
     then-once _ _ (is-once (matrices_in (sized (refusal.TooLong input.Case) case)))
     (λ matrices _. then-once _ _ (joined-network-once rating.C matrices)
-    (λ network is. then-once _ _ (is-once (reactances_in matrices network))
+    (λ network is. then-once _ _ (is-once (case_reactances matrices network))
     (λ reactances _. then-once _ _ (outages-once network (joined-rows rating.C matrices network is) (sized (refusal.TooLong input.Contingencies) contingencies))
     (λ outages _. is-once (Ok (record { network = network; reactances = reactances; outages = outages }))))))

@@ -40,5 +40,5 @@ abbrev pub AreReadBuses : Result (List ℕ) Refusal → Result LiveNetwork Refus
 AreReadBuses bytes told = Then (Is (matrices_in bytes)) (λ matrices. Is (network_in branches.Skip matrices)) told
 
 -- the reactances of a network's live branches
-abbrev pub reactances_in : CaseMatrices → LiveNetwork → Result (List ℤ) Refusal
-reactances_in matrices network = or_as refusal.Network (reactances_of matrices network)
+abbrev pub case_reactances : CaseMatrices → LiveNetwork → Result (List ℤ) Refusal
+case_reactances matrices network = or_as refusal.Network (reactances_of matrices network)

@@ -9,7 +9,7 @@ use Rattle.factor_residuals.specs.Residuals.{AreReactances}
 use Rattle.refusal_text.specs.declared.refusals.Refusal.{Refusal}
 use Rattle.market_inputs.specs.declared.checking.Inputs.{Inputs}
 use Rattle.market_inputs.specs.declared.tables.Tables.{Tables}
-use Rattle.market_inputs.specs.Cases.{IsJoinedNetwork, matrices_in, reactances_in}
+use Rattle.market_inputs.specs.Cases.{IsJoinedNetwork, matrices_in, case_reactances}
 use Rattle.market_inputs.specs.Files.{SizedGrid}
 use Rattle.market_inputs.specs.Steps.{Is, Then}
 use Rattle.market_inputs.specs.Tables.{AreTables}
@@ -22,7 +22,7 @@ inputs_of network reactances tables = record { network = network; reactances = r
 abbrev pub AreInputsOf : FactorPlaces → SizedGrid → CaseMatrices → Result Inputs Refusal → Type 0
 AreInputsOf places grid matrices told =
     Then (IsJoinedNetwork rating.C matrices) (λ network.
-    Then (Is (reactances_in matrices network)) (λ reactances.
+    Then (Is (case_reactances matrices network)) (λ reactances.
     Then (AreTables places network grid) (λ tables.
     Is (Ok (inputs_of network reactances tables))))) told
 

@@ -31,7 +31,7 @@ use Rattle.market_model.specs.Lines.{IsPenalty}
 -- ---- lines
 -- the penalty of the record of a branch's limit, after an outage or in the base; one of nothing where it has none
 abbrev pub softness_for : List PenaltyEntry → ℕ → Bool → Softness
-softness_for penalties row post = unwrap_or (softness_at penalties (row, post)) (record { price = pos 0; excess = pos 0 })
+softness_for penalties row post = unwrap_or (softness_at penalties (row, post)) (record { price = pos 0; most_excess = pos 0 })
 
 -- a live branch with its limits and their penalties, and the offset of its record or 0
 abbrev pub line_of : List OffsetEntry → List PenaltyEntry → NetBranch → Line
@@ -40,9 +40,9 @@ line_of offsets penalties branch = record {
   base = branch.base;
   post = branch.post;
   base_price = (softness_for penalties branch.row false).price;
-  base_most_excess = (softness_for penalties branch.row false).excess;
+  base_most_excess = (softness_for penalties branch.row false).most_excess;
   post_price = (softness_for penalties branch.row true).price;
-  post_most_excess = (softness_for penalties branch.row true).excess;
+  post_most_excess = (softness_for penalties branch.row true).most_excess;
   offset = unwrap_or (offset_at offsets branch.row) (pos 0);
 }
 

@@ -9,3 +9,4 @@ pub mod RightsInputs
 pub mod Steps
 pub mod Stops
 pub mod Tables
+pub mod Texts

@@ -10,7 +10,7 @@ use Rattle.refusal_text.specs.declared.refusals.Input.TheVariants as input
 use Rattle.refusal_text.specs.declared.refusals.Refusal.{Refusal}
 use Rattle.refusal_text.specs.declared.refusals.Refusal.TheVariants as refusal
 use Rattle.market_inputs.specs.declared.making.FactorInputs.{FactorInputs}
-use Rattle.market_inputs.specs.Cases.{IsJoinedNetwork, matrices_in, reactances_in}
+use Rattle.market_inputs.specs.Cases.{IsJoinedNetwork, matrices_in, case_reactances}
 use Rattle.market_inputs.specs.Files.{sized}
 use Rattle.market_inputs.specs.Steps.{Is, Then}
 use Rattle.market_inputs.specs.Tables.{AreOutagesIn}
@@ -19,7 +19,7 @@ use Rattle.market_inputs.specs.Tables.{AreOutagesIn}
 abbrev pub AreFactorInputsOf : Result (List ℕ) Refusal → CaseMatrices → Result FactorInputs Refusal → Type 0
 AreFactorInputsOf contingencies matrices told =
     Then (IsJoinedNetwork rating.C matrices) (λ network.
-    Then (Is (reactances_in matrices network)) (λ reactances.
+    Then (Is (case_reactances matrices network)) (λ reactances.
     Then (AreOutagesIn network contingencies) (λ outages.
     Is (Ok (record { network = network; reactances = reactances; outages = outages }))))) told
 

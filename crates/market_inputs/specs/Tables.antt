@@ -39,8 +39,8 @@ shift_in places network bytes = and_then bytes (λ text. or_as (refusal.Table in
 abbrev pub loss_in : FactorPlaces → LiveNetwork → Result (List ℕ) Refusal → Result FactorRecords Refusal
 loss_in places network bytes = and_then bytes (λ text. or_as (refusal.Table input.Lodf) (loss_of network text places))
 
-abbrev pub numbers_in : Result (List ℕ) Refusal → Result (List ℤ) Refusal
-numbers_in bytes = and_then bytes (λ text. or_as (refusal.Table input.Contingencies) (outage_rows_of text))
+abbrev pub outage_numbers_in : Result (List ℕ) Refusal → Result (List ℤ) Refusal
+outage_numbers_in bytes = and_then bytes (λ text. or_as (refusal.Table input.Contingencies) (outage_rows_of text))
 
 -- numbers as outages of a network, or the first that is none
 pub record AreListed (network : LiveNetwork) (numbers : List ℤ) (told : Result (List ℕ) Refusal) : Type 0 where
@@ -50,7 +50,7 @@ pub record AreListed (network : LiveNetwork) (numbers : List ℤ) (told : Result
   pub same : told ≡ or_as refusal.Outages listed
 
 abbrev pub AreOutagesIn : LiveNetwork → Result (List ℕ) Refusal → Result (List ℕ) Refusal → Type 0
-AreOutagesIn network bytes told = Then (Is (numbers_in bytes)) (AreListed network) told
+AreOutagesIn network bytes told = Then (Is (outage_numbers_in bytes)) (AreListed network) told
 
 -- outages that a market may be asked to stand
 pub record MayBeLost (network : LiveNetwork) (rows : List ℕ) : Type 0 where

@@ -6,7 +6,7 @@ ghost use Rattle.net_case.specs.Networks.{IsNetwork};
 ghost use Rattle.net_paths.specs.Connection.{JoinAll};
 ghost use Rattle.refusal_text.specs.declared.refusals.Input.TheVariants as input;
 ghost use Rattle.refusal_text.specs.declared.refusals.Refusal.TheVariants as refusal;
-ghost use Rattle.market_inputs.specs.Cases.{AreReadBuses, IsJoinedNetwork, IsReadNetwork, matrices_in, network_in, reactances_in};
+ghost use Rattle.market_inputs.specs.Cases.{AreReadBuses, IsJoinedNetwork, IsReadNetwork, matrices_in, network_in, case_reactances};
 ghost use Rattle.market_inputs.specs.Files.{sized};
 ghost use Rattle.market_inputs.specs.Steps.{Is};
 ghost use Rattle.market_inputs.specs.Stops.{IsToldAs};
@@ -82,7 +82,7 @@ pub(crate) fn case_reactances(
     raw: &RawCase<'_>,
     network: &Network,
 ) -> Result<Reactances, InputStop>
-    ensures told { IsToldAs (Is (reactances_in raw.now network.now)) result }
+    ensures told { IsToldAs (Is (case_reactances raw.now network.now)) result }
     ensures fit { IfOk result (AreReactances network.now) }
 {
     Ok(reactances(alloc, raw, network)?)

@@ -18,7 +18,7 @@ mod tables;
 
 pub use checking::{Inputs, check_inputs};
 pub use clearing::clear_market;
-pub use lengths::MOST_BYTES;
+pub use lengths::MOST_FILE;
 pub use making::{FactorInputs, factor_inputs};
 pub use pooling::pool_market;
 pub use replays::{edit_steps, read_certificate};

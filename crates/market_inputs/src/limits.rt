@@ -19,12 +19,12 @@ use std::alloc::Global;
 /// The penalty of a branch's limit, after an outage or in the base; one of nothing where it has no record.
 #[tactic(auto, using(crate::proofs::MarketLemmas::penalty_is))]
 fn softness_for(penalties: &Penalties, row: u32, post: bool) -> Softness
-    ensures penalty { IsPenalty result.price result.excess }
+    ensures penalty { IsPenalty result.price result.most_excess }
     ensures is { result ≡ softness_for penalties.now row post }
 {
     penalties.softness(row, post).unwrap_or(Softness {
         price: 0,
-        excess: 0,
+        most_excess: 0,
     })
 }
 
@@ -40,9 +40,9 @@ fn line_of(branch: &NetBranch, offsets: &Offsets, penalties: &Penalties) -> Line
         base: branch.base,
         post: branch.post,
         base_price: base.price,
-        base_most_excess: base.excess,
+        base_most_excess: base.most_excess,
         post_price: post.price,
-        post_most_excess: post.excess,
+        post_most_excess: post.most_excess,
         offset: offsets.offset(branch.row).unwrap_or(0),
     }
 }

@@ -8,7 +8,7 @@ ghost use Rattle.market_tables.specs.Tables.{grid_lent};
 ghost use Rattle.market_inputs.specs.Files.{sized, sized_grid};
 ghost use Rattle.market_inputs.specs.Steps.{Is};
 ghost use Rattle.market_inputs.specs.Stops.{IsToldAs};
-ghost use Rattle.market_inputs.specs.Tables.{AreOutagesIn, AreTables, MayBeLost, MayLoseUnits, cover_in, loss_in, numbers_in, offsets_in, penalties_in, shift_in, unit_outages_in};
+ghost use Rattle.market_inputs.specs.Tables.{AreOutagesIn, AreTables, MayBeLost, MayLoseUnits, cover_in, loss_in, outage_numbers_in, offsets_in, penalties_in, shift_in, unit_outages_in};
 
 use crate::lengths::check_length;
 use crate::stops::{InputStop, table_stop};
@@ -65,7 +65,7 @@ fn loss_table(
 
 /// The numbers of a table of outages.
 fn numbers_table(alloc: Global, bytes: &[u8]) -> Result<OutageRows, InputStop>
-    ensures told { IsToldAs (Is (numbers_in (sized (refusal.TooLong input.Contingencies) bytes.now))) result }
+    ensures told { IsToldAs (Is (outage_numbers_in (sized (refusal.TooLong input.Contingencies) bytes.now))) result }
     ensures few { IfOk result (λ rows. length rows ≤ most_outages) }
 {
     check_length(bytes, Input::Contingencies)?;

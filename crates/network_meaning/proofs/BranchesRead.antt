@@ -25,7 +25,7 @@ use Rattle.net_case.specs.declared.live_parts.PostRating.TheVariants as post
 use Rattle.net_case.specs.Columns.{BR_STATUS, F_BUS, T_BUS, RATE_A, SHIFT}
 use Rattle.net_case.specs.NetworkReading.{number_in, sign_at, service_in, is_above, is_infinite, is_below_all, rated_limit, limit_in, is_off_zero, shifted_in, post_column, limits_in, branch_where, branch_row, Places, place_of_number, named_place}
 use Rattle.network_meaning.specs.Cells.{cell, IsAmount, IsMegawatts, IsOfSign}
-use Rattle.network_meaning.specs.BranchRows.{IsInfinite, IsLimit, rating_column, IsShifted, IsBranchInService, IsBranch, IsBranchRow}
+use Rattle.network_meaning.specs.BranchRows.{IsInfinite, GivesLimit, rating_column, IsShifted, IsBranchInService, IsBranch, IsBranchRow}
 use Rattle.network_meaning.proofs.CellsRead.{amount-read, read-amount, sign-read, read-sign, service-read, read-service}
 use Rattle.network_meaning.proofs.UnitsRead.{AreFound, named-read}
 
@@ -83,23 +83,23 @@ zero-between (pos zero) low up = refl
 zero-between (pos (suc k)) low up = absurd (grind (arith, common_steps))
 zero-between (negsuc k) low up = absurd cc
 
-rated-read : (row col : ℕ) (text : List ℕ) (n : ℤ) (limit : Option ℤ) → IsMegawatts text n → rated_limit row col n ≡ Ok limit → IsLimit text limit
+rated-read : (row col : ℕ) (text : List ℕ) (n : ℤ) (limit : Option ℤ) → IsMegawatts text n → rated_limit row col n ≡ Ok limit → GivesLimit text limit
 unfolding rated_limit
 rated-read row col text n limit h e = by (lt_z n (pos 0)) refl (lt_z (pos 0) n) refl e
   where
     by : (below : Bool) → lt_z n (pos 0) ≡ below → (above : Bool) → lt_z (pos 0) n ≡ above
-        → (if below then Err (fault.Cell field.Branch row col why.Bounds) else (if above then Ok (Some n) else Ok None)) ≡ Ok limit → IsLimit text limit
+        → (if below then Err (fault.Cell field.Branch row col why.Bounds) else (if above then Ok (Some n) else Ok None)) ≡ Ok limit → GivesLimit text limit
     by true b above a e = absurd cc
-    by false b true a e = subst (IsLimit text) (ok-same (Some n) limit e) (h, lt_z_yes {a = pos 0} {b = n} (rw a tt))
-    by false b false a e = subst (IsLimit text) (ok-same None limit e) (inl (subst (IsMegawatts text) (zero-between n b a) h))
+    by false b true a e = subst (GivesLimit text) (ok-same (Some n) limit e) (h, lt_z_yes {a = pos 0} {b = n} (rw a tt))
+    by false b false a e = subst (GivesLimit text) (ok-same None limit e) (inl (subst (IsMegawatts text) (zero-between n b a) h))
 
-limit-read : (row : ℕ) (r : Record) (col : ℕ) (limit : Option ℤ) → limit_in row r col ≡ Ok limit → IsLimit (cell r col) limit
+limit-read : (row : ℕ) (r : Record) (col : ℕ) (limit : Option ℤ) → limit_in row r col ≡ Ok limit → GivesLimit (cell r col) limit
 unfolding limit_in
 limit-read row r col limit e = by (is_infinite (cell r col)) refl (is_below_all (cell r col)) e
   where
     by : (infinite : Bool) → is_infinite (cell r col) ≡ infinite → (below : Bool)
-        → (if infinite then Ok None else (if below then Err (fault.Cell field.Branch row col why.Bounds) else and_then (number_in field.Branch row r col mw_places) (rated_limit row col))) ≡ Ok limit → IsLimit (cell r col) limit
-    by true i below e = subst (IsLimit (cell r col)) (ok-same None limit e) (inr (infinite-read (cell r col) i))
+        → (if infinite then Ok None else (if below then Err (fault.Cell field.Branch row col why.Bounds) else and_then (number_in field.Branch row r col mw_places) (rated_limit row col))) ≡ Ok limit → GivesLimit (cell r col) limit
+    by true i below e = subst (GivesLimit (cell r col)) (ok-same None limit e) (inr (infinite-read (cell r col) i))
     by false i true e = absurd cc
     by false i false e =
         let t = then-ok (number_in field.Branch row r col mw_places) (rated_limit row col) limit e in
@@ -116,7 +116,7 @@ above-zero : (n : ℤ) → pos 0 <ℤ n → (lt_z n (pos 0) ≡ false) × (lt_z 
 above-zero (pos k) h = (grind (arith, common_steps), by_lt_z (pos 0) (pos k) (λ lt. grind (arith, common_steps, ints)) (λ le. absurd (omega (arith, ints))))
 above-zero (negsuc k) h = absurd (omega (arith, ints))
 
-read-limit : (row : ℕ) (r : Record) (col : ℕ) (limit : Option ℤ) → IsLimit (cell r col) limit → limit_in row r col ≡ Ok limit
+read-limit : (row : ℕ) (r : Record) (col : ℕ) (limit : Option ℤ) → GivesLimit (cell r col) limit → limit_in row r col ≡ Ok limit
 unfolding limit_in rated_limit
 read-limit row r col None (inl h) = read-rated row r col (pos 0) h
 read-limit row r col None (inr h) = rw (read-infinite (cell r col) h) refl
@@ -169,7 +169,7 @@ limits-read rating row r from to branch e = by (from == to) refl e
           ends = λ same. let never : true ≡ false = sym (eq-eqb from to same) ∙ is in cc never;
           row_is = refl;
           base = limit-read row r RATE_A t.0 t.1;
-          post = subst (λ col. IsLimit (cell r col) u.0) (post-column rating) (limit-read row r (post_column rating) u.0 u.1);
+          post = subst (λ col. GivesLimit (cell r col) u.0) (post-column rating) (limit-read row r (post_column rating) u.0 u.1);
           shift = shifted-read row r v.0 v.1;
         })
 
@@ -179,7 +179,7 @@ read-limits rating row r from to branch h =
     let from_is : from ≡ branch.from = cc (h.from_in_service) in
     let to_is : to ≡ branch.to = cc (h.to_in_service) in
     let base = read-limit row r RATE_A branch.base h.base in
-    let after = read-limit row r (post_column rating) branch.post (subst (λ col. IsLimit (cell r col) branch.post) (sym (post-column rating)) h.post) in
+    let after = read-limit row r (post_column rating) branch.post (subst (λ col. GivesLimit (cell r col) branch.post) (sym (post-column rating)) h.post) in
     rw (from_is, to_is, ne_eqb branch.from branch.to h.ends, base, after, read-shifted row r branch.shifted h.shift, ← h.row_is) refl
 
 branch-read : (rating : PostRating) (row : ℕ) (r : Record) (from to : Option ℕ) (s : Sign) (gives : Option NetBranch) → branch_where rating row r from to (is_above s) ≡ Ok gives → IsBranch rating row r from to s gives

@@ -25,7 +25,7 @@ use Rattle.net_case.specs.Networks.{most_bus_number}
 use Rattle.net_case.specs.declared.bus_rows.BusRow as read
 use Rattle.net_case.specs.NetworkReading.{number_in, counted_in, demands_in, live_row, row_of_type, Places, places_from, bus_row_after, bus_row}
 use Rattle.network_meaning.specs.Cells.{cell}
-use Rattle.network_meaning.specs.BusRows.{BusRow, IsBusInService, IsBus, IsBusRow, numbers, AreApart}
+use Rattle.network_meaning.specs.BusRows.{BusRow, IsBusInService, GivesBus, SaysBus, numbers, AreApart}
 use Rattle.network_meaning.proofs.CellsRead.{amount-read, read-amount, IsCounted, counted-read, read-counted}
 
 -- as what a row is read
@@ -52,7 +52,7 @@ read-demands row r number kind bus h =
 
 record TypeRead (r : Record) (number kind : ℕ) (row : read.BusRow) : Type 0 where
   bus : Option Bus
-  is_bus : IsBus r number kind bus
+  is_bus : GivesBus r number kind bus
   row_is : row ≡ as_read (record { number = number; kind = kind; bus = bus })
 
 live-read : (row : ℕ) (r : Record) (number kind : ℕ) (said : read.BusRow) (found : Result Bus NetFault) → kind ≢ 4 → demands_in row r number ≡ found →
@@ -80,14 +80,14 @@ type-read row r number kind said e = by (kind == 4) refl e
         }
     by false is e = live-read row r number kind said (demands_in row r number) (λ four. let no : true ≡ false = sym (eq-eqb kind 4 four) ∙ is in absurd cc) refl e
 
-read-type : (row : ℕ) (r : Record) (number kind : ℕ) (bus : Option Bus) → IsBus r number kind bus → row_of_type row r number kind ≡ Ok (as_read (record { number = number; kind = kind; bus = bus }))
+read-type : (row : ℕ) (r : Record) (number kind : ℕ) (bus : Option Bus) → GivesBus r number kind bus → row_of_type row r number kind ≡ Ok (as_read (record { number = number; kind = kind; bus = bus }))
 unfolding row_of_type
 read-type row r number kind None four = rw four refl
 read-type row r number kind (Some bus) h = rw (ne_eqb kind 4 h.not_isolated, read-demands row r number kind bus h) refl
 
 record RowRead (places : Places) (r : Record) (row : read.BusRow) : Type 0 where
   says : BusRow
-  is : IsBusRow r says
+  is : SaysBus r says
   row_is : row ≡ as_read says
   new : lookup (λ other. says.number == other) places ≡ None
 
@@ -113,7 +113,7 @@ row-read places row r said e =
           new = is;
         }
 
-read-row : (places : Places) (row : ℕ) (r : Record) (says : BusRow) → IsBusRow r says → lookup (λ other. says.number == other) places ≡ None → bus_row_after places row r ≡ Ok (as_read says)
+read-row : (places : Places) (row : ℕ) (r : Record) (says : BusRow) → SaysBus r says → lookup (λ other. says.number == other) places ≡ None → bus_row_after places row r ≡ Ok (as_read says)
 unfolding bus_row_after
 read-row places row r says h new =
     let n = h.number_range in
@@ -153,7 +153,7 @@ row_reader earlier n r = some_of (bus_row earlier n r)
 
 pub record RowsRead (before : List BusRow) (rows : List Record) (all : List read.BusRow) : Type 0 where
   pub says : List BusRow
-  pub are : AllZip IsBusRow rows says
+  pub are : AllZip SaysBus rows says
   pub apart : AreApart (before ++ says)
   pub all_are : all ≡ all_read (before ++ says)
 
@@ -195,7 +195,7 @@ apart-before before says more apart k lt is =
     let second : get_or all (length (numbers before)) says.number ≡ says.number = get_or-append_seam (numbers before) says.number (numbers more) says.number in
     pairs k (length (numbers before)) says.number lt inside (first ∙ sym second)
 
-pub read-rows : (rows : List Record) (says before : List BusRow) (n : ℕ) → AllZip IsBusRow rows says → AreApart (before ++ says) → gather row_reader (all_read before) n rows ≡ Ok (all_read (before ++ says))
+pub read-rows : (rows : List Record) (says before : List BusRow) (n : ℕ) → AllZip SaysBus rows says → AreApart (before ++ says) → gather row_reader (all_read before) n rows ≡ Ok (all_read (before ++ says))
 unfolding gather
 read-rows [] [] before n h apart = ap (λ t. Ok (all_read t)) (sym (append-nil before))
 read-rows [] (s ∷ says) before n h apart = absurd h

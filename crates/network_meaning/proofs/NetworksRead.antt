@@ -21,7 +21,7 @@ use Rattle.net_case.specs.declared.live_parts.NetFault.TheVariants as fault
 use Rattle.net_case.specs.declared.live_parts.NetUnit.{NetUnit}
 use Rattle.net_case.specs.Networks.{LiveNetwork}
 use Rattle.net_case.specs.NetworkReading.{ReadBuses, Places, referenced, reference_of, bus_row, bus_rows, live_buses, places_from, unit_row, branch_row, few_rows, branch_count, branches_in, network_of}
-use Rattle.network_meaning.specs.BusRows.{BusRow, IsBusRow, AreApart, IsReference, IsPlaced}
+use Rattle.network_meaning.specs.BusRows.{BusRow, SaysBus, AreApart, IsReference, IsPlaced}
 use Rattle.network_meaning.specs.Units.{AreGiven, IsGenRow}
 use Rattle.network_meaning.specs.BranchRows.{IsBranchRow}
 use Rattle.network_meaning.specs.LiveNetworks.{AreBranches, IsLiveNetwork}
@@ -47,7 +47,7 @@ read-few most f rows le = let few : nat_lt most (length rows) ≡ false = grind 
 -- ---- bus rows
 record BusesRead (matrix : List Record) (buses : ReadBuses) : Type 0 where
   says : List BusRow
-  are : AllZip IsBusRow matrix says
+  are : AllZip SaysBus matrix says
   apart : AreApart says
   reference : IsReference says buses.reference
   rows_are : buses.rows ≡ all_read says
@@ -73,7 +73,7 @@ buses-read matrix buses e =
       rows_are = r.1 ∙ all.all_are;
     }
 
-read-buses : (matrix : List Record) (says : List BusRow) (reference : ℕ) → AllZip IsBusRow matrix says → AreApart says → IsReference says reference →
+read-buses : (matrix : List Record) (says : List BusRow) (reference : ℕ) → AllZip SaysBus matrix says → AreApart says → IsReference says reference →
     bus_rows matrix ≡ Ok (record { rows = all_read says; reference = reference })
 unfolding bus_rows
 read-buses matrix says reference are apart is =
@@ -131,7 +131,7 @@ module _ (asked : Branches) (case : CaseMatrices) where
   abbrev behind_bus_count : ℕ → Result LiveNetwork NetFault
   behind_bus_count _ = and_then (few_rows most_units field.Gen case.generators) behind_gen_count
 
-  network-live : (says : List BusRow) (reference gen_rows branch_rows : ℕ) (units : List NetUnit) (live : List NetBranch) → length case.bus ≤ 1000 → AllZip IsBusRow case.bus says → AreApart says → IsReference says reference →
+  network-live : (says : List BusRow) (reference gen_rows branch_rows : ℕ) (units : List NetUnit) (live : List NetBranch) → length case.bus ≤ 1000 → AllZip SaysBus case.bus says → AreApart says → IsReference says reference →
       length case.generators ≤ 1000 → gen_rows ≡ length case.generators → units_in (all_read says) ≡ Ok units → branch_count asked case.branch ≡ Ok branch_rows → branches_in asked (places_from 0 (all_read says)) case.branch ≡ Ok live →
       IsLiveNetwork asked case (network_from gen_rows branch_rows (all_read says) reference units live)
   network-live says reference gen_rows branch_rows units live few are apart is few_units counted units_are count branches_are =

@@ -15,7 +15,7 @@ use Rattle.record_reading.specs.Records.{Record}
 use Rattle.record_reading.specs.Gathering.{listed}
 use Rattle.net_case.specs.declared.bus_rows.BusRow as read
 use Rattle.net_case.specs.NetworkReading.{Places, places_from, reference_of, live_buses, next_place}
-use Rattle.network_meaning.specs.BusRows.{BusRow, IsBus, IsBusRow, numbers, AreApart, in_service, IsReference, IsPlace, IsPlaced}
+use Rattle.network_meaning.specs.BusRows.{BusRow, GivesBus, SaysBus, numbers, AreApart, in_service, IsReference, IsPlace, IsPlaced}
 use Rattle.network_meaning.proofs.BusesRead.{all_read}
 
 pub live-read : (rows : List BusRow) → live_buses (all_read rows) ≡ in_service rows
@@ -28,11 +28,11 @@ pub record IsFine (row : BusRow) : Type 0 where
   pub live : row.kind ≡ 3 → IsSome row.bus
   pub range : (1 ≤ row.number) × (row.number ≤ 2147483647)
 
-fine-bus : (r : Record) (number kind : ℕ) (bus : Option Bus) → IsBus r number kind bus → IfSome bus (λ bus. bus.number ≡ number) × (kind ≡ 3 → IsSome bus)
+fine-bus : (r : Record) (number kind : ℕ) (bus : Option Bus) → GivesBus r number kind bus → IfSome bus (λ bus. bus.number ≡ number) × (kind ≡ 3 → IsSome bus)
 fine-bus r number kind None four = (tt, λ three. absurd (omega (arith, three, four)))
 fine-bus r number kind (Some bus) h = (h.number_is, λ _. refl)
 
-pub are-fine : (matrix : List Record) (rows : List BusRow) → AllZip IsBusRow matrix rows → AllByRecursion IsFine rows
+pub are-fine : (matrix : List Record) (rows : List BusRow) → AllZip SaysBus matrix rows → AllByRecursion IsFine rows
 are-fine [] [] h = tt
 are-fine [] (row ∷ rows) h = absurd h
 are-fine (r ∷ matrix) [] h = absurd h

@@ -11,9 +11,9 @@ use Rattle.net_case.specs.declared.live_parts.Branches.{Branches}
 use Rattle.net_case.specs.declared.live_parts.NetUnit.{NetUnit}
 use Rattle.net_case.specs.Networks.{LiveNetwork}
 use Rattle.net_case.specs.NetworkReading.{nearest_0, unit_within, unit_list_of}
-use Rattle.network_meaning.specs.Units.{IsUnit, IsGenRow}
+use Rattle.network_meaning.specs.Units.{GivesUnit, IsGenRow}
 use Rattle.network_meaning.specs.LiveNetworks.{IsLiveNetwork}
-use Rattle.network_meaning.specs.Rooms.{IsNearestZero, HasRoom, HaveRoom}
+use Rattle.network_meaning.specs.Rooms.{IsNearestZero, HasUnitRoom, HaveUnitRooms}
 
 -- ---- sizes
 larger-above : (low other : ℤ) → pos 0 <ℤ low → low ≤ℤ other → unsigned_abs low ≤ unsigned_abs other
@@ -35,7 +35,7 @@ nearest low high order = by (lt_z (pos 0) low) refl (lt_z high (pos 0)) refl
     by false a true b = record { from = order; to = omega (arith, ints); nearest = λ other ge le. larger-below high other (lt_z_yes {a = high} {b = pos 0} (rw b tt)) le }
     by false a false b = record { from = lt_z_no {a = pos 0} {b = low} (rw a tt); to = lt_z_no {a = high} {b = pos 0} (rw b tt); nearest = λ other ge le. omega arith }
 
-has-room : (unit : NetUnit) → unit.low ≤ℤ unit.high → HasRoom unit (unit_within unit)
+has-room : (unit : NetUnit) → unit.low ≤ℤ unit.high → HasUnitRoom unit (unit_within unit)
 unfolding unit_within
 has-room unit order = record { row_is = refl; bus_is = refl; fixed = nearest unit.low unit.high order; to_sell = refl; to_buy = refl }
 
@@ -43,11 +43,11 @@ has-room unit order = record { row_is = refl; bus_is = refl; fixed = nearest uni
 abbrev IsOrdered : NetUnit → Type 0
 IsOrdered unit = unit.low ≤ℤ unit.high
 
-have-room : (units : List NetUnit) → AllByRecursion IsOrdered units → AllZip HasRoom units (map unit_within units)
+have-room : (units : List NetUnit) → AllByRecursion IsOrdered units → AllZip HasUnitRoom units (map unit_within units)
 have-room [] ordered = tt
 have-room (unit ∷ units) ordered = (has-room unit ordered.0, have-room units ordered.1)
 
-ordered-more : (number : ℕ) (row : Record) (place : Option ℕ) (status : Sign) (gives : Option NetUnit) (more : List (Option NetUnit)) → IsUnit number row place status gives →
+ordered-more : (number : ℕ) (row : Record) (place : Option ℕ) (status : Sign) (gives : Option NetUnit) (more : List (Option NetUnit)) → GivesUnit number row place status gives →
     AllByRecursion IsOrdered (filter_map (λ item. item) more) → AllByRecursion IsOrdered (filter_map (λ item. item) (gives ∷ more))
 ordered-more number row place status None more h rest = rest
 ordered-more number row place status (Some unit) more h rest = (h.order, rest)
@@ -59,7 +59,7 @@ ordered-from buses [] number (x ∷ given) h = absurd h
 ordered-from buses (row ∷ rows) number [] h = absurd h
 ordered-from buses (row ∷ rows) number (x ∷ given) h = let here = h.0 in ordered-more number row here.place here.status x given here.unit (ordered-from buses rows (number + 1) given h.1)
 
-pub rooms : (asked : Branches) (case : CaseMatrices) (network : LiveNetwork) → IsLiveNetwork asked case network → HaveRoom network (unit_list_of network)
+pub rooms : (asked : Branches) (case : CaseMatrices) (network : LiveNetwork) → IsLiveNetwork asked case network → HaveUnitRooms network (unit_list_of network)
 rooms asked case network h =
     let given = h.units in
     record {

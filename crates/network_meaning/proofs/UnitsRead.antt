@@ -25,7 +25,7 @@ use Rattle.net_case.specs.Columns.{GEN_BUS, GEN_STATUS, PMAX, PMIN}
 use Rattle.net_case.specs.Networks.{most_bus_number}
 use Rattle.net_case.specs.NetworkReading.{number_in, service_in, is_above, Places, places_from, place_of_number, named_place, bounds_in, unit_where, unit_row}
 use Rattle.network_meaning.specs.BusRows.{BusRow, numbers, AreApart}
-use Rattle.network_meaning.specs.Units.{IsUnitInService, IsUnit, IsGenRow}
+use Rattle.network_meaning.specs.Units.{IsUnitInService, GivesUnit, IsGenRow}
 use Rattle.network_meaning.proofs.CellsRead.{amount-read, read-amount, service-read, read-service, between, is_between}
 use Rattle.network_meaning.proofs.BusesRead.{all_read, keys-read}
 use Rattle.network_meaning.proofs.Places.{IsFine, Differ}
@@ -110,16 +110,16 @@ read-bounds row r bus unit h =
     rw (read-amount field.Gen row r PMAX mw_places unit.high h.pmax, read-amount field.Gen row r PMIN mw_places unit.low h.pmin, not_less unit.high unit.low h.order, ← h.row_is, at) refl
 
 -- ---- a unit
-unit-read : (row : ℕ) (r : Record) (place : Option ℕ) (s : Sign) (gives : Option NetUnit) → unit_where row r place (is_above s) ≡ Ok gives → IsUnit row r place s gives
+unit-read : (row : ℕ) (r : Record) (place : Option ℕ) (s : Sign) (gives : Option NetUnit) → unit_where row r place (is_above s) ≡ Ok gives → GivesUnit row r place s gives
 unfolding unit_where
-unit-read row r None s gives e = subst (IsUnit row r None s) (ok-same None gives e) (inl refl)
-unit-read row r (Some bus) sign.Below gives e = subst (IsUnit row r (Some bus) sign.Below) (ok-same None gives e) (inr (λ above. cc above))
-unit-read row r (Some bus) sign.Zero gives e = subst (IsUnit row r (Some bus) sign.Zero) (ok-same None gives e) (inr (λ above. cc above))
+unit-read row r None s gives e = subst (GivesUnit row r None s) (ok-same None gives e) (inl refl)
+unit-read row r (Some bus) sign.Below gives e = subst (GivesUnit row r (Some bus) sign.Below) (ok-same None gives e) (inr (λ above. cc above))
+unit-read row r (Some bus) sign.Zero gives e = subst (GivesUnit row r (Some bus) sign.Zero) (ok-same None gives e) (inr (λ above. cc above))
 unit-read row r (Some bus) sign.Above gives e =
     let t = some-ok (bounds_in row r bus) gives e in
-    subst (IsUnit row r (Some bus) sign.Above) (sym t.2) (bounds-read row r bus t.0 t.1)
+    subst (GivesUnit row r (Some bus) sign.Above) (sym t.2) (bounds-read row r bus t.0 t.1)
 
-read-unit : (row : ℕ) (r : Record) (place : Option ℕ) (s : Sign) (gives : Option NetUnit) → IsUnit row r place s gives → unit_where row r place (is_above s) ≡ Ok gives
+read-unit : (row : ℕ) (r : Record) (place : Option ℕ) (s : Sign) (gives : Option NetUnit) → GivesUnit row r place s gives → unit_where row r place (is_above s) ≡ Ok gives
 unfolding unit_where
 read-unit row r None s None h = refl
 read-unit row r None s (Some unit) h = absurd (cc (h.bus_in_service))

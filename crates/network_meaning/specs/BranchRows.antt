@@ -14,9 +14,9 @@ abbrev pub IsInfinite : List ℕ → Type 0
 IsInfinite text = (text ≡ codes "Inf") ⊎ (text ≡ codes "inf") ⊎ (text ≡ codes "+Inf") ⊎ (text ≡ codes "+inf")
 
 -- A rating of 0 or of infinity means no limit; one above 0 is the limit.
-abbrev pub IsLimit : List ℕ → Option ℤ → Type 0
-IsLimit text None = IsMegawatts text (pos 0) ⊎ IsInfinite text
-IsLimit text (Some limit) = IsMegawatts text limit × (pos 0 <ℤ limit)
+abbrev pub GivesLimit : List ℕ → Option ℤ → Type 0
+GivesLimit text None = IsMegawatts text (pos 0) ⊎ IsInfinite text
+GivesLimit text (Some limit) = IsMegawatts text limit × (pos 0 <ℤ limit)
 
 -- The limit after an outage is the rating that is asked for.
 abbrev pub rating_column : PostRating → ℕ
@@ -36,8 +36,8 @@ pub record IsBranchInService (rating : PostRating) (number : ℕ) (row : Record)
   pub to_in_service : to ≡ Some branch.to
   pub ends : branch.from ≢ branch.to
   pub row_is : branch.row ≡ number
-  pub base : IsLimit (cell row RATE_A) branch.base
-  pub post : IsLimit (cell row (rating_column rating)) branch.post
+  pub base : GivesLimit (cell row RATE_A) branch.base
+  pub post : GivesLimit (cell row (rating_column rating)) branch.post
   pub shift : IsShifted (cell row SHIFT) branch.shifted
 
 -- A branch is in service where its BR_STATUS is above 0 and both its buses are in service. Ratings and SHIFT of one out of service are not

@@ -4,6 +4,7 @@ use Rattle.std.specs.List.{AllByRecursion, filter_map}
 use Rattle.market_data.specs.declared.participants.Bus.{Bus}
 use Rattle.record_reading.specs.Records.{Record}
 use Rattle.net_case.specs.Columns.{BUS_I, BUS_TYPE, PD, GS}
+use Rattle.net_case.specs.Networks.{most_bus_number}
 use Rattle.network_meaning.specs.Cells.{cell, IsWhole, IsMegawatts}
 
 -- What a bus row says:
@@ -23,17 +24,17 @@ pub record IsBusInService (row : Record) (number kind : ℕ) (bus : Bus) : Type 
   pub gs : IsMegawatts (cell row GS) bus.gs
 
 -- PD and GS of an isolated bus are not read.
-abbrev pub IsBus : Record → ℕ → ℕ → Option Bus → Type 0
-IsBus row number kind None = kind ≡ 4
-IsBus row number kind (Some bus) = IsBusInService row number kind bus
+abbrev pub GivesBus : Record → ℕ → ℕ → Option Bus → Type 0
+GivesBus row number kind None = kind ≡ 4
+GivesBus row number kind (Some bus) = IsBusInService row number kind bus
 
 -- the row says this
-pub record IsBusRow (row : Record) (says : BusRow) : Type 0 where
+pub record SaysBus (row : Record) (says : BusRow) : Type 0 where
   pub number : IsWhole (cell row BUS_I) (pos says.number)
-  pub number_range : (1 ≤ says.number) × (says.number ≤ 2147483647)
+  pub number_range : (1 ≤ says.number) × (says.number ≤ most_bus_number)
   pub kind : IsWhole (cell row BUS_TYPE) (pos says.kind)
   pub kind_range : (1 ≤ says.kind) × (says.kind ≤ 4)
-  pub bus : IsBus row says.number says.kind says.bus
+  pub bus : GivesBus row says.number says.kind says.bus
 
 abbrev pub numbers : List BusRow → List ℕ
 numbers rows = map (λ row. row.number) rows

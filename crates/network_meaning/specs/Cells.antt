@@ -12,6 +12,7 @@ use Rattle.fraction_theory.specs.declared.Sign.{Sign}
 use Rattle.fraction_theory.specs.Signs.{sign_of}
 use Rattle.scaled_decimal.specs.Decimal.{Denotes}
 use Rattle.record_reading.specs.Records.{Record}
+use Rattle.market_data.specs.Scales.{mw_places}
 
 -- the text of a row's cell, the first column being 1
 abbrev pub cell : Record → ℕ → List ℕ
@@ -27,7 +28,7 @@ IsWhole text n = IsAmount 0 text n
 
 -- MW, in units of 10^-9
 abbrev pub IsMegawatts : List ℕ → ℤ → Type 0
-IsMegawatts text n = IsAmount 9 text n
+IsMegawatts text n = IsAmount mw_places text n
 
 -- The text is a decimal whose value has this sign: `Below` 0, `Zero` or `Above` 0. Its size and its fineness do not matter.
 abbrev pub IsOfSign : List ℕ → Sign → Type 0

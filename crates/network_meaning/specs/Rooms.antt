@@ -14,7 +14,7 @@ pub record IsNearestZero (pmin pmax number : ℤ) : Type 0 where
 
 -- A unit has a fixed part, the number of [PMIN, PMAX] nearest 0. Its sell blocks may have PMAX less the fixed part in all, its buy blocks
 -- the fixed part less PMIN.
-pub record HasRoom (unit : NetUnit) (has : kept.Unit) : Type 0 where
+pub record HasUnitRoom (unit : NetUnit) (has : kept.Unit) : Type 0 where
   pub row_is : has.row ≡ unit.row
   pub bus_is : has.bus ≡ unit.bus
   pub fixed : IsNearestZero unit.low unit.high has.fixed
@@ -22,6 +22,6 @@ pub record HasRoom (unit : NetUnit) (has : kept.Unit) : Type 0 where
   pub to_buy : has.down ≡ has.fixed -ℤ unit.low
 
 -- the units in service with their room, and how many gen rows there are
-pub record HaveRoom (network : LiveNetwork) (list : UnitList) : Type 0 where
+pub record HaveUnitRooms (network : LiveNetwork) (list : UnitList) : Type 0 where
   pub rows : list.rows ≡ network.gen_rows
-  pub units : AllZip HasRoom network.units list.units
+  pub units : AllZip HasUnitRoom network.units list.units

@@ -24,9 +24,9 @@ pub record IsUnitInService (number : ℕ) (row : Record) (place : Option ℕ) (s
   pub order : unit.low ≤ℤ unit.high
 
 -- A unit is in service where its GEN_STATUS is above 0 and its bus is in service. PMAX and PMIN of one out of service are not read.
-abbrev pub IsUnit : ℕ → Record → Option ℕ → Sign → Option NetUnit → Type 0
-IsUnit number row place status None = (place ≡ None) ⊎ (status ≢ sign.Above)
-IsUnit number row place status (Some unit) = IsUnitInService number row place status unit
+abbrev pub GivesUnit : ℕ → Record → Option ℕ → Sign → Option NetUnit → Type 0
+GivesUnit number row place status None = (place ≡ None) ⊎ (status ≢ sign.Above)
+GivesUnit number row place status (Some unit) = IsUnitInService number row place status unit
 
 -- GEN_BUS is the number of a bus row, and GEN_STATUS is read by its sign. `buses` are the numbers of the bus rows with the places of their
 -- buses.
@@ -37,4 +37,4 @@ pub record IsGenRow (buses : List (ℕ × Option ℕ)) (number : ℕ) (row : Rec
   pub gen_bus : IsWhole (cell row GEN_BUS) (pos bus)
   pub has_row : Contains buses (bus, place)
   pub gen_status : IsOfSign (cell row GEN_STATUS) status
-  pub unit : IsUnit number row place status gives
+  pub unit : GivesUnit number row place status gives

@@ -6,7 +6,7 @@ ghost use Rattle.net_case.specs.Networks.{LiveNetwork};
 ghost use Rattle.net_case.specs.NetworkReading.{network_of, unit_list_of};
 ghost use Rattle.net_case.specs.declared.live_parts.Branches.{Branches};
 ghost use Rattle.network_meaning.specs.LiveNetworks.{IsLiveNetwork};
-ghost use Rattle.network_meaning.specs.Rooms.{HaveRoom};
+ghost use Rattle.network_meaning.specs.Rooms.{HaveUnitRooms};
 ghost use Rattle.network_meaning.specs.Worked.{WorkedCases};
 
 /// What is read of a case is its live network.
@@ -26,7 +26,7 @@ pub fn one_network()
 
 /// The units of a live network are told with their fixed parts and their room.
 pub fn units_have_room()
-    ensures { (read : Branches) (case : CaseMatrices) (network : LiveNetwork) → IsLiveNetwork read case network → HaveRoom network (unit_list_of network) }
+    ensures { (read : Branches) (case : CaseMatrices) (network : LiveNetwork) → IsLiveNetwork read case network → HaveUnitRooms network (unit_list_of network) }
 {}
 
 /// A worked case has its live network, and others have none.

@@ -26,9 +26,10 @@ use Rattle.offer_book.specs.declared.edit_parts.Edit.TheVariants as edit
 use Rattle.offer_book.specs.declared.edit_parts.EditFault.TheVariants as fault
 use Rattle.offer_book.specs.OfferTable.{follows}
 use Rattle.offer_book.specs.Edits.{is_block_of, blocks_of_side, place_of_block, price_of_block, place_of_limit, rival, rival_of, judge_quantity, step_of}
-use Rattle.offer_book.specs.EditLaws.{InOrder, HasOfferCurves, LawOfOfferCurves, LawOfEditedCurves, block_prices}
+use Rattle.offer_book.specs.EditLaws.{HasOfferCurves, LawOfOfferCurves, LawOfEditedCurves, block_prices}
 use Rattle.offer_book.proofs.CurveLemmas.{follows_order, order-set, filter-set_off, filter-set_on, map-filter-set, filter-places}
 use Rattle.offer_book.proofs.EditedMarkets.{IsNamed, named, block_inside, quantity_kept, stepped}
+use Rattle.offer_book.specs.Offers.{InOrder}
 
 -- ---- a price that no other breaks against
 -- it follows the one before, and the one after follows it

@@ -13,7 +13,7 @@ use Rattle.market_model.specs.declared.participants.Side.TheVariants.{Sell, Buy}
 use Rattle.market_model.specs.Dispatch.{places}
 use Rattle.market_model.proofs.MorePlaces.{places_more}
 use Rattle.offer_book.specs.OfferTable.{follows}
-use Rattle.offer_book.specs.EditLaws.{InOrder}
+use Rattle.offer_book.specs.Offers.{InOrder}
 
 -- ---- the order of prices
 pub order_trans : (side : Side) (a b c : ℤ) → InOrder side a b → InOrder side b c → InOrder side a c

@@ -20,10 +20,11 @@ use Rattle.market_model.specs.Stairs.{is_on_stair, stair_in, offered, room_of}
 use Rattle.market_model.proofs.ChangeLemmas.{on_stair}
 use Rattle.offer_book.specs.declared.offer_table.Offer.{Offer}
 use Rattle.offer_book.specs.declared.offer_table.OfferFault.TheVariants as fault
-use Rattle.offer_book.specs.OfferTable.{header, offer_in, row_in, block_after, block_where, block_in, unit_of_place, follows, last_price, blocks_of_table}
-use Rattle.offer_book.specs.EditLaws.{InOrder, block_prices, LawOfOfferTables}
+use Rattle.offer_book.specs.OfferTable.{offer_header, offer_in, row_in, block_after, block_where, block_in, unit_of_place, follows, last_price, blocks_of_table}
+use Rattle.offer_book.specs.EditLaws.{block_prices, LawOfOfferTables}
 use Rattle.offer_book.proofs.CurveLemmas.{last_follows}
 use Rattle.offer_book.proofs.RoomLemmas.{room-none, room-records}
+use Rattle.offer_book.specs.Offers.{InOrder}
 
 -- the prices of each stair are in order
 abbrev AreInOrder : List Block → Type 0
@@ -104,7 +105,7 @@ order-none place side i j d below inside = absurd (Prim.omega (arith, inside))
 pub law_of_offer_tables : LawOfOfferTables
 unfolding blocks_of_table
 law_of_offer_tables list bytes blocks sides e =
-    let records = then-ok (framed fault.Frame header (Some most_blocks) bytes) (gather (block_in list) [] 2) blocks e in
+    let records = then-ok (framed fault.Frame offer_header (Some most_blocks) bytes) (gather (block_in list) [] 2) blocks e in
     let order : AreInOrder blocks = order-records list [] 2 records.0 blocks records.2 order-none in
     let room = room-records list [] 2 records.0 blocks records.2 (room-none list.units sides) in
     λ place side h. record { monotone = order place side; room = room place _ h side }

@@ -8,13 +8,12 @@ use Rattle.market_data.specs.declared.participants.UnitList.{UnitList}
 use Rattle.market_model.specs.declared.participants.Block.{Block}
 use Rattle.market_model.specs.declared.participants.Parts.{Parts}
 use Rattle.market_model.specs.declared.participants.Side.{Side}
-use Rattle.market_model.specs.declared.participants.Side.TheVariants.{Sell, Buy}
 use Rattle.market_model.specs.Frame.{SameFrame}
 use Rattle.market_model.specs.Market.{IsMarket}
 use Rattle.market_model.specs.Stairs.{stair_in, offered, room_of}
 use Rattle.offer_book.specs.declared.edit_parts.Edit.{Edit}
 use Rattle.offer_book.specs.Edits.{number_of, step_of}
-use Rattle.offer_book.specs.Offers.{HasSides}
+use Rattle.offer_book.specs.Offers.{HasSides, InOrder}
 use Rattle.offer_book.specs.OfferTable.{blocks_of_table, unit_of_place}
 
 -- ---- edited markets
@@ -27,11 +26,6 @@ abbrev pub HaveData : List Edit → Type 0
 HaveData edits = All (λ e. IsDatum (number_of e)) edits
 
 -- ---- offer curves
--- of two prices of a side, that the second may come after the first
-abbrev pub InOrder : Side → ℤ → ℤ → Type 0
-InOrder Sell first second = first ≤ℤ second
-InOrder Buy first second = second ≤ℤ first
-
 abbrev pub block_prices : List Block → List ℤ
 block_prices blocks = map (λ block. block.price) blocks
 

@@ -77,9 +77,9 @@ block_in list blocks line r =
     and_then (row_in list.rows line offer.unit) (λ row.
     block_where list.units blocks line offer (position (λ u. u.row == row) list.units)))
 
-abbrev pub header : Record
-header = codes "unit" ∷ codes "side" ∷ codes "mw" ∷ codes "price" ∷ []
+abbrev pub offer_header : Record
+offer_header = codes "unit" ∷ codes "side" ∷ codes "mw" ∷ codes "price" ∷ []
 
 -- the blocks that the bytes stand for, in the order of their records
 unfoldable pub blocks_of_table : UnitList → List ℕ → Result (List Block) OfferFault
-blocks_of_table units bytes = and_then (framed fault.Frame header (Some most_blocks) bytes) (gather (block_in units) [] 2)
+blocks_of_table units bytes = and_then (framed fault.Frame offer_header (Some most_blocks) bytes) (gather (block_in units) [] 2)

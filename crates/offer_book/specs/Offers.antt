@@ -20,11 +20,15 @@ pub record OfferIsRead (offer : Offer) : Type 0 where
   pub quantity : IsDatum offer.quantity
   pub price : IsDatum offer.price
 
--- a sell's price is not below the last one of its stair, a buy's not above
+-- of two prices of a side, that the second may come after the first: a sell's price is not below it, a buy's not above
+abbrev pub InOrder : Side → ℤ → ℤ → Type 0
+InOrder Sell first second = first ≤ℤ second
+InOrder Buy first second = second ≤ℤ first
+
+-- a price may come after the last one of its stair, where there is one
 abbrev pub MayFollow : Side → Option ℤ → ℤ → Type 0
 MayFollow side None price = Unit {0}
-MayFollow Sell (Some last) price = last ≤ℤ price
-MayFollow Buy (Some last) price = price ≤ℤ last
+MayFollow side (Some last) price = InOrder side last price
 
 -- a stair of at most so many blocks
 abbrev pub StairIsBounded : ℕ → Stair → Type 0

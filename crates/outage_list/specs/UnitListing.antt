@@ -59,13 +59,13 @@ PicksUpAll outages = (k : ℕ) → k < length outages.lost → int_sum (λ p. if
 
 -- ---- the table
 -- the gen row of the live unit at a place
-abbrev pub row_at : LiveNetwork → ℕ → ℕ
-row_at network place = option_map_or (λ unit. unit.row) (slice_get network.units place) 0
+abbrev pub gen_row_at : LiveNetwork → ℕ → ℕ
+gen_row_at network place = option_map_or (λ unit. unit.row) (slice_get network.units place) 0
 
 -- the outages, where of each unit that is lost all is picked up
 unfoldable pub listed_by : LiveNetwork → List UnitPickup → Result UnitOutages UnitOutageFault
 listed_by network unit_pickups =
-    option_map_or (λ u. Err (fault.ShareSum (row_at network u) (share_sum unit_pickups u))) (find (is_uneven unit_pickups) (lost_units unit_pickups))
+    option_map_or (λ u. Err (fault.ShareSum (gen_row_at network u) (share_sum unit_pickups u))) (find (is_uneven unit_pickups) (lost_units unit_pickups))
     (Ok (record { lost = lost_units unit_pickups; pickups = map (pickup_of (lost_units unit_pickups)) unit_pickups }))
 
 abbrev pub unit_outage_header : Record

@@ -5,7 +5,7 @@ ghost use Rattle.std.specs.List.{find};
 ghost use Rattle.market_data.specs.Scales.{most_pickups};
 ghost use Rattle.market_model.specs.Market.{AreUnitOutages};
 ghost use Rattle.outage_list.specs.PickupRecords.{IsUnitPickup};
-ghost use Rattle.outage_list.specs.UnitListing.{PicksUpAll, is_uneven, listed_by, lost_units, lost_place, pickup_of, row_at, share_in, share_sum, unit_outages_of, with_unit};
+ghost use Rattle.outage_list.specs.UnitListing.{PicksUpAll, is_uneven, listed_by, lost_units, lost_place, pickup_of, gen_row_at, share_in, share_sum, unit_outages_of, with_unit};
 
 use crate::UnitOutageFault;
 use crate::pickup_records::{UnitPickup, unit_pickups_of};
@@ -140,7 +140,7 @@ fn pickups_of(
 
 /// The gen row of the live unit at a place.
 fn row_at(network: &Network, place: usize) -> u32
-    ensures { result ≡ row_at network.now place }
+    ensures { result ≡ gen_row_at network.now place }
 {
     match network.units().slice().get(place) {
         Some(unit) => unit.row,

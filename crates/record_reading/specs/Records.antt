@@ -12,4 +12,4 @@ cell_of r col = get_or r col []
 -- the number of the first record that has not so many cells, where the first record's number is given
 unfoldable pub first_ragged : ℕ → ℕ → List Record → Option ℕ
 first_ragged width number [] = None
-first_ragged width number (r ∷ rows) = if length r == width then first_ragged width (number + 1) rows else Some number
+first_ragged width number (r ∷ records) = if length r == width then first_ragged width (number + 1) records else Some number

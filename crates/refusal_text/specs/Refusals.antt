@@ -37,6 +37,7 @@ use Rattle.refusal_text.specs.declared.refusals.Input.{Input}
 use Rattle.refusal_text.specs.declared.refusals.Input.TheVariants as input
 use Rattle.refusal_text.specs.declared.refusals.Refusal.{Refusal}
 use Rattle.refusal_text.specs.declared.refusals.Refusal.TheVariants as refusal
+use Rattle.market_data.specs.Scales.{share_places}
 
 abbrev pub field_name : Field → List ℕ
 field_name field.Version = codes "version"
@@ -141,7 +142,7 @@ unit_outage_words (unit_outage_fault.DeadUnit line) = codes "DeadUnit" ++ codes 
 unit_outage_words (unit_outage_fault.SameUnit line) = codes "SameUnit" ++ codes " line " ++ decimal line
 unit_outage_words (unit_outage_fault.Share line) = codes "Share" ++ codes " line " ++ decimal line
 unit_outage_words (unit_outage_fault.Twice line) = codes "Twice" ++ codes " line " ++ decimal line
-unit_outage_words (unit_outage_fault.ShareSum unit sum) = codes "ShareSum unit " ++ decimal unit ++ codes " sum " ++ decimal_text 6 sum
+unit_outage_words (unit_outage_fault.ShareSum unit sum) = codes "ShareSum unit " ++ decimal unit ++ codes " sum " ++ decimal_text share_places sum
 unit_outage_words unit_outage_fault.Memory = []
 
 -- what the two tables of factors lack

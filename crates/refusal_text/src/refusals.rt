@@ -3,12 +3,14 @@
 ghost use Rattle.std.specs.Prelude.{◌≡◌, ◌++◌, codes, decimal, IfOk};
 ghost use Rattle.line_text.specs.Decimals.{decimal_text};
 ghost use Rattle.refusal_text.specs.Refusals.{field_name, why_name, case_words, net_words, frame_words, table_words, side_text, outage_words, unit_outage_words, lack_words, factor_words, offer_words, reserve_words, rights_words, step_words, key_name, input_name, file_name, fault_words, refusal_words, refusal_line};
+ghost use Rattle.market_data.specs.Scales.{share_places};
 
 use case_text::{CaseFault, Field};
 use cert_format::Key;
 use edit_table::StepFault;
 use factor_tables::{TableFault, Uncovered};
 use line_text::Text;
+use market_data::SHARE_PLACES;
 use net_case::NetFault;
 use offer_book::{OfferFault, ReserveFault};
 use outage_list::{OutageFault, UnitOutageFault};
@@ -325,11 +327,11 @@ fn write_outage_fault(text: &mut Text, fault: &OutageFault) -> Result<(), Memory
 /// A unit, and the sum of the shares of what is picked up of its output, in 10^-6.
 #[tactic(auto, using(std::proofs::Common::append_assoc))]
 fn write_share_sum(text: &mut Text, unit: u32, sum: i64) -> Result<(), Memory>
-    ensures { IfOk result (λ _. text.new ≡ text.old ++ codes "ShareSum unit " ++ decimal unit ++ codes " sum " ++ decimal_text 6 sum) }
+    ensures { IfOk result (λ _. text.new ≡ text.old ++ codes "ShareSum unit " ++ decimal unit ++ codes " sum " ++ decimal_text share_places sum) }
 {
     numbered(text, b"ShareSum unit ", unit as usize)?;
     text.word(b" sum ")?;
-    text.decimal(i128::from(sum), 6)
+    text.decimal(i128::from(sum), SHARE_PLACES)
 }
 
 #[tactic(auto, using(std::proofs::Common::append_assoc), unfolding(crate::specs::Refusals::unit_outage_words))]

@@ -5,6 +5,7 @@ use Rattle.std.proofs.Common.{refl, sym, subst, ◌∙◌}
 use Rattle.fraction_theory.specs.Fraction.{Fraction}
 use Rattle.outside_store.specs.Files.{Files}
 use Rattle.cert_format.specs.declared.certificate.Cert.{Cert}
+use Rattle.cert_format.specs.Certificates.{most_part}
 use Rattle.clap.specs.Words as clap_words
 use Rattle.market_model.specs.declared.participants.Parts.{Parts}
 use Rattle.refusal_text.specs.declared.refusals.Refusal.{Refusal}
@@ -12,11 +13,12 @@ use Rattle.market_inputs.specs.Files.{sized_grid}
 use Rattle.market_inputs.specs.declared.checking.Inputs.{Inputs}
 use Rattle.market_inputs.specs.declared.making.FactorInputs.{FactorInputs}
 use Rattle.market_inputs.proofs.OnceLemmas.{OfOne, factor-inputs-once, inputs-once, pool-once}
+use Rattle.market_inputs.specs.Texts.{IsLimited, IsCheck}
 use Rattle.command_words.specs.Words.{AsksClear, AsksMake, AsksPool, CheckNames, Enters, FactorNames, GridNames, MarketNames, refuses}
 use Rattle.command_words.proofs.WordsLemmas.{asks-once, checks-once, clears-once, enters-one, factors-once, makes-once, migrates-once, names-apart, replays-once, rights-once, verifies-once}
 use Rattle.command_answers.specs.Checking.{TellsCheck}
-use Rattle.command_answers.specs.Clearing.{TellsClear, most_size}
-use Rattle.command_answers.specs.Inputs.{AreEntitled, IsCertificate, IsCertified, IsCheck, IsFactorWork, IsLimited, IsReplayed, MarketCertificate, MarketRights, MarketSteps}
+use Rattle.command_answers.specs.Clearing.{TellsClear}
+use Rattle.command_answers.specs.Inputs.{AreEntitled, IsCertificate, IsCertified, IsFactorWork, IsReplayed, MarketCertificate, MarketRights, MarketSteps}
 use Rattle.command_answers.specs.Migrating.{TellsMigration}
 use Rattle.command_answers.specs.Replaying.{TellsReplay}
 use Rattle.command_answers.specs.Rights.{TellsRights}
@@ -25,11 +27,11 @@ use Rattle.command_answers.specs.Tellings.{ComesTo, Telling, Tells}
 use Rattle.command_answers.specs.Verifying.{TellsVerdict}
 use Rattle.command_answers.proofs.RoundTripLemmas.{certified-once, entitled-once, limited-once, replayed-once}
 use Rattle.sced.specs.Asked.{AsksForFactors, AsksForRights, AsksToCheck, AsksToClear, AsksToMigrate, AsksToReplay, AsksToVerify, as_clear, as_pool}
-use Rattle.edit_table.specs.EditTable.{header as edit_header}
+use Rattle.edit_table.specs.EditTable.{edit_header}
 use Rattle.factor_tables.specs.OutageNumbers.{outage_header}
 use Rattle.market_tables.specs.Tables.{GridTexts, MarketTexts}
 use Rattle.market_tables.proofs.EachLemmas.{same-grid, same-tables}
-use Rattle.command_files.specs.Reading.{HaveGridTexts, HaveTexts, IsTable, Source, grid_sources, header_alone, in_file, source_of, table_sources}
+use Rattle.command_files.specs.Reading.{HaveGridTexts, HaveTexts, IsTableFile, Source, grid_sources, header_alone, in_file, source_of, table_sources}
 use Rattle.sced.specs.Told.{AnswersTo, checked, cleared, entitled, factored, made, migrated, pooled, refused, replayed, verified}
 use Rattle.command_files.specs.Standing.{AreCheckFiles, AreClearFiles, AreFactorFiles, ArePoolFiles, AreReplayFiles, AreRightsFiles, AreVerifyFiles, IsMigratedFile, TellsFactorsOf}
 
@@ -37,12 +39,12 @@ use Rattle.command_files.specs.Standing.{AreCheckFiles, AreClearFiles, AreFactor
 pub same-bytes : (a b : List ℕ) (o : Option (List ℕ)) → o ≡ Some a → o ≡ Some b → a ≡ b
 same-bytes a b o first second = Prim.cc
 
-pub same-table : (files : Files) (source : Source) (a b : List ℕ) → IsTable files source a → IsTable files source b → a ≡ b
+pub same-table : (files : Files) (source : Source) (a b : List ℕ) → IsTableFile files source a → IsTableFile files source b → a ≡ b
 same-table files (in_file name) a b first second = same-bytes a b (files name) first second
 same-table files (header_alone header) a b first second = first ∙ sym second
 
 same-texts : (files : Files) (names : MarketNames) (a b : MarketTexts) → HaveTexts files names a → HaveTexts files names b → a ≡ b
-same-texts files names a b h k = same-tables (IsTable files) (same-table files) (table_sources names) a b h k
+same-texts files names a b h k = same-tables (IsTableFile files) (same-table files) (table_sources names) a b h k
 
 pool-files-once : (files : Files) (case offers : List ℕ) → OfOne (ArePoolFiles files case offers)
 pool-files-once files case offers a b h k =
@@ -51,7 +53,7 @@ pool-files-once files case offers a b h k =
     pool-once _ _ a b h.market (rw (same_case, same_offers) at k.market)
 
 same-grid-texts : (files : Files) (names : GridNames) (a b : GridTexts) → HaveGridTexts files names a → HaveGridTexts files names b → a ≡ b
-same-grid-texts files names a b h k = same-grid (IsTable files) (same-table files) (grid_sources names) a b h k
+same-grid-texts files names a b h k = same-grid (IsTableFile files) (same-table files) (grid_sources names) a b h k
 
 check-files-once : (files : Files) (names : CheckNames) → OfOne (AreCheckFiles files names)
 check-files-once files names a b h k =
@@ -245,10 +247,10 @@ module _ (files : Files) (words : List (List ℕ)) (t : Telling) where
 
 -- a ring is made of words alone
 module _ (files : Option Files) (words : List (List ℕ)) (t : Telling) (buses seed : ℕ) (asks : AsksMake words buses seed) where
-  other-made : (name : List ℕ) (rows : List clap_words.Row) → bytes_eq name (codes "make") ≡ false → Enters words name rows → MakesTo most_size buses seed t
+  other-made : (name : List ℕ) (rows : List clap_words.Row) → bytes_eq name (codes "make") ≡ false → Enters words name rows → MakesTo most_part buses seed t
   other-made name rows apart enters = absurd (no-other words name (codes "make") rows asks.rows apart enters asks.enters)
 
-  pub make-told : (w : List (List ℕ × List ℕ)) → AnswersTo files words t w → MakesTo most_size buses seed t
+  pub make-told : (w : List (List ℕ × List ℕ)) → AnswersTo files words t w → MakesTo most_part buses seed t
   make-told _ (refused nothing usage) = absurd (not-refused words _ asks.rows nothing asks.enters)
   make-told _ (pooled case offers asked told) = other-made (codes "pool") asked.rows refl asked.enters
   make-told _ (cleared names file asked told) = other-made (codes "clear") asked.rows refl asked.enters
@@ -260,4 +262,4 @@ module _ (files : Option Files) (words : List (List ℕ)) (t : Telling) (buses s
   make-told _ (factored names asked told) = other-made (codes "factors") asked.rows refl asked.enters
   make-told _ (made n s asked told) =
       let same = makes-once words n buses s seed asked asks in
-      subst (λ x. MakesTo most_size buses x t) same.1 (subst (λ x. MakesTo most_size x s t) same.0 told)
+      subst (λ x. MakesTo most_part buses x t) same.1 (subst (λ x. MakesTo most_part x s t) same.0 told)

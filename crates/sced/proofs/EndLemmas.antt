@@ -9,7 +9,7 @@ use Rattle.outside_store.specs.declared.Failed.{Failed}
 use Rattle.command_answers.specs.Tellings.{Telling}
 use Rattle.command_answers.specs.declared.status.Status.{Status}
 use Rattle.command_answers.specs.declared.status.Status.TheVariants as status
-use Rattle.sced.specs.Runs.{Ends, Keeps, WritesFor, told, unwritten}
+use Rattle.sced.specs.Runs.{Ends, KeepsWrites, WritesFor, told, unwritten}
 use Rattle.sced.specs.Told.{named_bytes}
 use Rattle.command_files.proofs.ReadingLemmas.{same_files, same_then}
 
@@ -21,22 +21,22 @@ surely failed name bytes (Some f) None bad wrote = elim wrote [ ]
 surely failed name bytes (Some f) (Some h) bad wrote = record { done = λ not. absurd (not tt); cut = λ _. wrote.cut bad; others = wrote.others }
 
 -- and so was one of files that are written one after another
-keeps-surely : (failed : Type 0) (w : List (List ℕ × List ℕ)) (before now : Option Files) → failed → Keeps failed w before now → Keeps (Unit {0}) w before now
+keeps-surely : (failed : Type 0) (w : List (List ℕ × List ℕ)) (before now : Option Files) → failed → KeepsWrites failed w before now → KeepsWrites (Unit {0}) w before now
 keeps-surely failed [] before now bad (fine, same) = absurd (fine bad)
 keeps-surely failed ((name, bytes) ∷ rest) before now bad (inl (_, wrote)) = inl (tt, surely failed name bytes before now bad wrote)
 keeps-surely failed ((name, bytes) ∷ rest) before now bad (inr (between, wrote, kept)) = inr (between, wrote, keeps-surely failed rest between now bad kept)
 
-pub ends-cut : (failed : Type 0) (t : Telling) (w : List (List ℕ × List ℕ)) (before now : Option Files) (taken : Option (List ℕ)) → failed → Keeps failed w before now
+pub ends-cut : (failed : Type 0) (t : Telling) (w : List (List ℕ × List ℕ)) (before now : Option Files) (taken : Option (List ℕ)) → failed → KeepsWrites failed w before now
     → Ends t w before now taken taken status.WriteFailed
 ends-cut failed t w before now taken bad kept = unwritten (keeps-surely failed w before now bad kept) refl refl
 
 -- files of which no write failed are all written
-keeps-all : (failed : Type 0) (w : List (List ℕ × List ℕ)) (before now : Option Files) → ¬ failed → Keeps failed w before now → Keeps ⊥ w before now
+keeps-all : (failed : Type 0) (w : List (List ℕ × List ℕ)) (before now : Option Files) → ¬ failed → KeepsWrites failed w before now → KeepsWrites ⊥ w before now
 keeps-all failed [] before now fine (good, same) = (λ never. never, same)
 keeps-all failed ((name, bytes) ∷ rest) before now fine (inl (bad, wrote)) = absurd (fine bad)
 keeps-all failed ((name, bytes) ∷ rest) before now fine (inr (between, wrote, kept)) = inr (between, wrote, keeps-all failed rest between now fine kept)
 
-pub ends-told : (failed : Type 0) (t : Telling) (w : List (List ℕ × List ℕ)) (before now : Option Files) (had has : Option (List ℕ)) (s : Status) → ¬ failed → Keeps failed w before now
+pub ends-told : (failed : Type 0) (t : Telling) (w : List (List ℕ × List ℕ)) (before now : Option Files) (had has : Option (List ℕ)) (s : Status) → ¬ failed → KeepsWrites failed w before now
     → Took (s ≡ status.WriteFailed) t.text had has → (s ≡ t.status) ⊎ (s ≡ status.WriteFailed) → Ends t w before now had has s
 ends-told failed t w before now had has s fine kept took right = told (keeps-all failed w before now fine kept) took right
 
@@ -60,7 +60,7 @@ wrote-from failed name bytes (Some e) (Some f) (Some h) same wrote = record {
   others = λ n apart. wrote.others n apart ∙ same n;
 }
 
-keeps-from : (failed : Type 0) (w : List (List ℕ × List ℕ)) (a b c : Option Files) → SameFiles a b → Keeps failed w b c → Keeps failed w a c
+keeps-from : (failed : Type 0) (w : List (List ℕ × List ℕ)) (a b c : Option Files) → SameFiles a b → KeepsWrites failed w b c → KeepsWrites failed w a c
 keeps-from failed [] a b c same (fine, kept) = (fine, same_then a b c same kept)
 keeps-from failed ((name, bytes) ∷ rest) a b c same (inl (bad, wrote)) = inl (bad, wrote-from failed name bytes a b c same wrote)
 keeps-from failed ((name, bytes) ∷ rest) a b c same (inr (between, wrote, kept)) = inr (between, wrote-from ⊥ name bytes a b between same wrote, kept)
@@ -78,7 +78,7 @@ whole failed name bytes None (Some h) fine wrote = elim wrote [ ]
 whole failed name bytes (Some f) None fine wrote = elim wrote [ ]
 whole failed name bytes (Some f) (Some h) fine wrote = record { done = λ _. wrote.done fine; cut = λ bad. absurd bad; others = wrote.others }
 
-pub keeps-one : (r : Result (Unit {0}) Failed) (name bytes : List ℕ) (before now : Option Files) → Wrote (IsErr r) name bytes before now → Keeps (IsErr r) ((name, bytes) ∷ []) before now
+pub keeps-one : (r : Result (Unit {0}) Failed) (name bytes : List ℕ) (before now : Option Files) → Wrote (IsErr r) name bytes before now → KeepsWrites (IsErr r) ((name, bytes) ∷ []) before now
 keeps-one (Ok _) name bytes before now wrote = inr (now, whole _ name bytes before now (λ bad. cc bad) wrote, (λ bad. cc bad, same_files now))
 keeps-one (Err e) name bytes before now wrote = inl (refl, wrote)
 
@@ -90,7 +90,7 @@ not-failed (Err e) done is = λ bad. cc is
 
 -- where an output is kept, those behind it are kept from there
 pub keeps-then : (first failed : Type 0) (name bytes : Option (List ℕ)) (rest : List (List ℕ × List ℕ)) (a b c : Option Files) → ¬ first
-    → Keeps first (named_bytes name bytes []) a b → Keeps failed rest b c → Keeps failed (named_bytes name bytes rest) a c
+    → KeepsWrites first (named_bytes name bytes []) a b → KeepsWrites failed rest b c → KeepsWrites failed (named_bytes name bytes rest) a c
 keeps-then first failed (Some name) (Some bytes) rest a b c fine (inl (bad, wrote)) kept = absurd (fine bad)
 keeps-then first failed (Some name) (Some bytes) rest a b c fine (inr (between, wrote, (good, same))) kept = inr (between, wrote, keeps-from failed rest between b c same kept)
 keeps-then first failed (Some name) None rest a b c fine (good, same) kept = keeps-from failed rest a b c same kept
@@ -105,7 +105,7 @@ wrote-cut first failed name bytes (Some f) (Some h) bad turned wrote = record { 
 
 -- where it is not, none behind it is written
 pub keeps-cut : (first failed : Type 0) (name bytes : Option (List ℕ)) (rest : List (List ℕ × List ℕ)) (a b : Option Files) → first → failed
-    → Keeps first (named_bytes name bytes []) a b → Keeps failed (named_bytes name bytes rest) a b
+    → KeepsWrites first (named_bytes name bytes []) a b → KeepsWrites failed (named_bytes name bytes rest) a b
 keeps-cut first failed (Some name) (Some bytes) rest a b bad turned (inl (was, wrote)) = inl (turned, wrote-cut first failed name bytes a b bad turned wrote)
 keeps-cut first failed (Some name) (Some bytes) rest a b bad turned (inr (between, wrote, (good, same))) = absurd (good bad)
 keeps-cut first failed (Some name) None rest a b bad turned (good, same) = absurd (good bad)

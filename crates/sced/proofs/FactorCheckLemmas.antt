@@ -16,13 +16,13 @@ use Rattle.factor_tables.specs.declared.table_fault.TableFault.{TableFault}
 use Rattle.factor_tables.specs.Factors.{FactorRecords}
 use Rattle.factor_tables.specs.OutageNumbers.{outage_header, outage_rows_of}
 use Rattle.factor_tables.specs.Tables.{loss_header, loss_of, shift_of}
-use Rattle.factor_text.specs.Texts.{table_text}
+use Rattle.factor_text.specs.Texts.{factor_table_text}
 use Rattle.market_data.specs.declared.scales.FactorPlaces.{FactorPlaces}
 use Rattle.market_inputs.specs.Checking.{AreInputs, inputs_of}
 use Rattle.market_inputs.specs.Files.{most_file, sized, sized_grid}
 use Rattle.market_inputs.specs.Making.{AreFactorInputs, AreFitToMake}
 use Rattle.market_inputs.specs.Steps.{Onward, Then}
-use Rattle.market_inputs.specs.Tables.{AreOutagesIn, loss_in, numbers_in, shift_in}
+use Rattle.market_inputs.specs.Tables.{AreOutagesIn, loss_in, outage_numbers_in, shift_in}
 use Rattle.market_inputs.specs.declared.checking.Inputs.{Inputs}
 use Rattle.market_inputs.specs.declared.making.FactorInputs.{FactorInputs}
 use Rattle.market_inputs.proofs.OnceLemmas.{factor-inputs-once}
@@ -34,16 +34,16 @@ use Rattle.refusal_text.specs.declared.refusals.Refusal.{Refusal}
 use Rattle.refusal_text.specs.declared.refusals.Refusal.TheVariants as refusal
 use Rattle.command_words.specs.Words.{FactorNames, IsFactorFile, IsFactorTable}
 use Rattle.command_answers.specs.Checking.{AreResiduals, check_status_of}
-use Rattle.command_answers.specs.Factors.{AreTables, IsLossIfWanted, IsLossTable, IsShiftTable}
+use Rattle.command_answers.specs.Factors.{AreMadeTables, IsLossIfWanted, IsLossTable, IsShiftTable}
 use Rattle.command_answers.specs.Tellings.{Telling, tabled}
 use Rattle.command_answers.specs.declared.checking.Residuals.{Residuals}
 use Rattle.command_answers.specs.declared.factors.MadeTables.{MadeTables}
 use Rattle.command_answers.specs.declared.status.Status.{Status}
 use Rattle.command_answers.specs.declared.status.Status.TheVariants as status
-use Rattle.command_files.specs.Reading.{IsTable, in_file, source_of}
+use Rattle.command_files.specs.Reading.{IsTableFile, in_file, source_of}
 use Rattle.command_files.specs.Standing.{AreCheckFiles, AreFactorFiles}
 use Rattle.sced.specs.Headline.{AreFilesApart, HaveTables, IsFactored, LawOfFactorCheck, LawOfFactors, check_of, made_tables, passed_tables, refused_tables}
-use Rattle.sced.specs.Runs.{Keeps}
+use Rattle.sced.specs.Runs.{KeepsWrites}
 use Rattle.sced.specs.Told.{named_outputs}
 use Rattle.sced.proofs.AskedLemmas.{check-told, factors-told, same-bytes, same-table}
 use Rattle.sced.proofs.FactorLemmas.{factors-kept, sound}
@@ -118,7 +118,7 @@ one-table : (a b : FactorRecords) (read : Result FactorRecords TableFault) → r
 one-table a b read first second = sym (ap (records_or a) first) ∙ ap (records_or a) second
 
 -- ---- files that were read are as they were
-module _ (names : FactorNames) (files later : Files) (t : Telling) (kept : Keeps ⊥ (named_outputs (tabled names.ptdf_out names.lodf_out) t.outputs) (Some files) (Some later)) (apart : AreFilesApart names) where
+module _ (names : FactorNames) (files later : Files) (t : Telling) (kept : KeepsWrites ⊥ (named_outputs (tabled names.ptdf_out names.lodf_out) t.outputs) (Some files) (Some later)) (apart : AreFilesApart names) where
   tables-are-named : AllNamed (IsFactorTable names) (named_outputs (tabled names.ptdf_out names.lodf_out) t.outputs)
   tables-are-named =
       bytes-named (IsFactorTable names) (Some names.ptdf_out) t.outputs.ptdf _ (λ name is. inl (let same : names.ptdf_out ≡ name = cc is in sym same))
@@ -127,13 +127,13 @@ module _ (names : FactorNames) (files later : Files) (t : Telling) (kept : Keeps
   stays : (file : List ℕ) → IsFactorFile names file → later file ≡ files file
   stays file is = kept-at (IsFactorTable names) file (apart.inputs file is) ⊥ (named_outputs (tabled names.ptdf_out names.lodf_out) t.outputs) files later tables-are-named kept
 
-  table-stays : (o : Option (List ℕ)) (header : Record) (text : List ℕ) → ((file : List ℕ) → o ≡ Some file → IsFactorFile names file) → IsTable later (source_of header o) text → IsTable files (source_of header o) text
+  table-stays : (o : Option (List ℕ)) (header : Record) (text : List ℕ) → ((file : List ℕ) → o ≡ Some file → IsFactorFile names file) → IsTableFile later (source_of header o) text → IsTableFile files (source_of header o) text
   table-stays (Some file) header text read is = sym (stays file (read file refl)) ∙ is
   table-stays None header text read is = is
 
 -- ---- within rounding
 module _ (shift_explained : ShiftTablesAreExplained) (loss_explained : LossTablesAreExplained) (names : FactorNames) (inputs : FactorInputs) (fit : AreFitToMake inputs) (tables : MadeTables) (loss : FactorRecords)
-    (wanted : Bool) (are : AreTables inputs wanted names.places tables) (is-loss : IsLossTable inputs names.places loss) where
+    (wanted : Bool) (are : AreMadeTables inputs wanted names.places tables) (is-loss : IsLossTable inputs names.places loss) where
   explained : (checked : Inputs) (r : Residuals) → makings checked ≡ inputs → checked.shift ≡ tables.shift → checked.loss ≡ loss → AreResiduals checked r → check_status_of r ≡ status.Done
   explained checked r same same_shift same_loss residuals =
       let network = ap (λ (x : FactorInputs). x.network) same in
@@ -157,7 +157,7 @@ loss-there inputs places file None made named is = let wrong : no_name ≡ Some 
 
 -- ---- shift factors alone
 -- the header alone lists no outages
-no-numbers : (too_long : Refusal) → numbers_in (sized too_long (header_line outage_header)) ≡ Ok []
+no-numbers : (too_long : Refusal) → outage_numbers_in (sized too_long (header_line outage_header)) ≡ Ok []
 unfolding csv_on_literals first_ragged frame_of table_of gather outage_rows_of sized
 no-numbers too_long = refl
 
@@ -198,18 +198,18 @@ no_factors places = record { places = places; entries = [] }
 none-made : (network : LiveNetwork) (xs : List ℤ) (places : FactorPlaces) → IsMadeLoss network xs [] places (no_factors places)
 none-made network xs places = record { places_are = refl; lost = []; lost_are = tt; entries = tt }
 
-no-text : table_text column.Outage [] ≡ header_line loss_header
-unfolding table_text
+no-text : factor_table_text column.Outage [] ≡ header_line loss_header
+unfolding factor_table_text
 no-text = append-nil (header_line loss_header)
 
-alone-tables : (inputs : FactorInputs) (places : FactorPlaces) (shift : FactorRecords) → IsShiftTable inputs places shift → AreTables (alone inputs) false places (record { shift = shift; loss = None })
+alone-tables : (inputs : FactorInputs) (places : FactorPlaces) (shift : FactorRecords) → IsShiftTable inputs places shift → AreMadeTables (alone inputs) false places (record { shift = shift; loss = None })
 alone-tables inputs places shift is = record { shift = record { few = is.few; positive = is.positive; made = is.made }; loss = tt }
 
 none-there : (inputs : FactorInputs) (places : FactorPlaces) (shift : FactorRecords) → IsShiftTable inputs places shift → IsLossTable (alone inputs) places (no_factors places)
 none-there inputs places shift is = record { few = omega arith; positive = is.positive; made = none-made inputs.network inputs.reactances places }
 
 -- ---- what is read again
-module _ (names : FactorNames) (inputs : FactorInputs) (checked : Inputs) (files later : Files) (t : Telling) (kept : Keeps ⊥ (named_outputs (tabled names.ptdf_out names.lodf_out) t.outputs) (Some files) (Some later))
+module _ (names : FactorNames) (inputs : FactorInputs) (checked : Inputs) (files later : Files) (t : Telling) (kept : KeepsWrites ⊥ (named_outputs (tabled names.ptdf_out names.lodf_out) t.outputs) (Some files) (Some later))
     (apart : AreFilesApart names) (stand : AreFactorFiles files names (Ok inputs)) (again : AreCheckFiles later (check_of names) (Ok checked)) where
   same-case : again.texts.case ≡ stand.case
   same-case = same-bytes again.texts.case stand.case (files names.case) (sym (stays names files later t kept apart names.case (inl refl)) ∙ again.have.case) stand.case_is
@@ -224,11 +224,11 @@ module _ (names : FactorNames) (inputs : FactorInputs) (checked : Inputs) (files
 
   same-shift : checked.network ≡ inputs.network → (tables : MadeTables) → HaveTables names inputs.network tables later → checked.shift ≡ tables.shift
   same-shift same_network tables have =
-      let text : again.texts.ptdf ≡ table_text column.Bus tables.shift.entries = same-bytes again.texts.ptdf (table_text column.Bus tables.shift.entries) (later names.ptdf_out) again.have.ptdf (have.shift apart.outputs) in
+      let text : again.texts.ptdf ≡ factor_table_text column.Bus tables.shift.entries = same-bytes again.texts.ptdf (factor_table_text column.Bus tables.shift.entries) (later names.ptdf_out) again.have.ptdf (have.shift apart.outputs) in
       let read = table-read (refusal.TooLong input.Ptdf) (refusal.Table input.Ptdf) (λ bytes. shift_of checked.network bytes names.places) again.texts.ptdf checked.shift parts.shift in
-      let here : shift_of inputs.network (table_text column.Bus tables.shift.entries) names.places ≡ Ok checked.shift =
+      let here : shift_of inputs.network (factor_table_text column.Bus tables.shift.entries) names.places ≡ Ok checked.shift =
       subst (λ bytes. shift_of inputs.network bytes names.places ≡ Ok checked.shift) text (subst (λ n. shift_of n again.texts.ptdf names.places ≡ Ok checked.shift) same_network read) in
-      one-table checked.shift tables.shift (shift_of inputs.network (table_text column.Bus tables.shift.entries) names.places) here have.shift_read
+      one-table checked.shift tables.shift (shift_of inputs.network (factor_table_text column.Bus tables.shift.entries) names.places) here have.shift_read
 
   -- a table of outage factors, by its text
   same-loss : checked.network ≡ inputs.network → (loss : FactorRecords) (text : List ℕ) → again.texts.lodf ≡ text → loss_of inputs.network text names.places ≡ Ok loss → checked.loss ≡ loss
@@ -241,43 +241,43 @@ module _ (names : FactorNames) (inputs : FactorInputs) (checked : Inputs) (files
   module _ (shift_explained : ShiftTablesAreExplained) (loss_explained : LossTablesAreExplained) (loss_back : LossTablesAreReadBack) (fit : AreFitToMake inputs) (tables : MadeTables) (have : HaveTables names inputs.network tables later)
       (r : Residuals) (residuals : AreResiduals checked r) where
     -- of both tables
-    both-within : (file : List ℕ) → names.lodf_out ≡ Some file → AreTables inputs (is_some names.lodf_out) names.places tables → check_status_of r ≡ status.Done
+    both-within : (file : List ℕ) → names.lodf_out ≡ Some file → AreMadeTables inputs (is_some names.lodf_out) names.places tables → check_status_of r ≡ status.Done
     both-within file named are =
         let (loss, there, is-loss) = loss-there inputs names.places file names.lodf_out tables.loss named are.loss in
-        let listed : IsTable later (source_of outage_header names.contingencies) again.texts.contingencies =
-        subst (λ o. IsTable later (source_of outage_header (option_map_or (λ _. names.contingencies) o None)) again.texts.contingencies) named again.have.contingencies in
+        let listed : IsTableFile later (source_of outage_header names.contingencies) again.texts.contingencies =
+        subst (λ o. IsTableFile later (source_of outage_header (option_map_or (λ _. names.contingencies) o None)) again.texts.contingencies) named again.have.contingencies in
         let outages : again.texts.contingencies ≡ stand.outages =
         same-table files (source_of outage_header names.contingencies) again.texts.contingencies stand.outages
         (table-stays names files later t kept apart names.contingencies outage_header again.texts.contingencies (λ name is. inr is) listed) stand.outages_are in
         let same = one-made (makings checked) inputs (factor-inputs-once stand.case stand.outages (Ok (makings checked)) (Ok inputs) (same-work stand.outages outages) stand.work) in
         let network = ap (λ (x : FactorInputs). x.network) same in
-        let was : IsTable later (in_file file) again.texts.lodf = subst (λ o. IsTable later (source_of loss_header o) again.texts.lodf) named again.have.lodf in
-        let text = same-bytes again.texts.lodf (table_text column.Outage loss.entries) (later file) was (have.loss file loss named there) in
+        let was : IsTableFile later (in_file file) again.texts.lodf = subst (λ o. IsTableFile later (source_of loss_header o) again.texts.lodf) named again.have.lodf in
+        let text = same-bytes again.texts.lodf (factor_table_text column.Outage loss.entries) (later file) was (have.loss file loss named there) in
         explained shift_explained loss_explained names inputs fit tables loss (is_some names.lodf_out) are is-loss checked r same (same-shift network tables have)
-        (same-loss network loss (table_text column.Outage loss.entries) text (have.loss_read loss there)) residuals
+        (same-loss network loss (factor_table_text column.Outage loss.entries) text (have.loss_read loss there)) residuals
 
     -- and of shift factors alone
-    shift-within : names.lodf_out ≡ None → AreTables inputs (is_some names.lodf_out) names.places tables → check_status_of r ≡ status.Done
+    shift-within : names.lodf_out ≡ None → AreMadeTables inputs (is_some names.lodf_out) names.places tables → check_status_of r ≡ status.Done
     shift-within named are =
         let outages : again.texts.contingencies ≡ header_line outage_header =
-        subst (λ o. IsTable later (source_of outage_header (option_map_or (λ _. names.contingencies) o None)) again.texts.contingencies) named again.have.contingencies in
+        subst (λ o. IsTableFile later (source_of outage_header (option_map_or (λ _. names.contingencies) o None)) again.texts.contingencies) named again.have.contingencies in
         let same = one-made (makings checked) (alone inputs)
         (factor-inputs-once stand.case (header_line outage_header) (Ok (makings checked)) (Ok (alone inputs)) (same-work (header_line outage_header) outages) (alone-work stand.case stand.outages inputs stand.work)) in
         let network = ap (λ (x : FactorInputs). x.network) same in
         let is-sound = sound inputs fit are.shift.positive in
         let read = loss_back inputs.network inputs.reactances [] names.places (no_factors names.places) is-sound (none-listed inputs.network) (none-made inputs.network inputs.reactances names.places) in
         let back = subst (λ text. loss_of inputs.network text names.places ≡ Ok (no_factors names.places)) no-text read.1 in
-        let text : again.texts.lodf ≡ header_line loss_header = subst (λ o. IsTable later (source_of loss_header o) again.texts.lodf) named again.have.lodf in
+        let text : again.texts.lodf ≡ header_line loss_header = subst (λ o. IsTableFile later (source_of loss_header o) again.texts.lodf) named again.have.lodf in
         explained shift_explained loss_explained names (alone inputs) (alone-fit inputs fit) (record { shift = tables.shift; loss = None }) (no_factors names.places) false (alone-tables inputs names.places tables.shift are.shift)
         (none-there inputs names.places tables.shift are.shift) checked r same (same-shift network tables have) (same-loss network (no_factors names.places) (header_line loss_header) text back) residuals
 
-    within : (o : Option (List ℕ)) → names.lodf_out ≡ o → AreTables inputs (is_some names.lodf_out) names.places tables → check_status_of r ≡ status.Done
+    within : (o : Option (List ℕ)) → names.lodf_out ≡ o → AreMadeTables inputs (is_some names.lodf_out) names.places tables → check_status_of r ≡ status.Done
     within (Some file) named are = both-within file named are
     within None named are = shift-within named are
 
 -- where tables were made
 tables-of : (names : FactorNames) (inputs : FactorInputs) (files later : Files) (text : List ℕ) (s : Status) → s ≡ status.Done → IsFactored names inputs files later text s
-    → (tables : MadeTables) × AreTables inputs (is_some names.lodf_out) names.places tables × HaveTables names inputs.network tables later
+    → (tables : MadeTables) × AreMadeTables inputs (is_some names.lodf_out) names.places tables × HaveTables names inputs.network tables later
 tables-of names inputs files later text _ done (made_tables tables are is have) = (tables, are, have)
 tables-of names inputs files later text _ done (refused_tables fault stops is same) = let wrong : status.Refused ≡ status.Done = done in cc wrong
 tables-of names inputs files later text _ done (passed_tables p stops sides is same) = let wrong : status.Range ≡ status.Done = done in cc wrong

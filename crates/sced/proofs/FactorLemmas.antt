@@ -7,7 +7,7 @@ use Rattle.factor_maker.specs.declared.stops.MakeStop.{MakeStop}
 use Rattle.factor_maker.specs.declared.stops.MakeStop.TheVariants as make_stop
 use Rattle.factor_tables.specs.declared.by_pair.Column.TheVariants as column
 use Rattle.factor_tables.specs.Factors.{FactorRecords}
-use Rattle.factor_text.specs.Texts.{table_text}
+use Rattle.factor_text.specs.Texts.{factor_table_text}
 use Rattle.factor_laws.specs.Laws.{LossTablesAreReadBack, ShiftTablesAreReadBack}
 use Rattle.factor_tables.specs.Tables.{loss_of}
 use Rattle.dc_network.specs.DcNetworks.{ArePositive}
@@ -20,7 +20,6 @@ use Rattle.refusal_text.specs.declared.refusals.Refusal.TheVariants as refusal
 use Rattle.report_text.specs.Reports.{range_text}
 use Rattle.command_words.specs.Words.{AsksFactors, FactorNames}
 use Rattle.command_words.proofs.WordsLemmas.{factors-once}
-use Rattle.command_answers.specs.Clearing.{most_size}
 use Rattle.command_answers.specs.Factors.{IsFactorsStop, IsLossIfWanted, IsLossTable, TellsStop, made, stopped, tables_telling}
 use Rattle.command_answers.specs.Tellings.{Telling, certified, refusal_of, tabled, uncertified}
 use Rattle.command_answers.specs.declared.factors.MadeTables.{MadeTables}
@@ -28,12 +27,13 @@ use Rattle.command_answers.specs.declared.status.Status.{Status}
 use Rattle.command_answers.specs.declared.status.Status.TheVariants as status
 use Rattle.command_files.specs.Standing.{TellsFactorsOf}
 use Rattle.sced.specs.Headline.{IsFactored, LawOfFactors, Prints, made_tables, passed_tables, refused_tables}
-use Rattle.sced.specs.Runs.{Keeps}
+use Rattle.sced.specs.Runs.{KeepsWrites}
 use Rattle.sced.specs.Told.{AnswersTo, checked, cleared, entitled, factored, migrated, named_bytes, named_outputs, pooled, refused, replayed, verified}
 use Rattle.sced.specs.Told as told
 use Rattle.sced.proofs.AskedLemmas.{factors-told, no-other, not-refused}
 use Rattle.sced.proofs.HeadlineLemmas.{bytes-named, kept-at, kept-one, no-outputs}
 use Rattle.sced.proofs.RunLemmas.{printed}
+use Rattle.cert_format.specs.Certificates.{most_part}
 
 -- what is written are the tables that there are, to the files that are named for them
 factors-written : (files : Files) (words : List (List ℕ)) (t : Telling) (w : List (List ℕ × List ℕ)) (names : FactorNames) → AsksFactors words names → AnswersTo (Some files) words t w
@@ -52,7 +52,7 @@ factors-written files words t _ names asks (told.made buses seed asked makes) = 
 -- ---- two files, one behind the other
 module _ (files later : Files) (first : List ℕ) (second : Option (List ℕ)) (one : List ℕ) (two : Option (List ℕ)) where
   abbrev AreKept : Type 0
-  AreKept = Keeps ⊥ (named_bytes (Some first) (Some one) (named_bytes second two [])) (Some files) (Some later)
+  AreKept = KeepsWrites ⊥ (named_bytes (Some first) (Some one) (named_bytes second two [])) (Some files) (Some later)
 
   -- the first has its text, where the other one has another name
   first-kept : AreKept → second ≢ Some first → later first ≡ Some one
@@ -67,7 +67,7 @@ module _ (files later : Files) (first : List ℕ) (second : Option (List ℕ)) (
   second-kept (inl (never, wrote)) name text named there = absurd never
   second-kept (inr (Some between, wrote, kept)) name text named there =
       kept-one between later name text
-      (subst (λ b. Keeps ⊥ (named_bytes (Some name) b []) (Some between) (Some later)) there (subst (λ n. Keeps ⊥ (named_bytes n two []) (Some between) (Some later)) named kept))
+      (subst (λ b. KeepsWrites ⊥ (named_bytes (Some name) b []) (Some between) (Some later)) there (subst (λ n. KeepsWrites ⊥ (named_bytes n two []) (Some between) (Some later)) named kept))
   second-kept (inr (None, wrote, kept)) name text named there = elim wrote [ ]
 
 -- ---- what was made
@@ -87,7 +87,7 @@ loss-made inputs wanted places loss table there is = by wanted (subst (IsLossIfW
 -- ---- the law
 module _ (shift_back : ShiftTablesAreReadBack) (loss_back : LossTablesAreReadBack) (names : FactorNames) (inputs : FactorInputs) (files later : Files) (t : Telling) (text : List ℕ) (s : Status) (words : t.text ≡ text) (ends : t.status ≡ s) where
   abbrev Kept : Telling → Type 0
-  Kept e = Keeps ⊥ (named_outputs (tabled names.ptdf_out names.lodf_out) e.outputs) (Some files) (Some later)
+  Kept e = KeepsWrites ⊥ (named_outputs (tabled names.ptdf_out names.lodf_out) e.outputs) (Some files) (Some later)
 
   -- what is told, as the text and the status that were put, and the files that were written
   as-told : (e : Telling) → t ≡ e → (Kept e → IsFactored names inputs files later e.text e.status) → Kept t → IsFactored names inputs files later text s
@@ -97,19 +97,19 @@ module _ (shift_back : ShiftTablesAreReadBack) (loss_back : LossTablesAreReadBac
 
   -- where there are no outputs no file is touched
   untouched : (e : Telling) → e.outputs ≡ certified None → Kept e → SameFiles (Some files) (Some later)
-  untouched e none kept = (subst (λ w. Keeps ⊥ w (Some files) (Some later)) (no-outputs (tabled names.ptdf_out names.lodf_out) e.outputs none) kept).1
+  untouched e none kept = (subst (λ w. KeepsWrites ⊥ w (Some files) (Some later)) (no-outputs (tabled names.ptdf_out names.lodf_out) e.outputs none) kept).1
 
-  of-stop : (why : MakeStop Fraction) → IsFactorsStop most_size inputs (is_some names.lodf_out) names.places why → TellsStop most_size why t → Kept t → IsFactored names inputs files later text s
+  of-stop : (why : MakeStop Fraction) → IsFactorsStop most_part inputs (is_some names.lodf_out) names.places why → TellsStop most_part why t → Kept t → IsFactored names inputs files later text s
   of-stop (make_stop.TooMany count) stops is = as-told _ is (λ kept. refused_tables (factor_fault.TooMany count) stops refl (untouched (refusal_of (refusal.Factors (factor_fault.TooMany count))) refl kept))
   of-stop (make_stop.NotPositive branch) stops is = as-told _ is (λ kept. refused_tables (factor_fault.NotPositive branch) stops refl (untouched (refusal_of (refusal.Factors (factor_fault.NotPositive branch))) refl kept))
   of-stop (make_stop.Passed p) stops (within, is) = as-told _ is (λ kept. passed_tables p stops within refl (untouched (uncertified status.Range (range_text p)) refl kept))
   of-stop make_stop.Memory stops never = absurd never
 
   abbrev shift_text : MadeTables → List ℕ
-  shift_text tables = table_text column.Bus tables.shift.entries
+  shift_text tables = factor_table_text column.Bus tables.shift.entries
 
   abbrev loss_text : FactorRecords → List ℕ
-  loss_text loss = table_text column.Outage loss.entries
+  loss_text loss = factor_table_text column.Outage loss.entries
 
   of-tables : TellsFactorsOf names inputs t → Kept t → IsFactored names inputs files later text s
   of-tables (fit, stopped why stops tells) = of-stop why stops tells
@@ -127,11 +127,11 @@ module _ (shift_back : ShiftTablesAreReadBack) (loss_back : LossTablesAreReadBac
 
 -- what a run writes that was asked for tables
 pub factors-kept : (words : List (List ℕ)) (files later : Files) (text : List ℕ) (s : Status) (run : Prints words files text s) → run.after.files ≡ Some later → (names : FactorNames) → AsksFactors words names
-    → Keeps ⊥ (named_outputs (tabled names.ptdf_out names.lodf_out) (printed words files text s run).telling.outputs) (Some files) (Some later)
+    → KeepsWrites ⊥ (named_outputs (tabled names.ptdf_out names.lodf_out) (printed words files text s run).telling.outputs) (Some files) (Some later)
 factors-kept words files later text s run now names asks =
     let p = printed words files text s run in
     let written = factors-written files words p.telling p.written names asks p.answers in
-    subst (λ a. Keeps ⊥ (named_outputs (tabled names.ptdf_out names.lodf_out) p.telling.outputs) (Some files) a) now (subst (λ w. Keeps ⊥ w (Some files) run.after.files) written p.kept)
+    subst (λ a. KeepsWrites ⊥ (named_outputs (tabled names.ptdf_out names.lodf_out) p.telling.outputs) (Some files) a) now (subst (λ w. KeepsWrites ⊥ w (Some files) run.after.files) written p.kept)
 
 pub law_of_factors : ShiftTablesAreReadBack → LossTablesAreReadBack → LawOfFactors
 law_of_factors shift_back loss_back words files later text s inputs run now asks =

@@ -17,10 +17,10 @@ use Rattle.command_answers.specs.Tellings.{Telling}
 use Rattle.command_answers.specs.declared.status.Status.{Status}
 use Rattle.command_answers.specs.declared.status.Status.TheVariants as status
 use Rattle.command_files.specs.OnlyReads.{IsSilent}
-use Rattle.command_files.specs.Reading.{HaveGridTexts, HaveTexts, IsTable, source_of}
+use Rattle.command_files.specs.Reading.{HaveGridTexts, HaveTexts, IsTableFile, source_of}
 use Rattle.command_files.specs.Standing.{AreCheckFiles, AreClearFiles, AreFactorFiles, ArePoolFiles, AreReplayFiles, AreRightsFiles, AreVerifyFiles}
 use Rattle.sced.specs.Headline.{LawOfAnswered, LawOfCauses, LawOfCutShort, LawOfMissing}
-use Rattle.sced.specs.Runs.{Ends, IsTold, Outside}
+use Rattle.sced.specs.Runs.{Ends, HasText, Outside}
 use Rattle.sced.specs.Runs as ending
 use Rattle.sced.specs.Told.{Answers, AnswersTo, checked, cleared, entitled, factored, made, migrated, pooled, refused, replayed, verified}
 use Rattle.sced.proofs.AskedLemmas.{no-other, not-refused}
@@ -43,7 +43,7 @@ silent-or s = by s
     by status.Memory = inl (inr refl)
     by status.Refuted = inr (neither status.Refuted (λ e. cc e) (λ e. cc e))
 
-told-or : (s : Status) → ¬ (IsSilent s) → ¬ (s ≡ status.WriteFailed) → IsTold s
+told-or : (s : Status) → ¬ (IsSilent s) → ¬ (s ≡ status.WriteFailed) → HasText s
 told-or status.Done loud whole = tt
 told-or status.Usage loud whole = tt
 told-or status.Refused loud whole = tt
@@ -123,7 +123,7 @@ module _ (files : Files) (name : List ℕ) where
   here-as : (n text : List ℕ) → name ≡ n → files n ≡ Some text → There files name
   here-as n text same is = (text, ap files same ∙ is)
 
-  optional-there : (header : Record) (o : Option (List ℕ)) (text : List ℕ) → o ≡ Some name → IsTable files (source_of header o) text → There files name
+  optional-there : (header : Record) (o : Option (List ℕ)) (text : List ℕ) → o ≡ Some name → IsTableFile files (source_of header o) text → There files name
   optional-there header (Some n) text same is = here-as n text (let one : n ≡ name = cc same in sym one) is
   optional-there header None text same is = cc same
 

@@ -27,7 +27,7 @@ use Rattle.case_maker.specs.Rings.{ring_of}
 use Rattle.factor_maker.specs.declared.stops.MakeStop.{MakeStop}
 use Rattle.factor_maker.specs.declared.stops.MakeStop.TheVariants as make_stop
 use Rattle.record_reading.specs.Steps.{or_as}
-use Rattle.cert_format.specs.Certificates.{RowsAreDistinct, cert_of_outcome}
+use Rattle.cert_format.specs.Certificates.{RowsAreDistinct, cert_of_outcome, most_part}
 use Rattle.cert_format.specs.Grammar.{cert_read}
 use Rattle.cert_format.specs.Written.{cert_text, certificate_of}
 use Rattle.cert_format.specs.declared.certificate.Cert.{Cert}
@@ -55,7 +55,7 @@ use Rattle.market_inputs.specs.declared.checking.Inputs.{Inputs}
 use Rattle.market_inputs.specs.declared.making.FactorInputs.{FactorInputs}
 use Rattle.command_words.specs.Words.{AsksClear, AsksMigrate, AsksReplay, MarketNames, NamesToWrite}
 use Rattle.command_words.proofs.WordsLemmas.{clears-once, replays-once}
-use Rattle.command_answers.specs.Clearing.{ArePassedWithin, TellsClear, most_size, status_of}
+use Rattle.command_answers.specs.Clearing.{ArePassedWithin, TellsClear, status_of}
 use Rattle.residual_text.specs.ResidualLines.{residuals_text}
 use Rattle.command_answers.specs.Checking.{AreResiduals, TellsCheck, are_within, check_status_of}
 use Rattle.command_answers.specs.declared.checking.Residuals.{Residuals}
@@ -76,8 +76,8 @@ use Rattle.command_answers.specs.Verifying.{TellsVerdict, VerifiesTo, judged, pa
 use Rattle.command_answers.specs.declared.status.Status.{Status}
 use Rattle.command_answers.specs.declared.status.Status.TheVariants as status
 use Rattle.sced.specs.Asked.{AsksForFactors, AsksSteps, AsksVerdict, as_clear, as_pool}
-use Rattle.sced.specs.Headline.{HasCertificate, IsAsked, HasGreatestWelfare, IsFirstFault, IsMade, IsPriced, IsReplayed, IsReported, IsVerdict, LawOfAsked, LawOfCertificate, LawOfCheck, LawOfCleared, LawOfComplete, LawOfFaults, LawOfInfeasible, LawOfLastCertificate, LawOfMake, LawOfOutside, LawOfRange, LawOfReplay, LawOfRoundTrip, LawOfVerify, RefusesEdit, RefusesFactors, cleared_ring, for_check, for_clear, for_factors, for_holders, for_migration, for_nothing, for_rights, for_ring, for_steps, for_tables, for_verdict, no, passes, range_ring, to_check, to_clear, to_migrate, to_replay, to_verify, with_fault, yes}
-use Rattle.sced.specs.Runs.{Keeps, Outside}
+use Rattle.sced.specs.Headline.{HasCertificate, IsAsked, HasGreatestWelfare, IsFirstRefusal, IsRingText, IsPriced, IsReplayText, IsReported, IsVerdict, LawOfAsked, LawOfCertificate, LawOfCheck, LawOfCleared, LawOfComplete, LawOfFaults, LawOfInfeasible, LawOfLastCertificate, LawOfMake, LawOfOutside, LawOfRange, LawOfReplay, LawOfRoundTrip, LawOfVerify, RefusesEdit, RefusesFactors, cleared_ring, for_check, for_clear, for_factors, for_holders, for_migration, for_nothing, for_rights, for_ring, for_steps, for_tables, for_verdict, no, passes, range_ring, to_check, to_clear, to_migrate, to_replay, to_verify, with_fault, yes}
+use Rattle.sced.specs.Runs.{KeepsWrites, Outside}
 use Rattle.sced.specs.Runs as ending
 use Rattle.sced.specs.Told.{Answers, AnswersTo, checked, cleared, entitled, factored, made, migrated, named_bytes, named_outputs, pooled, refused, replayed, verified}
 use Rattle.command_files.specs.Standing.{AreCheckFiles, AreClearFiles, AreFactorFiles, ArePoolFiles, AreReplayFiles, AreRightsFiles, AreVerifyFiles, IsMigratedFile, TellsFactorsOf}
@@ -150,15 +150,15 @@ law_of_complete words files text s prints =
           record {
             taken = is.taken;
             begins = is.begins;
-            fits = λ fit. law_of_completeness m is.taken most_size o is.market (law_of_the_numbers m is.taken most_size fit) is.right;
-            decided = λ none. law_of_completeness m is.taken most_size o is.market none is.right;
+            fits = λ fit. law_of_completeness m is.taken most_part o is.market (law_of_the_numbers m is.taken most_part fit) is.right;
+            decided = λ none. law_of_completeness m is.taken most_part o is.market none is.right;
           }),
     )
 
 -- ---- replay
-steps-replayed : (m : Parts) (steps : List Step) (t : Telling) (text : List ℕ) (s : Status) → t.text ≡ text → t.status ≡ s → TellsReplay (record { market = m; steps = steps }) t → IsReplayed m steps text s
+steps-replayed : (m : Parts) (steps : List Step) (t : Telling) (text : List ℕ) (s : Status) → t.text ≡ text → t.status ≡ s → TellsReplay (record { market = m; steps = steps }) t → IsReplayText m steps text s
 steps-replayed m steps t text s words ends (market, replays) =
-    let fit = replay_fits most_size m [] replays.taken steps replays.outcomes replays.right in
+    let fit = replay_fits most_part m [] replays.taken steps replays.outcomes replays.right in
     let is = sym words ∙ replays.text_is in
     record {
       outcomes = replays.outcomes;
@@ -166,8 +166,8 @@ steps-replayed m steps t text s words ends (market, replays) =
       text_is = is;
       only = λ others fits same. replays_read_apart m steps others replays.outcomes fits fit (sym same ∙ is);
       status_is = sym ends ∙ replays.status_is;
-      edits = λ k e at. edit-at most_size m [] replays.taken steps replays.outcomes k e replays.right at;
-      clears = λ k at. cleared-at most_size m [] replays.taken steps replays.outcomes k replays.right at;
+      edits = λ k e at. edit-at most_part m [] replays.taken steps replays.outcomes k e replays.right at;
+      clears = λ k at. cleared-at most_part m [] replays.taken steps replays.outcomes k replays.right at;
     }
 
 pub law_of_replay : LawOfReplay
@@ -178,7 +178,7 @@ law_of_replay words files text s m steps prints asks =
 -- ---- asked
 -- what is told of files is told of what they stand for, or of their first fault
 asked-of : {A : Type 0} (words : List (List ℕ)) (files : Files) (s : Status) (t : Telling) (stand : Result A Refusal → Type 0) (right : A → Telling → Type 0) → ((x : A) → stand (Ok x) → IsAsked words files s)
-    → ((r : Refusal) → stand (Err r) → IsFirstFault words files r) → Tells stand right t → IsAsked words files s
+    → ((r : Refusal) → stand (Err r) → IsFirstRefusal words files r) → Tells stand right t → IsAsked words files s
 asked-of {A} words files s t stand right asks fault tells = by tells.told tells.stands
   where
     by : (r : Result A Refusal) → stand r → IsAsked words files s
@@ -264,7 +264,7 @@ module _ (m : Parts) (c : Cert Fraction) (apart : RowsAreDistinct c) (text : Lis
   verdict-by None is line = yes ((law_of_the_verdict m c apart).0 (ap verdict_of is)) (line ∙ verdict-line-yes)
   verdict-by (Some why) is line = no (λ holds. no-yes why (sym (ap verdict_of is) ∙ (law_of_the_verdict m c apart).1 holds)) (line ∙ ap verdict_line (sym is))
 
-  verdict-of : (t : Telling) (s : Status) → t.text ≡ text → t.status ≡ s → VerifiesTo most_size m c t → IsVerdict m c text s
+  verdict-of : (t : Telling) (s : Status) → t.text ≡ text → t.status ≡ s → VerifiesTo most_part m c t → IsVerdict m c text s
   verdict-of t s words ends (judged is) =
       let line = sym words ∙ ap (λ (x : Telling). x.text) is in
       subst (IsVerdict m c text) (sym (ap (λ (x : Telling). x.status) is) ∙ ends) (verdict-by (first_reason m c) refl line)
@@ -305,18 +305,18 @@ told-certificate m t s ends which (market, clears) =
     (some.0, ap (λ (o : Outputs (List ℕ)). o.certificate) clears.certificate_is ∙ some.1)
 
 -- a file has this text, or what it had where there is none
-abbrev HasText : Option (List ℕ) → Option (List ℕ) → Option (List ℕ) → Type 0
-HasText (Some text) had has = has ≡ Some text
-HasText None had has = has ≡ had
+abbrev HasFileText : Option (List ℕ) → Option (List ℕ) → Option (List ℕ) → Type 0
+HasFileText (Some text) had has = has ≡ Some text
+HasFileText None had has = has ≡ had
 
-pub kept-one : (files later : Files) (file bytes : List ℕ) → Keeps ⊥ ((file, bytes) ∷ []) (Some files) (Some later) → later file ≡ Some bytes
+pub kept-one : (files later : Files) (file bytes : List ℕ) → KeepsWrites ⊥ ((file, bytes) ∷ []) (Some files) (Some later) → later file ≡ Some bytes
 kept-one files later file bytes (inl (never, wrote)) = absurd never
 kept-one files later file bytes (inr (Some between, wrote, (fine, same))) = same file ∙ wrote.done (λ never. never)
 kept-one files later file bytes (inr (None, wrote, (fine, same))) = elim wrote [ ]
 
-kept-certificate : (w : List (List ℕ × List ℕ)) (files later : Files) (file bytes : List ℕ) (after : Option Files) → w ≡ (file, bytes) ∷ [] → after ≡ Some later → Keeps ⊥ w (Some files) after → later file ≡ Some bytes
+kept-certificate : (w : List (List ℕ × List ℕ)) (files later : Files) (file bytes : List ℕ) (after : Option Files) → w ≡ (file, bytes) ∷ [] → after ≡ Some later → KeepsWrites ⊥ w (Some files) after → later file ≡ Some bytes
 kept-certificate w files later file bytes after is now kept =
-    kept-one files later file bytes (subst (λ a. Keeps ⊥ ((file, bytes) ∷ []) (Some files) a) now (subst (λ x. Keeps ⊥ x (Some files) after) is kept))
+    kept-one files later file bytes (subst (λ a. KeepsWrites ⊥ ((file, bytes) ∷ []) (Some files) a) now (subst (λ x. KeepsWrites ⊥ x (Some files) after) is kept))
 
 yes-or-range : (t : Telling) (answer : List ℕ) (s : Status) → t.text ≡ answer → t.status ≡ s → IsYesOrRange t → ((s ≡ status.Done) × (answer ≡ codes "yes\n")) ⊎ (s ≡ status.Range)
 yes-or-range t answer s words ends (inl is) = inl (sym ends ∙ ap (λ (x : Telling). x.status) is, sym words ∙ ap (λ (x : Telling). x.text) is)
@@ -325,20 +325,20 @@ yes-or-range t answer s words ends (inr is) = inr (sym ends ∙ is)
 -- ---- certificate
 -- where a file is named for the certificate, it has the one that there is, or what it had
 pub kept-as : (files later : Files) (file : List ℕ) (certificate : Option (List ℕ)) (w : List (List ℕ × List ℕ)) (after : Option Files) → w ≡ named_bytes (Some file) certificate [] → after ≡ Some later
-    → Keeps ⊥ w (Some files) after → HasText certificate (files file) (later file)
-kept-as files later file certificate w after is now kept = by certificate (subst (λ a. Keeps ⊥ (named_bytes (Some file) certificate []) (Some files) a) now (subst (λ x. Keeps ⊥ x (Some files) after) is kept))
+    → KeepsWrites ⊥ w (Some files) after → HasFileText certificate (files file) (later file)
+kept-as files later file certificate w after is now kept = by certificate (subst (λ a. KeepsWrites ⊥ (named_bytes (Some file) certificate []) (Some files) a) now (subst (λ x. KeepsWrites ⊥ x (Some files) after) is kept))
   where
-    by : (c : Option (List ℕ)) → Keeps ⊥ (named_bytes (Some file) c []) (Some files) (Some later) → HasText c (files file) (later file)
+    by : (c : Option (List ℕ)) → KeepsWrites ⊥ (named_bytes (Some file) c []) (Some files) (Some later) → HasFileText c (files file) (later file)
     by (Some bytes) kept = kept-one files later file bytes kept
     by None (fine, same) = same file
 
-text-of : (certificate : Option (Cert Fraction)) (had has : Option (List ℕ)) (c : Cert Fraction) → certificate ≡ Some c → HasText (option_map cert_text certificate) had has → has ≡ Some (cert_text c)
-text-of certificate had has c is h = subst (λ x. HasText (option_map cert_text x) had has) is h
+text-of : (certificate : Option (Cert Fraction)) (had has : Option (List ℕ)) (c : Cert Fraction) → certificate ≡ Some c → HasFileText (option_map cert_text certificate) had has → has ≡ Some (cert_text c)
+text-of certificate had has c is h = subst (λ x. HasFileText (option_map cert_text x) had has) is h
 
-had-of : (certificate : Option (Cert Fraction)) (had has : Option (List ℕ)) → certificate ≡ None → HasText (option_map cert_text certificate) had has → has ≡ had
-had-of certificate had has is h = subst (λ x. HasText (option_map cert_text x) had has) is h
+had-of : (certificate : Option (Cert Fraction)) (had has : Option (List ℕ)) → certificate ≡ None → HasFileText (option_map cert_text certificate) had has → has ≡ had
+had-of certificate had has is h = subst (λ x. HasFileText (option_map cert_text x) had has) is h
 
-certificate-kept : (holds : List ℕ → Cert Fraction → Type 0) (certificate : Option (Cert Fraction)) (had has : Option (List ℕ)) → HasText (option_map cert_text certificate) had has
+certificate-kept : (holds : List ℕ → Cert Fraction → Type 0) (certificate : Option (Cert Fraction)) (had has : Option (List ℕ)) → HasFileText (option_map cert_text certificate) had has
     → ((c : Cert Fraction) → certificate ≡ Some c → holds (cert_text c) c) → HasCertificate holds certificate had has
 certificate-kept holds certificate had has h each = record {
   some = λ c is. (text-of certificate had has c is h, each c is);
@@ -384,7 +384,7 @@ law_of_last_certificate words files later text s names edits file r outcomes rep
     let p = printed words files text s replay in
     let tells = replay-told files words p.telling p.written (Ok r) p.answers steps in
     let same : tells.1.outcomes ≡ outcomes =
-    replays_read_apart r.market r.steps tells.1.outcomes outcomes (replay_fits most_size r.market [] tells.1.taken r.steps tells.1.outcomes tells.1.right) fits (sym tells.1.text_is ∙ p.text_is ∙ is) in
+    replays_read_apart r.market r.steps tells.1.outcomes outcomes (replay_fits most_part r.market [] tells.1.taken r.steps tells.1.outcomes tells.1.right) fits (sym tells.1.text_is ∙ p.text_is ∙ is) in
     let last = last_clear None outcomes in
     let put : p.telling.outputs.certificate ≡ option_map cert_text (option_and_then (cert_of_outcome r.market.factor_places r.market.reserve.listed) last) =
     ap (λ (x : Outputs (List ℕ)). x.certificate) tells.1.certificate_is ∙ ap (λ os. option_and_then (certificate_of r.market.factor_places r.market.reserve.listed) (last_clear None os)) same ∙ text-of-last r.market.factor_places r.market.reserve.listed last in
@@ -453,10 +453,10 @@ module _ (words : List (List ℕ)) (files : Files) (text : List ℕ) (s : Status
       let here = refusal-put r is in
       (here.0, here.1, kept-none p.written after (none-written files words p.telling p.written (ap (λ (t : Telling). t.outputs) is) p.answers) p.kept)
     where
-      kept-none : (w : List (List ℕ × List ℕ)) (now : Option Files) → w ≡ [] → Keeps ⊥ w (Some files) now → SameFiles (Some files) now
-      kept-none w now is kept = (subst (λ x. Keeps ⊥ x (Some files) now) is kept).1
+      kept-none : (w : List (List ℕ × List ℕ)) (now : Option Files) → w ≡ [] → KeepsWrites ⊥ w (Some files) now → SameFiles (Some files) now
+      kept-none w now is kept = (subst (λ x. KeepsWrites ⊥ x (Some files) now) is kept).1
 
-  fault-told : (r : Refusal) → IsFirstFault words files r → (s ≡ status.Refused) × (text ≡ refusal_line r) × SameFiles (Some files) after
+  fault-told : (r : Refusal) → IsFirstRefusal words files r → (s ≡ status.Refused) × (text ≡ refusal_line r) × SameFiles (Some files) after
   fault-told r (to_clear asks) = refusal-alone r (clear-told files words p.telling p.written (Err r) p.answers asks)
   fault-told r (to_replay asks) = refusal-alone r (replay-told files words p.telling p.written (Err r) p.answers asks)
   fault-told r (to_verify asks) = refusal-alone r (verify-told files words p.telling p.written (Err r) p.answers asks)
@@ -466,10 +466,10 @@ module _ (words : List (List ℕ)) (files : Files) (text : List ℕ) (s : Status
   fault-told r (to_check asks) = refusal-alone r (check-told files words p.telling p.written (Err r) p.answers asks)
 
   abbrev Why : Type 0
-  Why = ((r : Refusal) × IsFirstFault words files r × (text ≡ refusal_line r)) ⊎ RefusesEdit words files ⊎ RefusesFactors words files text
+  Why = ((r : Refusal) × IsFirstRefusal words files r × (text ≡ refusal_line r)) ⊎ RefusesEdit words files ⊎ RefusesFactors words files text
 
   -- what is told of files with a fault is told of one
-  by-fault : {A : Type 0} (stand : Result A Refusal → Type 0) (right : A → Telling → Type 0) → ((r : Refusal) → stand (Err r) → IsFirstFault words files r) → ((x : A) → stand (Ok x) → right x p.telling → Why)
+  by-fault : {A : Type 0} (stand : Result A Refusal → Type 0) (right : A → Telling → Type 0) → ((r : Refusal) → stand (Err r) → IsFirstRefusal words files r) → ((x : A) → stand (Ok x) → right x p.telling → Why)
       → Tells stand right p.telling → Why
   by-fault {A} stand right fault other tells = by tells.told tells.stands tells.comes
     where
@@ -489,7 +489,7 @@ module _ (words : List (List ℕ)) (files : Files) (text : List ℕ) (s : Status
     of-steps : (r : MarketSteps) → AsksSteps files words r.market r.steps → TellsReplay r p.telling → Why
     of-steps r asks (market, replays) =
         let here = refused-status replays.outcomes (sym replays.status_is ∙ bad) in
-        let edit = refused-at most_size r.market [] replays.taken r.steps replays.outcomes here.0 here.1 replays.right here.2 in
+        let edit = refused-at most_part r.market [] replays.taken r.steps replays.outcomes here.0 here.1 replays.right here.2 in
         inr (inl (record { market = r.market; steps = r.steps; asks = asks; place = here.0; edit = edit.0; stands = edit.1; fault = here.1; refused = edit.2 }))
 
     of-verdict : (v : MarketCertificate) → TellsVerdict v p.telling → Why
@@ -503,7 +503,7 @@ module _ (words : List (List ℕ)) (files : Files) (text : List ℕ) (s : Status
         range-refused : status.Range ≡ status.Refused → ⊥
         range-refused wrong = cc wrong
 
-    of-fit : (m : Parts) (rights : List TransmissionRight) (price : ℕ → Fraction) (report : List ℕ) → TellsFit most_size m rights price report p.telling → Why
+    of-fit : (m : Parts) (rights : List TransmissionRight) (price : ℕ → Fraction) (report : List ℕ) → TellsFit most_part m rights price report p.telling → Why
     of-fit m rights price report (fitted fit.Fits is-fit is) = let wrong : status.Done ≡ status.Refused = sym (ap (λ (t : Telling). t.status) is) ∙ bad in cc wrong
     of-fit m rights price report (fitted (fit.Breaks row flow) is-fit is) = let wrong : status.Refuted ≡ status.Refused = sym (ap (λ (t : Telling). t.status) is) ∙ bad in cc wrong
     of-fit m rights price report (answers.passed q pair within is) = let wrong : status.Range ≡ status.Refused = sym (ap (λ (t : Telling). t.status) is) ∙ bad in cc wrong
@@ -511,7 +511,7 @@ module _ (words : List (List ℕ)) (files : Files) (text : List ℕ) (s : Status
     of-rights : (r : MarketRights) → TellsRights r p.telling → Why
     of-rights r tells = by tells.entitles.outcome tells.entitles.told
       where
-        by : (o : Outcome Fraction) → TellsOutcome most_size r.market r.rights o p.telling → Why
+        by : (o : Outcome Fraction) → TellsOutcome most_part r.market r.rights o p.telling → Why
         by (outcome.Cleared a) told = of-fit r.market r.rights _ _ told
         by (outcome.Infeasible f) is = let wrong : status.Infeasible ≡ status.Refused = sym (ap (λ (t : Telling). t.status) is) ∙ bad in cc wrong
         by (outcome.Range q) is = let wrong : status.Range ≡ status.Refused = sym (ap (λ (t : Telling). t.status) is) ∙ bad in cc wrong
@@ -532,17 +532,17 @@ module _ (words : List (List ℕ)) (files : Files) (text : List ℕ) (s : Status
         line : (fault : FactorFault) → p.telling ≡ refusal_of (refusal.Factors fault) → text ≡ refusal_line (refusal.Factors fault)
         line fault is = (refusal-put (refusal.Factors fault) is).1
 
-        none : (why : MakeStop Fraction) → making_factors.IsFactorsStop most_size inputs (is_some asks.names.lodf_out) asks.names.places why → making_factors.TellsStop most_size why p.telling → Why
+        none : (why : MakeStop Fraction) → making_factors.IsFactorsStop most_part inputs (is_some asks.names.lodf_out) asks.names.places why → making_factors.TellsStop most_part why p.telling → Why
         none (make_stop.TooMany count) stops is = inr (inr (record { inputs = inputs; asks = asks; fault = factor_fault.TooMany count; why = stops; told = line (factor_fault.TooMany count) is }))
         none (make_stop.NotPositive branch) stops is = inr (inr (record { inputs = inputs; asks = asks; fault = factor_fault.NotPositive branch; why = stops; told = line (factor_fault.NotPositive branch) is }))
         none (make_stop.Passed q) stops (within, is) = let wrong : status.Range ≡ status.Refused = sym (ap (λ (t : Telling). t.status) is) ∙ bad in cc wrong
         none make_stop.Memory stops never = absurd never
 
-        by : MakesFactors most_size inputs (is_some asks.names.lodf_out) asks.names.places p.telling → Why
+        by : MakesFactors most_part inputs (is_some asks.names.lodf_out) asks.names.places p.telling → Why
         by (making_factors.made tables are is) = let wrong : status.Done ≡ status.Refused = sym (ap (λ (t : Telling). t.status) is) ∙ bad in cc wrong
         by (making_factors.stopped why stops tells) = none why stops tells
 
-    of-ring : (buses seed : ℕ) → MakesTo most_size buses seed p.telling → Why
+    of-ring : (buses seed : ℕ) → MakesTo most_part buses seed p.telling → Why
     of-ring buses seed (making.cleared a market right is) = let wrong : status.Done ≡ status.Refused = sym (ap (λ (t : Telling). t.status) is) ∙ bad in cc wrong
     of-ring buses seed (making.passed q pair within is) = let wrong : status.Range ≡ status.Refused = sym (ap (λ (t : Telling). t.status) is) ∙ bad in cc wrong
 
@@ -579,17 +579,17 @@ ring-answer bound buses seed t (making.passed q pair within is) = inr (q, pair, 
 
 ring-made : LawOfTheReserve → (buses seed : ℕ) (t : Telling) (text : List ℕ) (s : Status) → t.text ≡ text → t.status ≡ s
     → ((a : Answer Fraction) × IsMarket (ring_of buses seed) × IsRight (ring_of buses seed) a × (t ≡ uncertified status.Done (making.ring_line buses seed ++ making.summary a)))
-    ⊎ ((p : Passed Fraction) × IsRangeOf (ring_of buses seed) [] most_size p × ArePassedWithin most_size p × (t ≡ uncertified status.Range (making.ring_line buses seed ++ range_text p))) → IsMade buses seed text s
+    ⊎ ((p : Passed Fraction) × IsRangeOf (ring_of buses seed) [] most_part p × ArePassedWithin most_part p × (t ≡ uncertified status.Range (making.ring_line buses seed ++ range_text p))) → IsRingText buses seed text s
 ring-made law_of_reserve buses seed t text s words ends (inl (a, market, right, is)) =
     let best = right-best law_of_reserve (ring_of buses seed) a market right in
-    subst (IsMade buses seed text) (sym (ap (λ (x : Telling). x.status) is) ∙ ends) (cleared_ring a best.0 best.1 (sym words ∙ ap (λ (x : Telling). x.text) is))
+    subst (IsRingText buses seed text) (sym (ap (λ (x : Telling). x.status) is) ∙ ends) (cleared_ring a best.0 best.1 (sym words ∙ ap (λ (x : Telling). x.text) is))
 ring-made law_of_reserve buses seed t text s words ends (inr (p, pair, within, is)) =
-    subst (IsMade buses seed text) (sym (ap (λ (x : Telling). x.status) is) ∙ ends) (range_ring p pair within (sym words ∙ ap (λ (x : Telling). x.text) is))
+    subst (IsRingText buses seed text) (sym (ap (λ (x : Telling). x.status) is) ∙ ends) (range_ring p pair within (sym words ∙ ap (λ (x : Telling). x.text) is))
 
 pub law_of_make : LawOfTheReserve → LawOfMake
 law_of_make law_of_reserve words files text s buses seed prints asks =
     let p = printed words files text s prints in
-    ring-made law_of_reserve buses seed p.telling text s p.text_is p.status_is (ring-answer most_size buses seed p.telling (make-told (Some files) words p.telling buses seed asks p.written p.answers))
+    ring-made law_of_reserve buses seed p.telling text s p.text_is p.status_is (ring-answer most_part buses seed p.telling (make-told (Some files) words p.telling buses seed asks p.written p.answers))
 
 -- ---- outside
 -- each file that is written is one of these
@@ -622,7 +622,7 @@ module _ (P : List ℕ → Type 0) (n : List ℕ) (free : ¬ (P n)) (failed : Ty
   apart : (name : List ℕ) → P name → n ≢ name
   apart name is same = free (subst P (sym same) is)
 
-  pub kept-at : (w : List (List ℕ × List ℕ)) (f h : Files) → AllNamed P w → Keeps failed w (Some f) (Some h) → h n ≡ f n
+  pub kept-at : (w : List (List ℕ × List ℕ)) (f h : Files) → AllNamed P w → KeepsWrites failed w (Some f) (Some h) → h n ≡ f n
   kept-at [] f h named (fine, same) = same n
   kept-at ((name, bytes) ∷ rest) f h named (inl (bad, wrote)) = wrote.others n (apart name named.0)
   kept-at ((name, bytes) ∷ rest) f h named (inr (Some g, wrote, kept)) = kept-at rest g h named.1 kept ∙ wrote.others n (apart name named.0)
@@ -632,8 +632,8 @@ same-at : (a b : Option Files) (f h : Files) (n : List ℕ) → a ≡ Some f →
 same-at a b f h n before after same = (subst (SameFiles (Some f)) after (subst (λ x. SameFiles x b) before same)) n
 
 module _ (words : List (List ℕ)) (before after : Outside) (s : Status) (f h : Files) (was : before.files ≡ Some f) (is_now : after.files ≡ Some h) (n : List ℕ) (free : ¬ (NamesToWrite words n)) where
-  told-files : (failed : Type 0) (w : List (List ℕ × List ℕ)) → Keeps failed w before.files after.files → Keeps failed w (Some f) (Some h)
-  told-files failed w kept = subst (λ y. Keeps failed w (Some f) y) is_now (subst (λ x. Keeps failed w x after.files) was kept)
+  told-files : (failed : Type 0) (w : List (List ℕ × List ℕ)) → KeepsWrites failed w before.files after.files → KeepsWrites failed w (Some f) (Some h)
+  told-files failed w kept = subst (λ y. KeepsWrites failed w (Some f) y) is_now (subst (λ x. KeepsWrites failed w x after.files) was kept)
 
   answers-at : Answers words before after s → h n ≡ f n
   answers-at a = by a.ends

@@ -8,7 +8,7 @@ use Rattle.command_answers.specs.Tellings.{Telling}
 use Rattle.command_answers.specs.declared.status.Status.{Status}
 use Rattle.command_answers.specs.declared.status.Status.TheVariants as status
 use Rattle.sced.specs.Promise.{Runs}
-use Rattle.sced.specs.Runs.{Ends, IsTold, Outside, TellsUsage}
+use Rattle.sced.specs.Runs.{Ends, HasText, Outside, TellsUsage}
 use Rattle.sced.specs.Told.{AnswersTo}
 use Rattle.sced.proofs.EndLemmas.{ends-from}
 
@@ -21,16 +21,16 @@ module _ (words : List (List ℕ)) (before between after : Outside) (t : Telling
   usage-told usage (inl same) = subst (TellsUsage words) (sym same) usage
   usage-told usage (inr failed) = record { usage = λ is. (let wrong : status.WriteFailed ≡ status.Usage = sym failed ∙ is in cc wrong); nothing_asked = λ nothing. inr (inl failed) }
 
-  no-read-failed : IsTold t.status → IsEnd → ¬ (s ≡ status.ReadFailed)
-  no-read-failed told (inl same) is = subst IsTold (sym same ∙ is) told
+  no-read-failed : HasText t.status → IsEnd → ¬ (s ≡ status.ReadFailed)
+  no-read-failed told (inl same) is = subst HasText (sym same ∙ is) told
   no-read-failed told (inr failed) is = let wrong : status.WriteFailed ≡ status.ReadFailed = sym failed ∙ is in cc wrong
 
-  no-memory : IsTold t.status → IsEnd → ¬ (s ≡ status.Memory)
-  no-memory told (inl same) is = subst IsTold (sym same ∙ is) told
+  no-memory : HasText t.status → IsEnd → ¬ (s ≡ status.Memory)
+  no-memory told (inl same) is = subst HasText (sym same ∙ is) told
   no-memory told (inr failed) is = let wrong : status.WriteFailed ≡ status.Memory = sym failed ∙ is in cc wrong
 
   -- what was only read has its files and its counts
-  pub runs-told : TellsUsage words t.status → IsTold t.status → AnswersTo before.files words t w
+  pub runs-told : TellsUsage words t.status → HasText t.status → AnswersTo before.files words t w
       → SameFiles before.files between.files → Still before.failed_reads between.failed_reads → Still before.failed_writes between.failed_writes
       → IsEnd → Ends t w between.files after.files before.taken after.taken s
       → (¬ (Still between.failed_writes after.failed_writes) → after.taken ≡ before.taken) → Still between.failed_reads after.failed_reads

@@ -30,11 +30,12 @@ use Rattle.rights_test.proofs.FitLemmas.{law_of_the_fit}
 use Rattle.report_text.specs.Reports.{report_text}
 use Rattle.cert_format.specs.Written.{cert_text}
 use Rattle.cert_format.proofs.InverseLemmas.{law_of_migration}
+use Rattle.cert_format.specs.Certificates.{most_part}
 use Rattle.refusal_text.specs.declared.refusals.Input.TheVariants as input
 use Rattle.refusal_text.specs.declared.refusals.Refusal.TheVariants as refusal
 use Rattle.command_words.specs.Words.{AsksMigrate}
 use Rattle.command_words.proofs.WordsLemmas.{migrates-once}
-use Rattle.command_answers.specs.Clearing.{AreSidesWithin, most_size}
+use Rattle.command_answers.specs.Clearing.{AreSidesWithin}
 use Rattle.command_answers.specs.Rights.{TellsFit, TellsOutcome, fitted, passed}
 use Rattle.command_answers.specs.Tellings.{Telling, certified}
 use Rattle.command_answers.specs.declared.status.Status.{Status}
@@ -67,7 +68,7 @@ module _ (m : Parts) (rights : List TransmissionRight) (t : Telling) (text : Lis
         subst (λ z. (payments_of price rights).total ≤ℚ z) (sym (ap (λ (b : Answer Fraction). b.money.surplus) right.made))
         (law_of_payments m a.duals (dispatch_in a) price rights market (record { prices = prices-of m a right; feasible = right.feasible; supported = right.supported }) held is-fit)
 
-    of-answer : (a : Answer Fraction) → IsRight m a → TellsFit most_size m rights (total_at (λ x. x) a.prices) (report_text m (outcome.Cleared a)) t → IsEntitled m rights text s
+    of-answer : (a : Answer Fraction) → IsRight m a → TellsFit most_part m rights (total_at (λ x. x) a.prices) (report_text m (outcome.Cleared a)) t → IsEntitled m rights text s
     of-answer a right (fitted fit.Fits is-fit is) =
         let best = right-best law_of_reserve m a market right in
         as-told _ is (rights_fit a best.0 best.1 ((law_of_the_fit m rights fit.Fits is-fit).0 refl) refl (covered a right is-fit))
@@ -82,7 +83,7 @@ module _ (m : Parts) (rights : List TransmissionRight) (t : Telling) (text : Lis
         let best = right-best law_of_reserve m a market right in
         as-told _ is (rights_pass a p best.0 best.1 pair within refl)
 
-    of-outcome : (o : Outcome Fraction) → IsRightOutcome most_size m [] o → AreSidesWithin most_size o → TellsOutcome most_size m rights o t → IsEntitled m rights text s
+    of-outcome : (o : Outcome Fraction) → IsRightOutcome most_part m [] o → AreSidesWithin most_part o → TellsOutcome most_part m rights o t → IsEntitled m rights text s
     of-outcome (outcome.Cleared a) right sides told = of-answer a right told
     of-outcome (outcome.Infeasible f) right sides is = as-told _ is (nothing_qualifies f (λ x. law_of_infeasibility m f.duals x market right.shows) right refl)
     of-outcome (outcome.Range p) right sides is = as-told _ is (clear_passes p right sides refl)

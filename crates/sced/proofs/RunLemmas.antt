@@ -1,7 +1,6 @@
 -- What the text of a run and its status tell: the telling that was put, and what its clears came to.
 use Rattle.std.specs.Prelude.{◌≡◌, ◌⊎◌, ℕ, if◌then◌else◌, List, [], ◌∷◌, ◌++◌, Option, Some, Ok, slice_get, take, All}
 use Rattle.std.proofs.Common.{inl, inr, refl, sym, subst, ap, ◌∙◌, suc, zero}
-use Rattle.std.specs.Option.{option_map_or}
 use Rattle.std.proofs.lemmas.List.{append_cancel_left}
 use Rattle.std.proofs.lemmas.List.Elements.{All-head, All-tail}
 use Rattle.fraction_theory.specs.Fraction.{Fraction}
@@ -13,12 +12,12 @@ use Rattle.market_model.specs.declared.limits.Row.{Row}
 use Rattle.market_model.specs.declared.participants.Parts.{Parts}
 use Rattle.market_model.specs.Market.{IsMarket}
 use Rattle.market_system.specs.Outcomes.{IsClear, IsRightOutcome}
-use Rattle.offer_book.specs.Edits.{judge}
+use Rattle.offer_book.specs.Edits.{judge, answer}
 use Rattle.offer_book.specs.declared.edit_parts.Edit.{Edit}
 use Rattle.offer_book.specs.declared.edit_parts.EditFault.{EditFault}
 use Rattle.edit_table.specs.declared.Step.{Step}
 use Rattle.edit_table.specs.declared.Step.TheVariants as step
-use Rattle.edit_replay.specs.Replays.{IsReplay, IsReply, edited_by, stepped}
+use Rattle.edit_replay.specs.Replays.{IsReplay, IsReply, edited_by, stepped, reply_of}
 use Rattle.edit_replay.specs.declared.step_outcome.StepOutcome.{StepOutcome}
 use Rattle.edit_replay.specs.declared.step_outcome.StepOutcome.TheVariants as reply
 use Rattle.report_text.specs.ReportLaws.{OutcomeFitsReport}
@@ -27,22 +26,23 @@ use Rattle.report_text.proofs.OutcomeReading.{outcome_fits, reports_apart}
 use Rattle.replay_text.specs.ReplayTextLaws.{OutcomesFit}
 use Rattle.replay_text.specs.ReplayTexts.{replayed}
 use Rattle.replay_text.proofs.ReplayReading.{replay_fits, replays_read_apart}
-use Rattle.command_answers.specs.Clearing.{AreSidesWithin, TellsClear, most_size, status_of}
+use Rattle.command_answers.specs.Clearing.{AreSidesWithin, TellsClear, status_of}
 use Rattle.command_answers.specs.Replaying.{AreStepSidesWithin, TellsReplay, is_done, replay_status, step_status}
 use Rattle.command_answers.specs.Tellings.{Telling}
 use Rattle.command_answers.specs.declared.status.Status.{Status}
 use Rattle.command_answers.specs.declared.status.Status.TheVariants as status
 use Rattle.sced.specs.Asked.{AsksMarket, AsksSteps}
 use Rattle.sced.specs.Headline.{BeginsWith, Prints, Reports, in_clear, in_replay, of_clear, of_step, outcome_of_edit}
-use Rattle.sced.specs.Runs.{Ends, IsTold, Keeps, told, unwritten}
+use Rattle.sced.specs.Runs.{Ends, HasText, KeepsWrites, told, unwritten}
 use Rattle.command_files.specs.OnlyReads.{IsSilent}
 use Rattle.sced.specs.Told.{Answers, AnswersTo}
 use Rattle.sced.proofs.AskedLemmas.{clear-told, replay-told}
+use Rattle.cert_format.specs.Certificates.{most_part}
 
 -- ---- the telling that was put
-pub not-silent : (s : Status) → IsTold s → ¬ (IsSilent s)
-not-silent s ended (inl e) = subst IsTold e ended
-not-silent s ended (inr e) = subst IsTold e ended
+pub not-silent : (s : Status) → HasText s → ¬ (IsSilent s)
+not-silent s ended (inl e) = subst HasText e ended
+not-silent s ended (inr e) = subst HasText e ended
 
 taken-text : (failed : Type 0) (t earlier text : List ℕ) (a b : Option (List ℕ)) → a ≡ Some earlier → b ≡ Some (earlier ++ text) → ¬ failed → Took failed t a b → t ≡ text
 taken-text failed t earlier text a b before after whole took =
@@ -56,25 +56,25 @@ pub record IsPrinted (words : List (List ℕ)) (files : Files) (after : Option F
   pub answers : AnswersTo (Some files) words telling written
   pub text_is : telling.text ≡ text
   pub status_is : telling.status ≡ s
-  pub kept : Keeps ⊥ written (Some files) after
+  pub kept : KeepsWrites ⊥ written (Some files) after
 
 pub printed : (words : List (List ℕ)) (files : Files) (text : List ℕ) (s : Status) → (p : Prints words files text s) → IsPrinted words files p.after.files text s
 printed words files text s p = by (p.runs.told (not-silent s p.ended))
   where
     status-is : (t : Telling) → (s ≡ t.status) ⊎ (s ≡ status.WriteFailed) → t.status ≡ s
     status-is t (inl same) = sym same
-    status-is t (inr failed) = absurd (subst IsTold failed p.ended)
+    status-is t (inr failed) = absurd (subst HasText failed p.ended)
 
     ended : (t : Telling) (w : List (List ℕ × List ℕ)) → AnswersTo (Some files) words t w → Ends t w p.before.files p.after.files p.before.taken p.after.taken s → IsPrinted words files p.after.files text s
     ended t w answers (told kept took right) = record {
       telling = t;
       written = w;
       answers = answers;
-      text_is = taken-text (s ≡ status.WriteFailed) t.text p.earlier text p.before.taken p.after.taken p.put_before p.put_after (λ failed. subst IsTold failed p.ended) took;
+      text_is = taken-text (s ≡ status.WriteFailed) t.text p.earlier text p.before.taken p.after.taken p.put_before p.put_after (λ failed. subst HasText failed p.ended) took;
       status_is = status-is t right;
-      kept = subst (λ f. Keeps ⊥ w f p.after.files) p.files_are kept;
+      kept = subst (λ f. KeepsWrites ⊥ w f p.after.files) p.files_are kept;
     }
-    ended t w answers (unwritten kept none failed) = absurd (subst IsTold failed p.ended)
+    ended t w answers (unwritten kept none failed) = absurd (subst HasText failed p.ended)
 
     by : Answers words p.before p.after s → IsPrinted words files p.after.files text s
     by a = ended a.telling a.written (subst (λ f. AnswersTo f words a.telling a.written) p.files_are a.right) a.ends
@@ -109,9 +109,9 @@ module _ (bound : ℕ) where
   -- each edit among the steps comes to what it is judged to
   edit-here : (m : Parts) (before between : List Row) (s : Step) (e : Edit) (x : StepOutcome Fraction) → IsReply bound m before s x between → Some s ≡ Some (step.Edit e) → x ≡ outcome_of_edit m e
   edit-here m before between (step.Edit d) e reply.Accepted is same =
-      let here : d ≡ e = cc same in ap (λ (j : Option EditFault). option_map_or reply.Refused j reply.Accepted) (sym is.0) ∙ ap (outcome_of_edit m) here
+      let here : d ≡ e = cc same in ap (λ (j : Option EditFault). reply_of {Fraction} (answer j)) (sym is.0) ∙ ap (outcome_of_edit m) here
   edit-here m before between (step.Edit d) e (reply.Refused f) is same =
-      let here : d ≡ e = cc same in ap (λ (j : Option EditFault). option_map_or reply.Refused j reply.Accepted) (sym is.0) ∙ ap (outcome_of_edit m) here
+      let here : d ≡ e = cc same in ap (λ (j : Option EditFault). reply_of {Fraction} (answer j)) (sym is.0) ∙ ap (outcome_of_edit m) here
   edit-here m before between (step.Edit d) e (reply.Clear o) none same = absurd none
   edit-here m before between step.Clear e x is same = cc same
 
@@ -189,28 +189,28 @@ pub record IsOutcomeOf (words : List (List ℕ)) (files : Files) (text : List �
   pub market : IsMarket m
   pub taken : List Row
   pub begins : BeginsWith words files text m place taken
-  pub right : IsRightOutcome most_size m taken o
-  pub sides : AreSidesWithin most_size o
+  pub right : IsRightOutcome most_part m taken o
+  pub sides : AreSidesWithin most_part o
 
 module _ (words : List (List ℕ)) (files : Files) (text : List ℕ) (m : Parts) (o : Outcome Fraction) (t : Telling) where
   clear-outcome : AsksMarket files words m → OutcomeFitsReport m o → t.text ≡ report_text m o → TellsClear m t → IsOutcomeOf words files text m o 0
   clear-outcome asks fits is (market, clears) =
       let same : clears.outcome ≡ o = reports_apart m clears.outcome o (outcome_fits _ m clears.outcome clears.right) fits (sym clears.text_is ∙ is) in
-      record { market = market; taken = []; begins = in_clear asks; right = subst (IsRightOutcome most_size m []) same clears.right; sides = subst (AreSidesWithin most_size) same clears.sides }
+      record { market = market; taken = []; begins = in_clear asks; right = subst (IsRightOutcome most_part m []) same clears.right; sides = subst (AreSidesWithin most_part) same clears.sides }
 
   step-outcome : (start : Parts) (steps : List Step) (outcomes : List (StepOutcome Fraction)) (k : ℕ) → AsksSteps files words start steps → OutcomesFit start steps outcomes
       → t.text ≡ replayed start steps outcomes → text ≡ replayed start steps outcomes → slice_get outcomes k ≡ Some (reply.Clear o) → m ≡ edited_by start (take k steps)
       → TellsReplay (record { market = start; steps = steps }) t → IsOutcomeOf words files text m o k
   step-outcome start steps outcomes k asks fits is text_is at edited (market, replays) =
-      let same : replays.outcomes ≡ outcomes = replays_read_apart start steps replays.outcomes outcomes (replay_fits most_size start [] replays.taken steps replays.outcomes replays.right) fits (sym replays.text_is ∙ is) in
-      let right = subst (λ (os : List (StepOutcome Fraction)). IsReplay most_size start [] steps os replays.taken) same replays.right in
-      let here = clear-at most_size start [] replays.taken steps outcomes k o right at in
+      let same : replays.outcomes ≡ outcomes = replays_read_apart start steps replays.outcomes outcomes (replay_fits most_part start [] replays.taken steps replays.outcomes replays.right) fits (sym replays.text_is ∙ is) in
+      let right = subst (λ (os : List (StepOutcome Fraction)). IsReplay most_part start [] steps os replays.taken) same replays.right in
+      let here = clear-at most_part start [] replays.taken steps outcomes k o right at in
       record {
         market = subst IsMarket (sym edited) (replays.markets k);
         taken = here.taken;
         begins = in_replay start steps outcomes k here.taken asks fits text_is edited here.replay;
-        right = subst (λ (n : Parts). IsRightOutcome most_size n here.taken o) (sym edited) here.clear.right;
-        sides = sides-at most_size outcomes k o (subst (All (AreStepSidesWithin most_size)) same replays.sides) at;
+        right = subst (λ (n : Parts). IsRightOutcome most_part n here.taken o) (sym edited) here.clear.right;
+        sides = sides-at most_part outcomes k o (subst (All (AreStepSidesWithin most_part)) same replays.sides) at;
       }
 
 pub reported : (words : List (List ℕ)) (files : Files) (text : List ℕ) (s : Status) (m : Parts) (o : Outcome Fraction) (place : ℕ) (after : Option Files) → IsPrinted words files after text s → Reports words files text m o place

@@ -32,21 +32,21 @@ use Rattle.net_case.specs.Networks.{LiveNetwork}
 use Rattle.factor_tables.specs.declared.by_pair.Column.TheVariants as column
 use Rattle.factor_tables.specs.Factors.{FactorRecords}
 use Rattle.factor_tables.specs.Tables.{loss_of, shift_of}
-use Rattle.factor_text.specs.Texts.{table_text}
+use Rattle.factor_text.specs.Texts.{factor_table_text}
 use Rattle.factor_maker.specs.declared.stops.MakeStop.{MakeStop}
 use Rattle.factor_maker.specs.declared.stops.MakeStop.TheVariants as make_stop
 use Rattle.case_maker.specs.Rings.{ring_of}
-use Rattle.cert_format.specs.Certificates.{cert_of_outcome}
+use Rattle.cert_format.specs.Certificates.{cert_of_outcome, most_part}
 use Rattle.cert_format.specs.Grammar.{cert_read}
 use Rattle.cert_format.specs.Written.{cert_text}
 use Rattle.cert_format.specs.declared.certificate.Cert.{Cert}
 use Rattle.cert_verify.specs.Certificates.{IsTrueOf, first_reason}
-use Rattle.offer_book.specs.Edits.{judge}
+use Rattle.offer_book.specs.Edits.{judge, answer}
 use Rattle.offer_book.specs.declared.edit_parts.Edit.{Edit}
 use Rattle.offer_book.specs.declared.edit_parts.EditFault.{EditFault}
 use Rattle.edit_table.specs.declared.Step.{Step}
 use Rattle.edit_table.specs.declared.Step.TheVariants as step
-use Rattle.edit_replay.specs.Replays.{IsReplay, edited_by}
+use Rattle.edit_replay.specs.Replays.{IsReplay, edited_by, reply_of}
 use Rattle.edit_replay.specs.declared.step_outcome.StepOutcome.{StepOutcome}
 use Rattle.edit_replay.specs.declared.step_outcome.StepOutcome.TheVariants as reply
 use Rattle.report_text.specs.ReportLaws.{OutcomeFitsReport}
@@ -67,8 +67,8 @@ use Rattle.market_inputs.specs.declared.checking.Inputs.{Inputs}
 use Rattle.market_inputs.specs.declared.making.FactorInputs.{FactorInputs}
 use Rattle.command_answers.specs.Checking.{AreResiduals, check_status_of}
 use Rattle.command_answers.specs.declared.checking.Residuals.{Residuals}
-use Rattle.command_answers.specs.Clearing.{ArePassedWithin, most_size, status_of}
-use Rattle.command_answers.specs.Factors.{AreTables, IsFactorsStop, tables_text}
+use Rattle.command_answers.specs.Clearing.{ArePassedWithin, status_of}
+use Rattle.command_answers.specs.Factors.{AreMadeTables, IsFactorsStop, tables_text}
 use Rattle.command_answers.specs.declared.factors.MadeTables.{MadeTables}
 use Rattle.command_answers.specs.Inputs.{MarketSteps}
 use Rattle.command_answers.specs.Laws.{Certifies, CertifiesLast}
@@ -83,7 +83,7 @@ use Rattle.command_answers.specs.declared.status.Status.TheVariants as status
 use Rattle.sced.specs.Asked.{AsksForFactors, AsksForRights, AsksHeld, AsksMarket, AsksSteps, AsksVerdict, AsksToCheck, AsksToClear, AsksToMigrate, AsksToReplay, AsksToVerify}
 use Rattle.sced.specs.Promise.{Runs}
 use Rattle.command_files.specs.OnlyReads.{IsSilent}
-use Rattle.sced.specs.Runs.{CountsReads, CountsWrites, IsTold, LeavesAll, Outside}
+use Rattle.sced.specs.Runs.{CountsReads, CountsWrites, HasText, LeavesAll, Outside}
 use Rattle.sced.specs.Told.{Answers}
 
 -- ---- what a run prints
@@ -93,21 +93,21 @@ pub record Prints (words : List (List ℕ)) (files : Files) (text : List ℕ) (s
   pub before : Outside
   pub after : Outside
   pub runs : Runs words before after s
-  pub ended : IsTold s
+  pub ended : HasText s
   pub files_are : before.files ≡ Some files
   pub earlier : List ℕ
   pub put_before : before.taken ≡ Some earlier
   pub put_after : after.taken ≡ Some (earlier ++ text)
 
 -- the first fault of the files that the words name, in the one order of work
-pub data IsFirstFault (words : List (List ℕ)) (files : Files) (r : Refusal) : Type 0 where
-  to_clear : AsksToClear files words (Err r) → IsFirstFault words files r
-  to_replay : AsksToReplay files words (Err r) → IsFirstFault words files r
-  to_verify : AsksToVerify files words (Err r) → IsFirstFault words files r
-  for_rights : AsksForRights files words (Err r) → IsFirstFault words files r
-  to_check : AsksToCheck files words (Err r) → IsFirstFault words files r
-  to_migrate : AsksToMigrate files words (Err r) → IsFirstFault words files r
-  for_factors : AsksForFactors files words (Err r) → IsFirstFault words files r
+pub data IsFirstRefusal (words : List (List ℕ)) (files : Files) (r : Refusal) : Type 0 where
+  to_clear : AsksToClear files words (Err r) → IsFirstRefusal words files r
+  to_replay : AsksToReplay files words (Err r) → IsFirstRefusal words files r
+  to_verify : AsksToVerify files words (Err r) → IsFirstRefusal words files r
+  for_rights : AsksForRights files words (Err r) → IsFirstRefusal words files r
+  to_check : AsksToCheck files words (Err r) → IsFirstRefusal words files r
+  to_migrate : AsksToMigrate files words (Err r) → IsFirstRefusal words files r
+  for_factors : AsksForFactors files words (Err r) → IsFirstRefusal words files r
 
 -- a run that puts a text was asked for one of these: for nothing that the program does, for work on what the files stand for, for a ring, or on
 -- files with a first fault
@@ -121,7 +121,7 @@ pub data IsAsked (words : List (List ℕ)) (files : Files) : Status → Type 0 w
   for_check : (s : Status) (inputs : Inputs) → AsksToCheck files words (Ok inputs) → IsAsked words files s
   for_tables : (s : Status) (inputs : FactorInputs) → AsksForFactors files words (Ok inputs) → IsAsked words files s
   for_ring : (s : Status) (buses seed : ℕ) → AsksMake words buses seed → IsAsked words files s
-  with_fault : (s : Status) (r : Refusal) → IsFirstFault words files r → IsAsked words files s
+  with_fault : (s : Status) (r : Refusal) → IsFirstRefusal words files r → IsAsked words files s
 
 abbrev pub LawOfAsked : Type 0
 LawOfAsked = (words : List (List ℕ)) (files : Files) (text : List ℕ) (s : Status) → Prints words files text s → IsAsked words files s
@@ -140,7 +140,7 @@ pub data BeginsWith (words : List (List ℕ)) (files : Files) (text : List ℕ) 
   in_clear : AsksMarket files words m → BeginsWith words files text m 0 []
   in_replay : (start : Parts) (steps : List Step) (outcomes : List (StepOutcome Fraction)) (k : ℕ) (taken : List Row) → AsksSteps files words start steps
       → OutcomesFit start steps outcomes → text ≡ replayed start steps outcomes → m ≡ edited_by start (take k steps)
-      → IsReplay most_size start [] (take k steps) (take k outcomes) taken → BeginsWith words files text m k taken
+      → IsReplay most_part start [] (take k steps) (take k outcomes) taken → BeginsWith words files text m k taken
 
 -- ---- cleared
 -- within the offers of energy and of reserve, in balance, within every limit of the base and after every listed outage, up to its excess, whose
@@ -180,11 +180,11 @@ LawOfInfeasible = (words : List (List ℕ)) (files : Files) (text : List ℕ) (s
 -- ---- replay
 -- what an edit of the market as it is then comes to: it is accepted, or refused for this fault
 abbrev pub outcome_of_edit : Parts → Edit → StepOutcome Fraction
-outcome_of_edit m e = option_map_or reply.Refused (judge m e) reply.Accepted
+outcome_of_edit m e = reply_of (answer (judge m e))
 
 -- The text is that of outcomes of the steps, of these alone, and the status goes with them: each edit comes to what it is judged to, of the
 -- market as the steps before it edit it, and each clear has an outcome.
-pub record IsReplayed (m : Parts) (steps : List Step) (text : List ℕ) (s : Status) : Type 0 where
+pub record IsReplayText (m : Parts) (steps : List Step) (text : List ℕ) (s : Status) : Type 0 where
   pub outcomes : List (StepOutcome Fraction)
   pub fit : OutcomesFit m steps outcomes
   pub text_is : text ≡ replayed m steps outcomes
@@ -195,7 +195,7 @@ pub record IsReplayed (m : Parts) (steps : List Step) (text : List ℕ) (s : Sta
 
 abbrev pub LawOfReplay : Type 0
 LawOfReplay = (words : List (List ℕ)) (files : Files) (text : List ℕ) (s : Status) (m : Parts) (steps : List Step)
-    → Prints words files text s → AsksSteps files words m steps → IsReplayed m steps text s
+    → Prints words files text s → AsksSteps files words m steps → IsReplayText m steps text s
 
 -- ---- complete
 -- a market that is to be cleared is reported, with the status of its outcome
@@ -210,8 +210,8 @@ pub record IsReported (m : Parts) (text : List ℕ) (s : Status) : Type 0 where
 pub record IsDecidedFrom (words : List (List ℕ)) (files : Files) (text : List ℕ) (m : Parts) (o : Outcome Fraction) (place : ℕ) : Type 0 where
   pub taken : List Row
   pub begins : BeginsWith words files text m place taken
-  pub fits : AllNumbersFit m taken most_size → IsDecided m o
-  pub decided : NoPairPasses m taken most_size → IsDecided m o
+  pub fits : AllNumbersFit m taken most_part → IsDecided m o
+  pub decided : NoPairPasses m taken most_part → IsDecided m o
 
 abbrev pub LawOfComplete : Type 0
 LawOfComplete = (words : List (List ℕ)) (files : Files) (text : List ℕ) (s : Status) → Prints words files text s
@@ -224,8 +224,8 @@ LawOfComplete = (words : List (List ℕ)) (files : Files) (text : List ℕ) (s :
 pub record IsRangeFrom (words : List (List ℕ)) (files : Files) (text : List ℕ) (m : Parts) (p : Passed Fraction) (place : ℕ) : Type 0 where
   pub taken : List Row
   pub begins : BeginsWith words files text m place taken
-  pub pair : IsRangeOf m taken most_size p
-  pub sides : ArePassedWithin most_size p
+  pub pair : IsRangeOf m taken most_part p
+  pub sides : ArePassedWithin most_part p
 
 -- where range is printed the two printed numbers are so
 abbrev pub LawOfRange : Type 0
@@ -238,7 +238,7 @@ LawOfRange = (words : List (List ℕ)) (files : Files) (text : List ℕ) (s : St
 pub data IsVerdict (m : Parts) (c : Cert Fraction) (text : List ℕ) : Status → Type 0 where
   yes : IsTrueOf m c → text ≡ codes "yes\n" → IsVerdict m c text status.Done
   no : ¬ (IsTrueOf m c) → text ≡ verdict_line (first_reason m c) → IsVerdict m c text status.Refuted
-  passes : (p : Passed Fraction) → IsCertificateStop m most_size c p → ArePassedWithin most_size p → text ≡ range_text p → IsVerdict m c text status.Range
+  passes : (p : Passed Fraction) → IsCertificateStop m most_part c p → ArePassedWithin most_part p → text ≡ range_text p → IsVerdict m c text status.Range
 
 abbrev pub LawOfVerify : Type 0
 LawOfVerify = (words : List (List ℕ)) (files : Files) (text : List ℕ) (s : Status) (m : Parts) (c : Cert Fraction)
@@ -287,10 +287,10 @@ pub data IsEntitled (m : Parts) (rights : List TransmissionRight) (text : List �
       → IsEntitled m rights text status.Refuted
   nothing_qualifies : (f : Farkas Fraction) → ((x : Dispatch) → ¬ (Feasible m x)) → IsFarkas m f → text ≡ report_text m (Infeasible f)
       → IsEntitled m rights text status.Infeasible
-  clear_passes : (p : Passed Fraction) → IsRangeOf m [] most_size p → ArePassedWithin most_size p → text ≡ report_text m (Range p)
+  clear_passes : (p : Passed Fraction) → IsRangeOf m [] most_part p → ArePassedWithin most_part p → text ≡ report_text m (Range p)
       → IsEntitled m rights text status.Range
   rights_pass : (a : Answer Fraction) (p : Passed Fraction) → HasGreatestWelfare m (dispatch_in a) → IsPriced m a
-      → IsRightsRefusal m rights (total_at (λ x. x) a.prices) most_size p → ArePassedWithin most_size p → text ≡ report_text m (Cleared a) ++ range_text p
+      → IsRightsRefusal m rights (total_at (λ x. x) a.prices) most_part p → ArePassedWithin most_part p → text ≡ report_text m (Cleared a) ++ range_text p
       → IsEntitled m rights text status.Range
 
 abbrev pub LawOfRights : Type 0
@@ -320,10 +320,10 @@ LawOfCheck = (words : List (List ℕ)) (files : Files) (text : List ℕ) (s : St
 -- The file that is named for the outage factors has the text of their table, and so has that for the shift factors, where it is another one: of
 -- one name, the outage factors stand there at the end. Each text is read, over the network, as the table.
 pub record HaveTables (names : FactorNames) (network : LiveNetwork) (tables : MadeTables) (files : Files) : Type 0 where
-  pub shift : names.lodf_out ≢ Some names.ptdf_out → files names.ptdf_out ≡ Some (table_text column.Bus tables.shift.entries)
-  pub loss : (file : List ℕ) (loss : FactorRecords) → names.lodf_out ≡ Some file → tables.loss ≡ Some loss → files file ≡ Some (table_text column.Outage loss.entries)
-  pub shift_read : shift_of network (table_text column.Bus tables.shift.entries) names.places ≡ Ok tables.shift
-  pub loss_read : (loss : FactorRecords) → tables.loss ≡ Some loss → loss_of network (table_text column.Outage loss.entries) names.places ≡ Ok loss
+  pub shift : names.lodf_out ≢ Some names.ptdf_out → files names.ptdf_out ≡ Some (factor_table_text column.Bus tables.shift.entries)
+  pub loss : (file : List ℕ) (loss : FactorRecords) → names.lodf_out ≡ Some file → tables.loss ≡ Some loss → files file ≡ Some (factor_table_text column.Outage loss.entries)
+  pub shift_read : shift_of network (factor_table_text column.Bus tables.shift.entries) names.places ≡ Ok tables.shift
+  pub loss_read : (loss : FactorRecords) → tables.loss ≡ Some loss → loss_of network (factor_table_text column.Outage loss.entries) names.places ≡ Ok loss
 
 -- why no tables are made where that is refused
 abbrev pub stop_refused : FactorFault → MakeStop Fraction
@@ -334,11 +334,11 @@ stop_refused (factor_fault.NotPositive branch) = make_stop.NotPositive branch
 -- are there where a file is named for them. Or no file is touched: there are too many factors or a reactance is not above 0, or two numbers of
 -- the exact factors, each within 127 bits, pass these together.
 pub data IsFactored (names : FactorNames) (inputs : FactorInputs) (files later : Files) (text : List ℕ) : Status → Type 0 where
-  made_tables : (tables : MadeTables) → AreTables inputs (is_some names.lodf_out) names.places tables → text ≡ tables_text tables
+  made_tables : (tables : MadeTables) → AreMadeTables inputs (is_some names.lodf_out) names.places tables → text ≡ tables_text tables
       → HaveTables names inputs.network tables later → IsFactored names inputs files later text status.Done
-  refused_tables : (fault : FactorFault) → IsFactorsStop most_size inputs (is_some names.lodf_out) names.places (stop_refused fault)
+  refused_tables : (fault : FactorFault) → IsFactorsStop most_part inputs (is_some names.lodf_out) names.places (stop_refused fault)
       → text ≡ refusal_line (refusal.Factors fault) → SameFiles (Some files) (Some later) → IsFactored names inputs files later text status.Refused
-  passed_tables : (p : Passed Fraction) → IsFactorsStop most_size inputs (is_some names.lodf_out) names.places (make_stop.Passed p) → ArePassedWithin most_size p
+  passed_tables : (p : Passed Fraction) → IsFactorsStop most_part inputs (is_some names.lodf_out) names.places (make_stop.Passed p) → ArePassedWithin most_part p
       → text ≡ range_text p → SameFiles (Some files) (Some later) → IsFactored names inputs files later text status.Range
 
 abbrev pub LawOfFactors : Type 0
@@ -382,27 +382,27 @@ pub record RefusesFactors (words : List (List ℕ)) (files : Files) (text : List
   pub inputs : FactorInputs
   pub asks : AsksForFactors files words (Ok inputs)
   pub fault : FactorFault
-  pub why : IsFactorsStop most_size inputs (is_some asks.names.lodf_out) asks.names.places (stop_refused fault)
+  pub why : IsFactorsStop most_part inputs (is_some asks.names.lodf_out) asks.names.places (stop_refused fault)
   pub told : text ≡ refusal_line (refusal.Factors fault)
 
 -- a fault of the files is told wherever there is one, and no file is touched then; and its status comes only there, for an edit that is refused,
 -- or where tables of factors are asked for that are too large or have a reactance not above 0
 abbrev pub LawOfFaults : Type 0
 LawOfFaults = (words : List (List ℕ)) (files : Files) (text : List ℕ) (s : Status) → (run : Prints words files text s)
-    → ((r : Refusal) → IsFirstFault words files r → (s ≡ status.Refused) × (text ≡ refusal_line r) × SameFiles (Some files) run.after.files)
-    × (s ≡ status.Refused → ((r : Refusal) × IsFirstFault words files r × (text ≡ refusal_line r)) ⊎ RefusesEdit words files ⊎ RefusesFactors words files text)
+    → ((r : Refusal) → IsFirstRefusal words files r → (s ≡ status.Refused) × (text ≡ refusal_line r) × SameFiles (Some files) run.after.files)
+    × (s ≡ status.Refused → ((r : Refusal) × IsFirstRefusal words files r × (text ≡ refusal_line r)) ⊎ RefusesEdit words files ⊎ RefusesFactors words files text)
 
 -- ---- make
 -- the worth and the surplus of an answer that is best and priced, or two numbers of the ring as above; where no pair passes it is cleared
-pub data IsMade (buses seed : ℕ) (text : List ℕ) : Status → Type 0 where
+pub data IsRingText (buses seed : ℕ) (text : List ℕ) : Status → Type 0 where
   cleared_ring : (a : Answer Fraction) → HasGreatestWelfare (ring_of buses seed) (dispatch_in a) → IsPriced (ring_of buses seed) a
-      → text ≡ ring_line buses seed ++ summary a → IsMade buses seed text status.Done
-  range_ring : (p : Passed Fraction) → IsRangeOf (ring_of buses seed) [] most_size p → ArePassedWithin most_size p → text ≡ ring_line buses seed ++ range_text p
-      → IsMade buses seed text status.Range
+      → text ≡ ring_line buses seed ++ summary a → IsRingText buses seed text status.Done
+  range_ring : (p : Passed Fraction) → IsRangeOf (ring_of buses seed) [] most_part p → ArePassedWithin most_part p → text ≡ ring_line buses seed ++ range_text p
+      → IsRingText buses seed text status.Range
 
 abbrev pub LawOfMake : Type 0
 LawOfMake = (words : List (List ℕ)) (files : Files) (text : List ℕ) (s : Status) (buses seed : ℕ)
-    → Prints words files text s → AsksMake words buses seed → IsMade buses seed text s
+    → Prints words files text s → AsksMake words buses seed → IsRingText buses seed text s
 
 -- ---- outside
 -- no file is touched but those that the words name for writing
@@ -417,7 +417,7 @@ LawOfOutside = (words : List (List ℕ)) (before after : Outside) (s : Status) �
 -- write or put, or of memory that was refused
 abbrev pub LawOfAnswered : Type 0
 LawOfAnswered = (words : List (List ℕ)) (before after : Outside) (s : Status) (earlier : List ℕ) → Runs words before after s
-    → before.taken ≡ Some earlier → IsSilent s ⊎ (s ≡ status.WriteFailed) ⊎ (IsTold s × ((text : List ℕ) × (after.taken ≡ Some (earlier ++ text))))
+    → before.taken ≡ Some earlier → IsSilent s ⊎ (s ≡ status.WriteFailed) ⊎ (HasText s × ((text : List ℕ) × (after.taken ≡ Some (earlier ++ text))))
 
 -- ---- causes
 -- a run ends for a failed read only where one of a file that the words name for reading is counted, and for a failed write or put only where one

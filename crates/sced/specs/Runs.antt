@@ -31,16 +31,16 @@ outside_of store sink s k = record {
 }
 
 -- a status that comes with a text, where that can be put
-abbrev pub IsTold : Status → Type 0
-IsTold status.Done = Unit {0}
-IsTold status.Usage = Unit {0}
-IsTold status.Refused = Unit {0}
-IsTold status.Infeasible = Unit {0}
-IsTold status.Range = Unit {0}
-IsTold status.Refuted = Unit {0}
-IsTold status.ReadFailed = ⊥
-IsTold status.WriteFailed = ⊥
-IsTold status.Memory = ⊥
+abbrev pub HasText : Status → Type 0
+HasText status.Done = Unit {0}
+HasText status.Usage = Unit {0}
+HasText status.Refused = Unit {0}
+HasText status.Infeasible = Unit {0}
+HasText status.Range = Unit {0}
+HasText status.Refuted = Unit {0}
+HasText status.ReadFailed = ⊥
+HasText status.WriteFailed = ⊥
+HasText status.Memory = ⊥
 
 -- ---- what a run counts
 -- a run ends for a failed read only where one of a file that the words name for reading failed, and else none is counted
@@ -57,17 +57,17 @@ pub record CountsWrites (words : List (List ℕ)) (before after : Outside) (s : 
 
 -- ---- what a run leaves
 -- files are written with their bytes one after another; the first write that fails ends it, and no file behind it is written
-abbrev pub Keeps : Type 0 → List (List ℕ × List ℕ) → Option Files → Option Files → Type 0
-Keeps failed [] before now = (¬ failed) × SameFiles before now
-Keeps failed ((name, bytes) ∷ rest) before now =
-    (failed × Wrote failed name bytes before now) ⊎ ((between : Option Files) × Wrote ⊥ name bytes before between × Keeps failed rest between now)
+abbrev pub KeepsWrites : Type 0 → List (List ℕ × List ℕ) → Option Files → Option Files → Type 0
+KeepsWrites failed [] before now = (¬ failed) × SameFiles before now
+KeepsWrites failed ((name, bytes) ∷ rest) before now =
+    (failed × Wrote failed name bytes before now) ⊎ ((between : Option Files) × Wrote ⊥ name bytes before between × KeepsWrites failed rest between now)
 
 -- How a run ends that has something to tell: the files that there are to write are written, and the text is put, and the status is that
 -- which goes with it, or that of a failed put. Or a write failed, and nothing is put.
 pub data Ends (t : Telling) (written : List (List ℕ × List ℕ)) (before now : Option Files) (had has : Option (List ℕ)) (s : Status) : Type 0 where
-  told : Keeps ⊥ written before now → Took (s ≡ status.WriteFailed) t.text had has → (s ≡ t.status) ⊎ (s ≡ status.WriteFailed)
+  told : KeepsWrites ⊥ written before now → Took (s ≡ status.WriteFailed) t.text had has → (s ≡ t.status) ⊎ (s ≡ status.WriteFailed)
       → Ends t written before now had has s
-  unwritten : Keeps (Unit {0}) written before now → has ≡ had → s ≡ status.WriteFailed → Ends t written before now had has s
+  unwritten : KeepsWrites (Unit {0}) written before now → has ≡ had → s ≡ status.WriteFailed → Ends t written before now had has s
 
 -- a failed write of a file that was asked for is counted
 abbrev pub FailedFor : {S : Type 0} → Ghosts S → S → S → (List ℕ → Type 0) → Type 0

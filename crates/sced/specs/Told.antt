@@ -3,7 +3,7 @@ use Rattle.std.specs.Prelude.{◌≡◌, ◌⊎◌, ℕ, List, [], ◌∷◌, Op
 use Rattle.outside_store.specs.Files.{Files}
 use Rattle.command_words.specs.Words.{AsksCheck, AsksClear, AsksFactors, AsksMake, AsksMigrate, AsksNothing, AsksPool, AsksReplay, AsksRights, AsksVerify, CheckNames, FactorNames, MarketNames}
 use Rattle.command_answers.specs.Checking.{TellsCheck}
-use Rattle.command_answers.specs.Clearing.{TellsClear, most_size}
+use Rattle.command_answers.specs.Clearing.{TellsClear}
 use Rattle.command_answers.specs.Making.{MakesTo}
 use Rattle.command_answers.specs.Migrating.{TellsMigration}
 use Rattle.command_answers.specs.Replaying.{TellsReplay}
@@ -16,6 +16,7 @@ use Rattle.command_answers.specs.declared.status.Status.TheVariants as status
 use Rattle.command_files.specs.Standing.{AreCheckFiles, AreClearFiles, AreFactorFiles, ArePoolFiles, AreReplayFiles, AreRightsFiles, AreVerifyFiles, IsMigratedFile, OfFiles, TellsFactorsOf}
 use Rattle.sced.specs.Runs.{Ends, Outside}
 use Rattle.sced.specs.declared.run.Work.{Work}
+use Rattle.cert_format.specs.Certificates.{most_part}
 
 -- ---- the words
 -- a file that is named, with the bytes that there are for it, before others
@@ -57,7 +58,7 @@ pub data AnswersTo (files : Option Files) (words : List (List ℕ)) (t : Telling
   checked : (names : CheckNames) → AsksCheck words names → OfFiles files (λ f. AreCheckFiles f names) TellsCheck t → AnswersTo files words t []
   factored : (names : FactorNames) → AsksFactors words names → OfFiles files (λ f. AreFactorFiles f names) (TellsFactorsOf names) t
       → AnswersTo files words t (named_outputs (tabled names.ptdf_out names.lodf_out) t.outputs)
-  made : (buses seed : ℕ) → AsksMake words buses seed → MakesTo most_size buses seed t → AnswersTo files words t []
+  made : (buses seed : ℕ) → AsksMake words buses seed → MakesTo most_part buses seed t → AnswersTo files words t []
 
 -- what is told is right for the words and for the files that these name, and so is the file that is written
 pub record Answers (words : List (List ℕ)) (before after : Outside) (s : Status) : Type 0 where

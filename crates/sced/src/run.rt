@@ -6,7 +6,7 @@ ghost use Rattle.outside_store.specs.Sinks.{Took, CountFault};
 ghost use Rattle.command_answers.specs.Tellings.{map_outputs, telling_of};
 ghost use Rattle.command_words.specs.Words.{NamesFile, NamesToWrite};
 ghost use Rattle.sced.specs.Promise.{Runs};
-ghost use Rattle.sced.specs.Runs.{Ends, FailedFor, IsTold, Keeps, TellsUsage, WritesFor, outside_of};
+ghost use Rattle.sced.specs.Runs.{Ends, FailedFor, HasText, KeepsWrites, TellsUsage, WritesFor, outside_of};
 ghost use Rattle.command_files.specs.OnlyReads.{IsSilent, OnlyReads};
 ghost use Rattle.sced.specs.Told.{AnswersTo, IsOutputFile, named_bytes, names_for, written_by};
 
@@ -45,7 +45,7 @@ fn asked_work<'a, S: Store>(
     store: &mut S,
 ) -> Result<Work<'a>, Status>
     ensures usage { MatchResult result (λ work. TellsUsage (map string_bytes words.entry.now) work.told.status) (TellsUsage (map string_bytes words.entry.now)) }
-    ensures told { MatchResult result (λ work. IsTold work.told.status) IsSilent }
+    ensures told { MatchResult result (λ work. HasText work.told.status) IsSilent }
     ensures answers { IfOk result (λ work. AnswersTo (S.files store.old) (map string_bytes words.entry.now) (telling_of work.told) (written_by work)) }
     ensures named { IfOk result (λ work. (file : List ℕ) → IsOutputFile (names_for work) file → NamesToWrite (map string_bytes words.entry.now) file) }
     ensures reads { OnlyReads S.Store store.old store.new (NamesFile (map string_bytes words.entry.now)) (result ≡ Err Status.ReadFailed) }
@@ -94,7 +94,7 @@ fn keep_output<S: Store>(
     name: Option<&str>,
     bytes: Option<&[u8]>,
 ) -> Result<(), Failed>
-    ensures kept { Keeps (IsErr result) (named_bytes (option_map (λ n. n.now) name.entry) (option_map (λ b. b.now) bytes.entry) []) (S.files store.old) (S.files store.new) }
+    ensures kept { KeepsWrites (IsErr result) (named_bytes (option_map (λ n. n.now) name.entry) (option_map (λ b. b.now) bytes.entry) []) (S.files store.old) (S.files store.new) }
     ensures writes { WritesFor S.Store store.old store.new (λ file. option_map (λ n. n.now) name.entry ≡ Some file) (IsErr result) }
     ensures reads { Still (S.failed_reads store.old) (S.failed_reads store.new) }
 {
@@ -106,7 +106,7 @@ fn keep_output<S: Store>(
 
 /// Writes the outputs that there are to the files that are named for them, one after another.
 fn keep<S: Store>(store: &mut S, work: &Work<'_>) -> Result<(), Failed>
-    ensures kept { Keeps (IsErr result) (written_by work.now) (S.files store.old) (S.files store.new) }
+    ensures kept { KeepsWrites (IsErr result) (written_by work.now) (S.files store.old) (S.files store.new) }
     ensures writes { WritesFor S.Store store.old store.new (IsOutputFile (names_for work.now)) (IsErr result) }
     ensures reads { Still (S.failed_reads store.old) (S.failed_reads store.new) }
 {
@@ -122,7 +122,7 @@ fn keep<S: Store>(store: &mut S, work: &Work<'_>) -> Result<(), Failed>
 
 /// Puts the text.
 fn put<K: Sink>(out: &mut K, told: &Told) -> Status
-    requires { IsTold told.now.status }
+    requires { HasText told.now.status }
     ensures status { (result ≡ told.now.status) ⊎ (result ≡ Status.WriteFailed) }
     ensures took { Took (result ≡ Status.WriteFailed) told.now.text.items (K.taken out.old) (K.taken out.new) }
     ensures faults { CountFault (result ≡ Status.WriteFailed) (K.faults out.old) (K.faults out.new) }
@@ -135,7 +135,7 @@ fn put<K: Sink>(out: &mut K, told: &Told) -> Status
 
 /// Writes the outputs that there are, and then puts the text.
 fn finish<S: Store, K: Sink>(store: &mut S, out: &mut K, work: &Work<'_>) -> Status
-    requires { IsTold work.now.told.status }
+    requires { HasText work.now.told.status }
     ensures status { (result ≡ work.now.told.status) ⊎ (result ≡ Status.WriteFailed) }
     ensures ends { Ends (telling_of work.now.told) (written_by work.now) (S.files store.old) (S.files store.new) (K.taken out.old) (K.taken out.new) result }
     ensures cut { ¬ (Still (S.failed_writes store.old) (S.failed_writes store.new)) → K.taken out.new ≡ K.taken out.old }

@@ -18,7 +18,7 @@ use Rattle.linear_system.specs.Numbers.{IsFirst}
 use Rattle.linear_system.specs.Pairs.{IsSystemPair}
 use Rattle.simplex_core.specs.declared.solving.Run.{Run}
 use Rattle.simplex_core.specs.declared.solving.Run.TheVariants.{Solved, Empty, Passed}
-use Rattle.simplex_core.specs.Outcomes.{Keeps, IsAnswered, IsEmptyAt, IsOutcome, ShowsChoice}
+use Rattle.simplex_core.specs.Outcomes.{Keeps, IsAnswered, IsEmptyAt, IsRunOutcome, ShowsChoice}
 use Rattle.simplex_theory.specs.Stuck.{IsStuck}
 use Rattle.simplex_core.specs.States.{state_of, IsReady}
 use Rattle.simplex_core.specs.Turns.{turned}
@@ -88,7 +88,7 @@ empty_at d ready v row above leaves idle within e = record {
 }
 
 -- with no working pair there is no refusal
-pub answered : {N : Type 0} (value : N → Fraction) (bound : ℕ) (d : Dictionary) (r : Run N) → ((op : Op) (left right : Fraction) → ¬ (IsSystemPair (system_in d) bound op left right)) → IsOutcome value bound d r → IsAnswered r
+pub answered : {N : Type 0} (value : N → Fraction) (bound : ℕ) (d : Dictionary) (r : Run N) → ((op : Op) (left right : Fraction) → ¬ (IsSystemPair (system_in d) bound op left right)) → IsRunOutcome value bound d r → IsAnswered r
 answered value bound d (Solved e) none o = tt
 answered value bound d (Empty e row above) none o = tt
 answered value bound d (Passed p) none o = none p.op (value p.left) (value p.right) o

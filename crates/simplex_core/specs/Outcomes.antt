@@ -44,10 +44,10 @@ IsSettled d e None = Keeps d e × ShowsChoice e × IsSolved (system_in e) (state
 IsSettled d e (Some l) = Keeps d e × ShowsChoice e × IsEmptyAt e l.row l.above
 
 -- Solved holds the best values, Empty a row that shows that there are none, Passed a working pair of the system.
-abbrev pub IsOutcome : {N : Type 0} → (N → Fraction) → ℕ → Dictionary → Run N → Type 0
-IsOutcome value bound d (Solved e) = Keeps d e × ShowsChoice e × IsSolved (system_in e) (state_of e)
-IsOutcome value bound d (Empty e row above) = Keeps d e × ShowsChoice e × IsEmptyAt e row above
-IsOutcome value bound d (Passed p) = IsPairOf value bound (system_in d) p
+abbrev pub IsRunOutcome : {N : Type 0} → (N → Fraction) → ℕ → Dictionary → Run N → Type 0
+IsRunOutcome value bound d (Solved e) = Keeps d e × ShowsChoice e × IsSolved (system_in e) (state_of e)
+IsRunOutcome value bound d (Empty e row above) = Keeps d e × ShowsChoice e × IsEmptyAt e row above
+IsRunOutcome value bound d (Passed p) = IsPairOf value bound (system_in d) p
 
 -- solved or empty, and no refusal
 abbrev pub IsAnswered : {N : Type 0} → Run N → Type 0

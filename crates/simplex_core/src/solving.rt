@@ -4,7 +4,7 @@ ghost use Rattle.std.specs.List.{Contains};
 ghost use Rattle.linear_dict.specs.Causes.{IsPairOf};
 ghost use Rattle.linear_dict.specs.Dictionaries.{system_in};
 ghost use Rattle.simplex_core.specs.States.{IsReady, state_of};
-ghost use Rattle.simplex_core.specs.Outcomes.{IsSettled, IsOutcome};
+ghost use Rattle.simplex_core.specs.Outcomes.{IsSettled, IsRunOutcome};
 
 use crate::enter::find_entering;
 use crate::exchange::step;
@@ -83,7 +83,7 @@ fn settle<N: Exact>(dict: &mut Dict<N>) -> Result<Option<Leaving>, Passed<N>>
 impl<N: Exact> Posed<N> {
     /// Runs the dual simplex method to its end.
     pub fn run(self) -> Run<N>
-        ensures { IsOutcome N.value N.bound self result }
+        ensures { IsRunOutcome N.value N.bound self result }
     {
         let mut dict = self.dict;
         match settle(&mut dict) {

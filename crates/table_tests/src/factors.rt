@@ -57,7 +57,7 @@ const PENALTIES: &[(u32, bool, Option<Softness>)] = &[
         false,
         Some(Softness {
             price: 1_000_000_000,
-            excess: 2_500_000_000,
+            most_excess: 2_500_000_000,
         }),
     ),
     (
@@ -65,7 +65,7 @@ const PENALTIES: &[(u32, bool, Option<Softness>)] = &[
         true,
         Some(Softness {
             price: 1,
-            excess: 0,
+            most_excess: 0,
         }),
     ),
     (
@@ -73,7 +73,7 @@ const PENALTIES: &[(u32, bool, Option<Softness>)] = &[
         false,
         Some(Softness {
             price: 25_000_000,
-            excess: 10_000_000_000,
+            most_excess: 10_000_000_000,
         }),
     ),
     (2, true, None),

@@ -7,8 +7,8 @@ use Rattle.csv_table.proofs.records_of.Given as goal
 
 -- the records so far are the records up to where the reader stands, and the reader is as it was set up: it trims nothing, takes no
 -- record for a header, and lets records of any width by
-abbrev pub invariant-rows : goal.invariant-rows
-invariant-rows l = (l.reader.trim ≡ trim.None) × Ready l.reader × (l.reader.config ≡ default_config)
+abbrev pub invariant-records : goal.invariant-records
+invariant-records l = (l.reader.trim ≡ trim.None) × Ready l.reader × (l.reader.config ≡ default_config)
     × (left : List ℕ) × (source_of (λ rest. Some rest.now) l.reader ≡ Some left)
     × Reached default_config st.StartRecord (strip_bom l.fn.bytes) (records_in l.records) l.reader.state left
     × (is_flexible l.reader ≡ true)

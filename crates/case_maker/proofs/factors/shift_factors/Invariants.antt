@@ -1,11 +1,11 @@
 use Rattle.std.proofs.Common.{◌≡◌, ◌++◌, map, flat_map}
 use Rattle.market_model.specs.Dispatch.{places}
-use Rattle.case_maker.specs.Rings.{factor_by, shift_of}
+use Rattle.case_maker.specs.Rings.{factor_by, ring_shift}
 use Rattle.case_maker.proofs.FactorLemmas.{row}
 use Rattle.case_maker.proofs.factors.shift_factors.Given as goal
 
 abbrev pub invariant-loop-line : goal.invariant-loop-line
-invariant-loop-line l = l.factors ≡ flat_map (row (shift_of l.size) l.size) (places l.line)
+invariant-loop-line l = l.factors ≡ flat_map (row (ring_shift l.size) l.size) (places l.line)
 
 abbrev pub invariant-loop-of : goal.invariant-loop-of
-invariant-loop-of l = l.factors ≡ flat_map (row (shift_of l.size) l.size) (places l.line) ++ map (factor_by (shift_of l.size) l.line) (places l.of)
+invariant-loop-of l = l.factors ≡ flat_map (row (ring_shift l.size) l.size) (places l.line) ++ map (factor_by (ring_shift l.size) l.line) (places l.of)

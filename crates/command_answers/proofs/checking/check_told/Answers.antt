@@ -1,10 +1,10 @@
 use Rattle.market_tables.specs.Tables.{grid_lent}
 use Rattle.command_answers.specs.Checking.{TellsCheck}
-use Rattle.command_answers.specs.Inputs.{IsCheck}
 use Rattle.command_answers.specs.Tellings.{telling_of}
 use Rattle.command_answers.proofs.IfOkLemmas.{if_ok-map}
 use Rattle.command_answers.proofs.TellingLemmas.{refused-tells}
 use Rattle.command_answers.proofs.checking.check_told.Goals as goal
+use Rattle.market_inputs.specs.Texts.{IsCheck}
 
 pub returns-in-Err-Refused-clause-tells : goal.returns-in-Err-Refused-clause-tells
 returns-in-Err-Refused-clause-tells c =

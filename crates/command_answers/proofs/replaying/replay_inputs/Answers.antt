@@ -8,7 +8,8 @@ use Rattle.market_inputs.specs.Files.{sized}
 use Rattle.market_inputs.specs.Replaying.{steps_in}
 use Rattle.market_inputs.specs.Steps.{Is, Then}
 use Rattle.market_inputs.proofs.StepLemmas.{goes-on, stops}
-use Rattle.command_answers.specs.Inputs.{IsLimited, MarketSteps, steps_with}
+use Rattle.market_inputs.specs.Texts.{IsLimited}
+use Rattle.command_answers.specs.Inputs.{MarketSteps, steps_with}
 use Rattle.command_answers.proofs.replaying.replay_inputs.Goals as goal
 
 pub returns-in_err-steps-clause-told : goal.returns-in_err-steps-clause-told

@@ -8,7 +8,8 @@ use Rattle.market_inputs.specs.Files.{sized}
 use Rattle.market_inputs.specs.RightsInputs.{rights_in}
 use Rattle.market_inputs.specs.Steps.{Is, Then}
 use Rattle.market_inputs.proofs.StepLemmas.{goes-on, stops}
-use Rattle.command_answers.specs.Inputs.{IsLimited, MarketRights, rights_with}
+use Rattle.market_inputs.specs.Texts.{IsLimited}
+use Rattle.command_answers.specs.Inputs.{MarketRights, rights_with}
 use Rattle.command_answers.proofs.rights.rights_inputs.Goals as goal
 
 pub returns-in_err-rights-clause-told : goal.returns-in_err-rights-clause-told

@@ -1,10 +1,10 @@
 use Rattle.std.proofs.Common.{List, Ok, subst}
 use Rattle.market_model.specs.declared.participants.TransmissionRight.{TransmissionRight}
-use Rattle.command_answers.specs.Clearing.{most_size}
 use Rattle.command_answers.specs.Rights.{EntitlesTo}
 use Rattle.command_answers.specs.Tellings.{telling_of}
 use Rattle.command_answers.proofs.IfOkLemmas.{if_ok-map}
 use Rattle.command_answers.proofs.rights.rights_told.Goals as goal
+use Rattle.cert_format.specs.Certificates.{most_part}
 
 pub returns-in-Ok-clause-tells : goal.returns-in-Ok-clause-tells
 returns-in-Ok-clause-tells c =
@@ -16,7 +16,7 @@ returns-in-Ok-clause-tells c =
       comes = record {
         market = c.in-Ok.ensures.kept.0;
         rights = c.in-Ok.ensures.kept.1;
-        entitles = subst (λ (rs : List TransmissionRight). EntitlesTo most_size made.market rs (telling_of told)) c.slice.ensures e;
+        entitles = subst (λ (rs : List TransmissionRight). EntitlesTo most_part made.market rs (telling_of told)) c.slice.ensures e;
       };
     })
     c.rights_outcome.ensures.entitles

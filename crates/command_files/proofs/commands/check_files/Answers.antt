@@ -2,11 +2,11 @@ use Rattle.std.proofs.Common.{subst}
 use Rattle.std.specs.Prelude.{vec_items}
 use Rattle.market_tables.specs.Tables.{map_grid}
 use Rattle.command_answers.specs.Checking.{TellsCheck}
-use Rattle.command_answers.specs.Inputs.{IsCheck}
 use Rattle.command_answers.specs.Tellings.{Tells, telling_of}
 use Rattle.command_files.proofs.FileLemmas.{files-check}
 use Rattle.command_files.proofs.ReadingLemmas.{if_ok-map, told-ok}
 use Rattle.command_files.proofs.commands.check_files.Goals as goal
+use Rattle.market_inputs.specs.Texts.{IsCheck}
 
 pub returns-clause-right : goal.returns-clause-right
 returns-clause-right g c =

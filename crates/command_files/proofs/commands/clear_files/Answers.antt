@@ -2,12 +2,12 @@ use Rattle.std.proofs.Common.{subst}
 use Rattle.std.specs.Prelude.{vec_items}
 use Rattle.market_tables.specs.Tables.{map_tables}
 use Rattle.command_answers.specs.Clearing.{TellsClear}
-use Rattle.command_answers.specs.Inputs.{IsLimited}
 use Rattle.command_answers.specs.Tellings.{Tells, telling_of}
 use Rattle.command_words.specs.Requests.{names_of_market}
 use Rattle.command_files.proofs.FileLemmas.{files-clear}
 use Rattle.command_files.proofs.ReadingLemmas.{if_ok-map, told-ok}
 use Rattle.command_files.proofs.commands.clear_files.Goals as goal
+use Rattle.market_inputs.specs.Texts.{IsLimited}
 
 pub returns-clause-right : goal.returns-clause-right
 returns-clause-right g c =

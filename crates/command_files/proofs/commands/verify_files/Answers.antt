@@ -1,6 +1,6 @@
 use Rattle.std.proofs.Common.{◌≡◌, ◌∙◌, ℕ, Err, Ok, inl, inr, rules, subst}
 use Rattle.std.specs.Prelude.{MatchResult, option_map, vec_items}
-use Rattle.edit_table.specs.EditTable.{header as edit_header}
+use Rattle.edit_table.specs.EditTable.{edit_header}
 use Rattle.market_tables.specs.Tables.{map_tables}
 use Rattle.outside_store.specs.Causes.{Rose, Still}
 use Rattle.outside_store.specs.Files.{Reads, SameFiles}
