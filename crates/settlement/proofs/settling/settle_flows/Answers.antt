@@ -15,7 +15,6 @@ use Rattle.market_model.specs.PutIn.{dispatch_of}
 use Rattle.limit_screen.proofs.ScreenLemmas.{flow_count}
 use Rattle.market_model.specs.Settlement.{surplus_terms_by, pay_of_load, pay_of_reserve, pay_of_unit, paid_terms}
 use Rattle.market_model.proofs.StopLemmas.{on_passed_weaker}
-use Rattle.market_model.specs.declared.stops.Stop.TheVariants as why
 use Rattle.market_model.specs.declared.stops.Stop.TheVariants as stop
 use Rattle.market_model.specs.SumTables.{left_of_all, payment}
 use Rattle.settlement.proofs.BlockFlows.{flows_of_blocks}
