@@ -6,4 +6,5 @@ pub mod RightsLemmas
 pub mod RightsReading
 pub mod RingLemmas
 pub mod RoundTripLemmas
+pub mod SidesLemmas
 pub mod TellingLemmas

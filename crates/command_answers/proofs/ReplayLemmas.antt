@@ -1,6 +1,6 @@
 -- Statuses, and what the last clear came to, one outcome after another.
 use Rattle.std.proofs.Common.{◌≡◌, ◌<◌, ◌≤◌, ◌∙◌, ℕ, ◌+◌, true, false, if◌then◌else◌, List, [], ◌∷◌, All, drop, take, get_or, map, length, Option, None, Some, zero, suc, refl, sym, ap, subst}
-use Rattle.std.specs.Prelude.{IfSome, option_and_then}
+use Rattle.std.specs.Prelude.{IfSome, option_and_then, unsigned_abs}
 use Rattle.std.proofs.lemmas.List.Elements.{All-cons, All-nil, All-tail, All-take}
 use Rattle.std.proofs.lemmas.List.{at_drop_all, at_drop_more}
 use Rattle.fraction_theory.specs.Fraction.{Fraction}
@@ -30,9 +30,10 @@ use Rattle.edit_replay.specs.Replays.{IsReplay}
 use Rattle.edit_replay.proofs.FrameLemmas.{steps_market}
 use Rattle.edit_replay.specs.declared.step_outcome.StepOutcome.TheVariants as step
 use Rattle.replay_text.specs.ReplayTexts.{replayed}
-use Rattle.command_answers.specs.Clearing.{AreSidesWithin, IsWithin}
+use Rattle.command_answers.specs.Clearing.{AreSidesWithin}
 use Rattle.command_answers.specs.Tellings.{Telling, certified}
 use Rattle.command_answers.specs.Replaying.{AreDecided, AreStepSidesWithin, NoPairPassesIn, ReplaysTo, clear_or, is_done, last_clear, replay_status, step_status}
+use Rattle.command_answers.proofs.SidesLemmas.{passed_within}
 
 -- the first outcome and those behind it
 status_first : (o : StepOutcome Fraction) (os : List (StepOutcome Fraction)) → replay_status (o ∷ os) ≡ (if is_done (step_status o) then replay_status os else step_status o)
@@ -122,12 +123,12 @@ are_decided bound m before after (edit.Clear ∷ steps) (step.Clear q ∷ outcom
     are_decided bound m replay.0 after steps outcomes market (All-tail IsStep edit.Clear steps data_ok) (none.1 replay.0 (left_grown bound m before replay.0 q none.0 replay.1)) replay.2 k o is
 
 -- ---- a replay as it is told
-module _ {N : Type 0} (value : N → Fraction) (bound : ℕ) (fits : (x : N) → IsWithin bound (value x)) where
+module _ {N : Type 0} (value : N → Fraction) (bound : ℕ) (fits : (x : N) → (unsigned_abs (value x).num ≤ bound) × ((value x).den ≤ bound)) where
   -- the two sides of an operation that was refused are within the bound, as all numbers of their type
   sides_within : (o : Outcome N) → AreSidesWithin bound (outcome_at value o)
   sides_within (outcome.Cleared a) = tt
   sides_within (outcome.Infeasible f) = tt
-  sides_within (outcome.Range p) = (fits p.left, fits p.right)
+  sides_within (outcome.Range p) = passed_within value bound fits p
 
   step_within : (o : StepOutcome N) → AreStepSidesWithin bound (step_outcome_at value o)
   step_within step.Accepted = tt

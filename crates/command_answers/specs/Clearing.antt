@@ -1,5 +1,5 @@
 -- What clearing a market comes to.
-use Rattle.std.specs.Prelude.{◌≡◌, ℕ, ◌≤◌, [], IfSome, unsigned_abs}
+use Rattle.std.specs.Prelude.{◌≡◌, ℕ, [], IfSome}
 use Rattle.fraction_theory.specs.Fraction.{Fraction}
 use Rattle.exact_fraction.specs.declared.Passed.{Passed}
 use Rattle.market_model.specs.declared.participants.Parts.{Parts}
@@ -8,7 +8,7 @@ use Rattle.market_model.specs.declared.answered.Outcome.TheVariants as outcome
 use Rattle.market_model.specs.Market.{IsMarket}
 use Rattle.market_system.specs.Outcomes.{IsRightOutcome}
 use Rattle.report_text.specs.Reports.{report_text}
-use Rattle.cert_format.specs.Certificates.{NumbersFit, cert_of_outcome, most_part}
+use Rattle.cert_format.specs.Certificates.{NumbersFit, cert_of_outcome, most_part, Fits}
 use Rattle.cert_format.specs.Written.{certificate_of}
 use Rattle.command_answers.specs.declared.status.Status.{Status}
 use Rattle.command_answers.specs.declared.status.Status.TheVariants as status
@@ -20,13 +20,9 @@ status_of (outcome.Cleared a) = status.Done
 status_of (outcome.Infeasible f) = status.Infeasible
 status_of (outcome.Range p) = status.Range
 
--- the numerator and the denominator are within the bound
-abbrev pub IsWithin : ℕ → Fraction → Type 0
-IsWithin bound x = (unsigned_abs x.num ≤ bound) × (x.den ≤ bound)
-
--- the two sides of an operation are
+-- the numerators and the denominators of the two sides of an operation are within the bound
 abbrev pub ArePassedWithin : ℕ → Passed Fraction → Type 0
-ArePassedWithin bound p = IsWithin bound p.left × IsWithin bound p.right
+ArePassedWithin bound p = Fits bound p.left × Fits bound p.right
 
 -- of two numbers that became too large together, each is within the bound
 abbrev pub AreSidesWithin : ℕ → Outcome Fraction → Type 0

@@ -8,6 +8,7 @@ use Rattle.command_answers.specs.RightsLines.{rights_lines}
 use Rattle.command_answers.specs.Tellings.{uncertified}
 use Rattle.command_answers.specs.declared.status.Status.TheVariants as status
 use Rattle.command_answers.proofs.rights.put_fit.Goals as goal
+use Rattle.command_answers.proofs.SidesLemmas.{passed_within}
 
 pub returns-in_ok-rights_lines-in-Ok-clause-tells : goal.returns-in_ok-rights_lines-in-Ok-clause-tells
 returns-in_ok-rights_lines-in-Ok-clause-tells g c =
@@ -20,7 +21,7 @@ pub returns-in_ok-word-in-Err-Passed-clause-tells : goal.returns-in_ok-word-in-E
 returns-in_ok-word-in-Err-Passed-clause-tells g c =
     let value = g.N.Exact.value in
     let p = passed_at value c.in-Err-Passed.passed in
-    let within : ArePassedWithin g.N.Exact.bound p = (g.met.N.Exact.value_fits c.in-Err-Passed.passed.left, g.met.N.Exact.value_fits c.in-Err-Passed.passed.right) in
+    let within : ArePassedWithin g.N.Exact.bound p = passed_within value g.N.Exact.bound g.met.N.Exact.value_fits c.in-Err-Passed.passed in
     let refused = subst (StopsBy value (IsRightsRefusal c.args.market.now c.args.rights.now (total_at value c.args.prices.now) g.N.Exact.bound)) c.in-Err-Passed.field-0-is c.in-Err-Passed.ensures.cause in
     passed p refused within
     (ap (uncertified status.Range) (c.in_ok-word-in-Err-Passed.ensures ∙ ap (λ t. c.args.text.now ++ t) (c.as_slice.ensures.value ∙ c.in_ok-range-in-Err-Passed.ensures)))
