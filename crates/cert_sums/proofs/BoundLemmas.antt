@@ -28,7 +28,7 @@ use Rattle.market_model.proofs.SumSteps.{product_at, share_at, terms_at, behind,
 use Rattle.limit_rows.proofs.DualLemmas.{sum_named, filter_at}
 use Rattle.limit_rows.proofs.NamedLimits.{energy_left-by_named, limit_unnamed}
 use Rattle.cert_sums.specs.Named.{PricedRow, priced_by}
-use Rattle.cert_sums.specs.Pairs.{IsFarkasPair, in_flow as flow_pair, in_bound as bound_pair, in_worth, of_limit_less, of_limit_more, of_most}
+use Rattle.cert_sums.specs.Pairs.{IsFarkasPair, in_flow as flow_pair, in_bound as bound_pair, in_worth, of_most_less, of_most_more, of_most}
 use Rattle.market_model.specs.SumTables.{IsRefusedAmong, InjectionSum, balance_from_bus, balance_of_all, limited_row, flow_in_balance, flow_in_limits, farkas_bound_of_all, limited_by_carried, factor_of_pickup}
 use Rattle.market_model.specs.PutIn.{AreCarried, AreInjections}
 use Rattle.cert_sums.specs.Refusals.{IsBelowRefusal, IsCarriedRefusal, IsRowShareRefusal, in_most, in_flow, in_above, in_below}
@@ -136,7 +136,7 @@ module _ (m : Parts) (d : Duals Fraction) where
       in_bound why = bound_pair (_, farkas_bound_of_all, why)
 
       above_refused : IsMarginRefusal sum e.up (most_flow m e.row) (flow m (empty m) e.row) bound p → IsFarkasPair m d bound p
-      above_refused (inl c) = of_limit_less e.row (is_named_row m d k e h) c
+      above_refused (inl c) = of_most_less e.row (is_named_row m d k e h) c
       above_refused (inr c) = in_bound
           (share_at (farkas_terms m d) s.front (below ∷ s.rest) above s.split bound p sum e.up room_above (ap (λ u. Product u room_above) (sym h.up)) (before ∙ sym s.sum) c)
 
@@ -149,7 +149,7 @@ module _ (m : Parts) (d : Duals Fraction) where
           ∙ sym (total-append s.front (above ∷ []))
 
       below_refused : IsBelowRefusal (sum +ℚ e.up *ℚ room_above) e.down (most_flow m e.row) (flow m (empty m) e.row) bound p → IsFarkasPair m d bound p
-      below_refused (inl c) = of_limit_more e.row (is_named_row m d k e h) c
+      below_refused (inl c) = of_most_more e.row (is_named_row m d k e h) c
       below_refused (inr c) = in_bound
           (share_at (farkas_terms m d) (s.front ++ above ∷ []) s.rest below second bound p (sum +ℚ e.up *ℚ room_above) e.down room_below (ap (λ u. Product u room_below) (sym h.down)) with_above c)
 

@@ -22,7 +22,7 @@ use Rattle.market_model.proofs.SumSteps.{refusal_same, share_at, two_refused}
 use Rattle.limit_rows.proofs.DualLemmas.{up_unnamed, down_unnamed, sum_named, terms_named}
 use Rattle.cert_sums.specs.declared.pricing.NamedRow.{NamedRow}
 use Rattle.cert_sums.specs.Named.{PricedRow, priced_at, priced_by, AreNamed}
-use Rattle.cert_sums.specs.Refusals.{IsNetPriceRefusal, IsPriceRefusal, IsPricesRefusal, IsUnitPriceRefusal}
+use Rattle.cert_sums.specs.Refusals.{IsNetShadowPriceRefusal, IsPriceRefusal, IsPricesRefusal, IsUnitPriceRefusal}
 
 -- the row that duals name at a place, with its prices
 pub record IsNamedAt (m : Parts) (d : Duals Fraction) (k : ℕ) (e : PricedRow) : Type 0 where
@@ -98,7 +98,7 @@ module _ (m : Parts) (d : Duals Fraction) (i : ℕ) where
         ∙ ap (λ (s : Row). congestion_to k +ℚ term_value (term s)) h.at
         ∙ sym (sum_by_more (λ s. term_value (term s)) (named_rows m d) k e.row h.inside)
 
-    pub congestion_refused : (factor sum : Fraction) (bound : ℕ) (p : Passed Fraction) → factor ≡ row_factor m e.row i → sum ≡ congestion_to k → IsNetPriceRefusal sum e.up e.down factor bound p
+    pub congestion_refused : (factor sum : Fraction) (bound : ℕ) (p : Passed Fraction) → factor ≡ row_factor m e.row i → sum ≡ congestion_to k → IsNetShadowPriceRefusal sum e.up e.down factor bound p
         → IsCongestionRefusal m d i bound p
     congestion_refused factor sum bound p share before why = by why
       where

@@ -22,7 +22,7 @@ use Rattle.market_model.proofs.MorePlaces.{sum_by_more}
 use Rattle.market_model.proofs.SumSteps.{refusal_same, share_at}
 use Rattle.limit_rows.proofs.DualLemmas.{up_unnamed, down_unnamed, sum_named, filter_at}
 use Rattle.cert_sums.specs.Named.{PricedRow}
-use Rattle.cert_sums.specs.Refusals.{IsNetPriceRefusal, IsPriceRefusal}
+use Rattle.cert_sums.specs.Refusals.{IsNetShadowPriceRefusal, IsPriceRefusal}
 use Rattle.cert_sums.proofs.NamedLemmas.{IsNamedAt, is_named_row}
 
 module _ (m : Parts) (d : Duals Fraction) (price : ℕ → Fraction) (u : ℕ) where
@@ -108,7 +108,7 @@ module _ (m : Parts) (d : Duals Fraction) (price : ℕ → Fraction) (u : ℕ) w
           }
 
       module _ (bound : ℕ) (p : Passed Fraction) where
-        pub own_refused : (factor sum : Fraction) → u < length m.units → factor ≡ row_pickup m e.row.line e.row.cause → sum ≡ own_to k → IsNetPriceRefusal sum e.up e.down factor bound p
+        pub own_refused : (factor sum : Fraction) → u < length m.units → factor ≡ row_pickup m e.row.line e.row.cause → sum ≡ own_to k → IsNetShadowPriceRefusal sum e.up e.down factor bound p
             → IsPriceRefusal m d (OwnPriceSum m d price) bound p
         own_refused factor sum inside is before (inl c) =
             inr (inl (e.row, is_named_row m d k e h, refusal_same Minus e.up e.down (up_of m d e.row) (down_of m d e.row) bound p h.up h.down c))

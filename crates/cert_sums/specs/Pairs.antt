@@ -21,5 +21,5 @@ pub data IsFarkasPair (m : Parts) (d : Duals Fraction) (bound : ℕ) (p : Passed
   in_worth : IsWorthRefusal m d bound p → IsFarkasPair m d bound p
   in_bound : IsRefusedAmong (BoundSum m d) bound p → IsFarkasPair m d bound p
   of_most : (r : Row) → Contains (named_rows m d) r → IsMostFlowRefusal m r bound p → IsFarkasPair m d bound p
-  of_limit_less : (r : Row) → Contains (named_rows m d) r → IsRefusal Minus (most_flow m r) (flow m (empty m) r) bound p → IsFarkasPair m d bound p
-  of_limit_more : (r : Row) → Contains (named_rows m d) r → IsRefusal Plus (most_flow m r) (flow m (empty m) r) bound p → IsFarkasPair m d bound p
+  of_most_less : (r : Row) → Contains (named_rows m d) r → IsRefusal Minus (most_flow m r) (flow m (empty m) r) bound p → IsFarkasPair m d bound p
+  of_most_more : (r : Row) → Contains (named_rows m d) r → IsRefusal Plus (most_flow m r) (flow m (empty m) r) bound p → IsFarkasPair m d bound p

@@ -37,12 +37,12 @@ IsCarriedRefusal m x bound p = IsRefusedAmong (CarriedSum m x) bound p
 
 -- ---- the same step by step
 -- the two prices of a row, or what they take by a factor
-abbrev pub IsNetPriceRefusal : Fraction → Fraction → Fraction → Fraction → ℕ → Passed Fraction → Type 0
-IsNetPriceRefusal sum up down k bound p = IsRefusal Minus up down bound p ⊎ IsShareRefusal sum (neg_ℚ (up -ℚ down)) k bound p
+abbrev pub IsNetShadowPriceRefusal : Fraction → Fraction → Fraction → Fraction → ℕ → Passed Fraction → Type 0
+IsNetShadowPriceRefusal sum up down k bound p = IsRefusal Minus up down bound p ⊎ IsShareRefusal sum (neg_ℚ (up -ℚ down)) k bound p
 
 -- what a flow leaves of the most that it may be on the lower side, or what a price makes of that
 abbrev pub IsBelowRefusal : Fraction → Fraction → Fraction → Fraction → ℕ → Passed Fraction → Type 0
-IsBelowRefusal sum price limit flow bound p = IsRefusal Plus limit flow bound p ⊎ IsShareRefusal sum price (limit +ℚ flow) bound p
+IsBelowRefusal sum price most flow bound p = IsRefusal Plus most flow bound p ⊎ IsShareRefusal sum price (most +ℚ flow) bound p
 
 -- the flow of a row or its pickup factor, the most that the flow may be, or what its prices make of what the flow leaves of that, on either side
 pub data IsRowShareRefusal (m : Parts) (x : Dispatch) (e : PricedRow) (sum : Fraction) (bound : ℕ) (p : Passed Fraction) : Type 0 where

@@ -8,7 +8,7 @@ ghost use Rattle.market_model.specs.Optimality.{bus_price, congestion, congestio
 ghost use Rattle.market_model.specs.SumTables.{BusPriceSum, IsFactorRefusal};
 ghost use Rattle.market_model.specs.Valued.{passed_at};
 ghost use Rattle.cert_sums.specs.Named.{AreNamed};
-ghost use Rattle.cert_sums.specs.Refusals.{IsNetPriceRefusal, IsPriceRefusal, IsPricesRefusal, IsUnitPriceRefusal};
+ghost use Rattle.cert_sums.specs.Refusals.{IsNetShadowPriceRefusal, IsPriceRefusal, IsPricesRefusal, IsUnitPriceRefusal};
 
 use crate::own_pricing::own_price;
 use exact_fraction::{Exact, Passed, Sign, exact_difference, exact_sum};
@@ -28,7 +28,7 @@ pub struct NamedRow<N> {
 /// A sum less what the prices of a row take by its factor. A factor of 0 takes nothing.
 pub(crate) fn less_net_price<N: Exact>(sum: N, up: N, down: N, factor: N) -> Result<N, Passed<N>>
     ensures sum { IfOk result (λ more. N.value more ≡ N.value sum +ℚ neg_ℚ (N.value up -ℚ N.value down) *ℚ N.value factor) }
-    ensures cause { IfErr result (λ passed. IsNetPriceRefusal (N.value sum) (N.value up) (N.value down) (N.value factor) N.bound (passed_at N.value passed)) }
+    ensures cause { IfErr result (λ passed. IsNetShadowPriceRefusal (N.value sum) (N.value up) (N.value down) (N.value factor) N.bound (passed_at N.value passed)) }
 {
     if factor.sign() == Sign::Zero {
         return Ok(sum);

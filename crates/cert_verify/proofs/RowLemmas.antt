@@ -1,7 +1,7 @@
 -- What is looked up of a row by its name, and the operations refused.
 use Rattle.std.specs.Prelude.{◌≡◌, ◌≢◌, ◌&&◌, ◌||◌, pos, ℕ, Bool, true, false, not, List, [], ◌∷◌, ◌++◌, length, Contains, Option, Some, None, MatchOption, is_some, refl}
 use Rattle.std.specs.List.{list_any}
-use Rattle.std.proofs.Common.{inl, inr, ap, ap₂, sym, subst, ◌∙◌}
+use Rattle.std.proofs.Common.{ap, ap₂, sym, subst, ◌∙◌}
 use Rattle.std.proofs.lemmas.Bool.{true≢false}
 use Rattle.fraction_theory.specs.Fraction.{Fraction, neg_ℚ}
 use Rattle.fraction_theory.proofs.OrderLaws.{≤ℚ_of_same, ≤ℚ_refl, opposite_most}
@@ -14,7 +14,7 @@ use Rattle.market_model.specs.declared.limits.Row.{Row}
 use Rattle.market_model.specs.LimitRows.{carried, rows, row_id, limit, penalty, is_soft, most_flow, flow}
 use Rattle.market_model.specs.Market.{IsMarket}
 use Rattle.market_model.specs.Optimality.{names_row}
-use Rattle.market_model.specs.SumTables.{IsFlowRefusal, limited_row, limited_by_carried}
+use Rattle.market_model.specs.SumTables.{IsFlowRefusal}
 use Rattle.market_model.proofs.Excesses.{hard_costs_nothing, penalty_least}
 use Rattle.market_model.proofs.WholeDispatch.{whole-<ℚ}
 use Rattle.limit_rows.proofs.ApartLemmas.{same_row}
@@ -22,7 +22,7 @@ use Rattle.limit_rows.proofs.PlaceLemmas.{same_name}
 use Rattle.limit_rows.specs.Naming.{has_name}
 use Rattle.cert_sums.specs.Refusals.{IsCarriedRefusal}
 use Rattle.cert_verify.specs.Reasons.{NoneOf, balance_reason, differ, has_no_row, has_slack, is_below, is_unpriced, limit_reason, need_reason, passes, breaks_row, breaks_side, part_reasons, sum_reasons}
-use Rattle.cert_verify.specs.Stops.{IsLimitPair, of_flow, of_pickup}
+use Rattle.cert_verify.specs.Stops.{IsLimitPair, of_carried, of_row}
 use Rattle.cert_verify.proofs.TestLemmas.{all_none, any_of, any_none, below_not, below_of, int_lt-true, neither, not_below, none_first, none_join, not_both, not_true}
 use Rattle.cert_verify.proofs.VerdictLemmas.{counts_to, named}
 
@@ -129,12 +129,11 @@ module _ (m : Parts) (market : IsMarket m) (x : Dispatch) (ds : List (Dual Fract
 -- ---- refusals
 -- what is carried at a dispatch
 pub carried_pair : (m : Parts) (x : Dispatch) (bound : ℕ) (p : Passed Fraction) → IsCarriedRefusal m x bound p → IsLimitPair m x bound p
-carried_pair m x bound p (terms, sum, why) = of_flow (terms, limited_by_carried terms sum, why)
+carried_pair m x bound p why = of_carried why
 
 -- a flow of a row of the market, of what is carried at a dispatch
 pub limit_pair : (m : Parts) (x : Dispatch) (r : Row) (bound : ℕ) (p : Passed Fraction) → Contains (rows m) r → IsFlowRefusal m (carried m x) r bound p → IsLimitPair m x bound p
-limit_pair m x r bound p listed (inl (terms, sum, why)) = of_flow (terms, limited_row r terms listed sum, why)
-limit_pair m x r bound p listed (inr why) = of_pickup (r, listed, why)
+limit_pair m x r bound p listed why = of_row (r, listed, why)
 
 -- where nothing is wrong with the parts, none of the reasons up to these holds where these do not
 module _ (m : Parts) (x : Dispatch) (d : Duals Fraction) (before : NoneOf (part_reasons m x d)) (balanced : balance_reason m x ≡ None) where

@@ -9,25 +9,24 @@ use Rattle.market_model.specs.declared.participants.Parts.{Parts}
 use Rattle.market_model.specs.declared.stops.Stop.{Stop}
 use Rattle.market_model.specs.declared.stops.Stop.TheVariants as stop
 use Rattle.market_model.specs.Dispatch.{Dispatch}
-use Rattle.market_model.specs.LimitRows.{rows, limit}
-use Rattle.market_model.specs.SumTables.{IsRefusedAmong, BalanceSum, LimitFlowSum, RoomSum, AcceptedSum, IsPickupRefusal}
+use Rattle.market_model.specs.LimitRows.{rows, limit, carried}
+use Rattle.market_model.specs.SumTables.{IsRefusedAmong, BalanceSum, RoomSum, AcceptedSum}
 use Rattle.market_model.specs.Valued.{passed_at}
-use Rattle.limit_rows.specs.Refusals.{IsMostFlowRefusal}
+use Rattle.limit_rows.specs.Refusals.{IsMostFlowRefusal, IsAnyFlowRefusal}
 use Rattle.cert_format.specs.declared.certificate.Cert.{Cert}
 use Rattle.cert_format.specs.declared.certificate.Cert.TheVariants.{Optimal, Farkas}
 use Rattle.cert_format.specs.Certificates.{places_of}
 use Rattle.cert_sums.specs.Pairs.{IsFarkasPair}
-use Rattle.cert_sums.specs.Refusals.{IsWorthRefusal}
+use Rattle.cert_sums.specs.Refusals.{IsWorthRefusal, IsCarriedRefusal}
 use Rattle.cert_verify.specs.declared.verdicts.VerifyStop.{VerifyStop}
 use Rattle.cert_verify.specs.declared.verdicts.VerifyStop.TheVariants as why
 use Rattle.cert_verify.specs.Certificates.{dispatched, duals_of}
 use Rattle.cert_verify.specs.Reasons.{NoneOf, balance_reason, dual_reasons, flow_reasons, limit_reason, part_reasons, sum_reasons}
 
--- in the flow of a line or of a row of the market, in the output of a lost unit, in the pickup factor of such a row, or of its limit and
--- its most excess
+-- in what the network carries, in the flow of a row of the market or in its pickup factor, or of its limit and its most excess
 pub data IsLimitPair (m : Parts) (x : Dispatch) (bound : ℕ) (p : Passed Fraction) : Type 0 where
-  of_flow : IsRefusedAmong (LimitFlowSum m x) bound p → IsLimitPair m x bound p
-  of_pickup : IsPickupRefusal m (rows m) bound p → IsLimitPair m x bound p
+  of_carried : IsCarriedRefusal m x bound p → IsLimitPair m x bound p
+  of_row : IsAnyFlowRefusal m (carried m x) bound p → IsLimitPair m x bound p
   of_most : (r : Row) → Contains (rows m) r → IsMostFlowRefusal m r bound p → IsLimitPair m x bound p
 
 -- An operation is refused that a reason asks for, and none of the reasons before that one holds: the balance is added up where nothing is

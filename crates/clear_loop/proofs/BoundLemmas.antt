@@ -28,7 +28,7 @@ use Rattle.market_dict.specs.Refusals.{of_sum}
 use Rattle.market_dict.specs.Takings.{limits_of, taken_of}
 use Rattle.market_dict.specs.declared.taking.Taking.{Taking}
 use Rattle.market_dict.proofs.RefusalLaws.{posing_range}
-use Rattle.clear_loop.specs.Bounding.{IsBoundRefusal, in_flow, in_most, in_worth, in_bound, in_prices}
+use Rattle.clear_loop.specs.Bounding.{IsFarkasRefusal, in_flow, in_most, in_worth, in_bound, in_prices}
 use Rattle.clear_loop.proofs.BrokenLemmas.{taken_or_not}
 use Rattle.clear_loop.proofs.MostPairs.{most_refusal_range}
 
@@ -75,7 +75,7 @@ module _ (m : Parts) (ts : List Taking) (d : Duals Fraction) (margin : Fraction)
     pairs : RefusalsArePairs m (limits_of ts) (taken_of ts) stuck.choice bound p
     pairs = law_of_the_pairs m (limits_of ts) (taken_of ts) stuck.choice bound p market (growth_none m (limits_of ts)) stuck.is_choice
 
-    pub bound_range : IsBoundRefusal m d bound p → IsRangeOf m (limits_of ts) bound p
+    pub bound_range : IsFarkasRefusal m d bound p → IsRangeOf m (limits_of ts) bound p
     bound_range (in_flow a) = posing_range m (limits_of ts) ts stuck.choice bound p market (growth_none m (limits_of ts)) stuck.is_choice (limits_of ts) (λ r c. c) (of_sum a)
     bound_range (in_prices (inr (r, named, (terms, sum, a)))) = pairs.sum (Some Factor) terms (factor_of r terms (named_row r named).0 sum) a
     bound_range (in_most r named a) = most_refusal_range m (limits_of ts) (taken_of ts) stuck.choice bound p market (growth_none m (limits_of ts)) stuck.is_choice r (named_row r named).0 (named_taken r named) a

@@ -32,7 +32,7 @@ use Rattle.market_model.proofs.SumSteps.{product_at, share_at, terms_at, tested_
 use Rattle.limit_rows.proofs.DualLemmas.{IsRowOfDual, sum_named, filter_at}
 use Rattle.market_model.proofs.UnitPrices.{at_unit, own_at}
 use Rattle.limit_rows.proofs.NamedLimits.{energy_left-by_named, limit_unnamed}
-use Rattle.clear_loop.specs.Bounding.{IsBoundRefusal, IsRowStepRefusal, in_bound, in_flow, in_lower, in_most, in_row_flow, in_row_most, in_upper, in_worth, of_lower, of_most, of_upper, in_prices}
+use Rattle.clear_loop.specs.Bounding.{IsFarkasRefusal, IsRowStepRefusal, in_bound, in_flow, in_lower, in_most, in_row_flow, in_row_most, in_upper, in_worth, of_lower, of_most, of_upper, in_prices}
 
 -- ---- limit by limit
 -- the lower side, by the flow turned round
@@ -83,7 +83,7 @@ module _ (m : Parts) (d : Duals Fraction) where
   behind_limits = reserve_left_terms m d ++ (block_terms ++ offer_terms)
 
   -- ---- the price of energy by the balance
-  pub energy_refused : (b : Fraction) (bound : ℕ) (p : Passed Fraction) → b ≡ balance m (empty m) → IsRefusal Times d.energy b bound p → IsBoundRefusal m d bound p
+  pub energy_refused : (b : Fraction) (bound : ℕ) (p : Passed Fraction) → b ≡ balance m (empty m) → IsRefusal Times d.energy b bound p → IsFarkasRefusal m d bound p
   energy_refused b bound p is h =
       in_bound
       (_, farkas_bound_of_all, product_at (farkas_terms m d) [] (flat_map (limit_terms m d) (rows m) ++ behind_limits) energy_term (farkas_terms-parts m d) bound p d.energy b (ap (Product d.energy) (sym is)) refl h)
@@ -154,10 +154,10 @@ module _ (m : Parts) (d : Duals Fraction) where
           before
           ∙ sym (ap (λ t. d.energy *ℚ balance m (empty m) +ℚ t) (total-flat_map (limit_terms m d) round.0 ∙ sum_named m d left round.0 (limit_unnamed m d) ∙ ap (sum_by left) round.3))
 
-      added : IsRefusedIn (farkas_terms m d) bound p → IsBoundRefusal m d bound p
+      added : IsRefusedIn (farkas_terms m d) bound p → IsFarkasRefusal m d bound p
       added why = in_bound (_, farkas_bound_of_all, why)
 
-      upper_refused : IsMarginRefusal sum e.up (most_flow m r) (flow m (empty m) r) bound p → IsBoundRefusal m d bound p
+      upper_refused : IsMarginRefusal sum e.up (most_flow m r) (flow m (empty m) r) bound p → IsFarkasRefusal m d bound p
       upper_refused (inl c) = in_most r named_here (of_upper c)
       upper_refused (inr c) = added (share_at (farkas_terms m d) front (below ∷ rest) above split bound p sum e.up room_above (ap (λ u. Product u room_above) h.up) sum_is c)
 
@@ -172,12 +172,12 @@ module _ (m : Parts) (d : Duals Fraction) where
       turned_back : most_flow m r -ℚ neg_ℚ (flow m (empty m) r) ≡ room_below
       turned_back = by_ring ring_ℚ (most_flow m r ∷ flow m (empty m) r ∷ []) (at 0 ⊕ pneg (pneg (at 1))) (at 0 ⊕ at 1) refl
 
-      lower_refused : IsMarginRefusal (sum +ℚ e.up *ℚ room_above) e.down (most_flow m r) (neg_ℚ (flow m (empty m) r)) bound p → IsBoundRefusal m d bound p
+      lower_refused : IsMarginRefusal (sum +ℚ e.up *ℚ room_above) e.down (most_flow m r) (neg_ℚ (flow m (empty m) r)) bound p → IsFarkasRefusal m d bound p
       lower_refused (inl c) = in_most r named_here (of_lower c)
       lower_refused (inr c) = added
           (share_at (farkas_terms m d) (front ++ above ∷ []) rest below second bound p (sum +ℚ e.up *ℚ room_above) e.down (most_flow m r -ℚ neg_ℚ (flow m (empty m) r)) (ap₂ Product h.down (sym turned_back)) with_above c)
 
-      pub limit_refused : IsRowStepRefusal m r e.up e.down sum bound p → IsBoundRefusal m d bound p
+      pub limit_refused : IsRowStepRefusal m r e.up e.down sum bound p → IsFarkasRefusal m d bound p
       limit_refused (in_row_flow (inl (terms, part, c))) = in_flow (terms, flow_in_limits terms (limited_row r terms h.row part), c)
       limit_refused (in_row_flow (inr (terms, part, c))) = in_prices (inr (r, named_here, (terms, factor_of_pickup terms part, c)))
       limit_refused (in_row_most c) = in_most r named_here (of_most c)
@@ -195,7 +195,7 @@ module _ (m : Parts) (d : Duals Fraction) where
   behind_rooms = block_terms ++ offer_terms
 
   pub need_refused : m.reserve.listed ≡ true → (sum : Fraction) (bound : ℕ) (p : Passed Fraction) → sum ≡ total (energy_left_terms m d) → IsShareRefusal sum d.reserve (neg_ℚ (reserve_need m)) bound p
-      → IsBoundRefusal m d bound p
+      → IsFarkasRefusal m d bound p
   need_refused listed sum bound p before h = in_bound (_, farkas_bound_of_all, need_refused_in_terms m d listed sum bound p before h)
 
   -- ---- the rooms
@@ -225,7 +225,7 @@ module _ (m : Parts) (d : Duals Fraction) where
       ∙ ap (λ t. total before_rooms +ℚ t) (sym (total-filter_more (offers_reserve m) room_term k))
 
   pub room_refused : (k : ℕ) (sum : Fraction) (bound : ℕ) (p : Passed Fraction) → k < length m.units → offers_reserve m k ≡ true → sum ≡ rooms_to k → IsShareRefusal sum (room_price m d k) (room m k) bound p
-      → IsBoundRefusal m d bound p
+      → IsFarkasRefusal m d bound p
   room_refused k sum bound p lt offers before h =
       let t = tested_at (offers_reserve m) room_term (length m.units) k lt offers in
       in_bound (
@@ -239,14 +239,14 @@ module _ (m : Parts) (d : Duals Fraction) where
 
   -- ---- what a MW of a unit that offers reserve is worth
   module _ (u : ℕ) (lt : u < length m.units) (offers : offers_reserve m u ≡ true) (bound : ℕ) (p : Passed Fraction) where
-    pub energy_refused_there : (price : Fraction) → price ≡ unit_price m d u → IsRefusal Minus price (room_price m d u) bound p → IsBoundRefusal m d bound p
+    pub energy_refused_there : (price : Fraction) → price ≡ unit_price m d u → IsRefusal Minus price (room_price m d u) bound p → IsFarkasRefusal m d bound p
     energy_refused_there price is h = in_worth (
       worth_terms m d u,
       energy_of_unit u (offers-listed m u lt offers),
       difference_refused (unit_price m d u) (room_price m d u) price (room_price m d u) bound p is refl h,
     )
 
-    pub reserve_refused_there : IsRefusal Minus d.reserve (room_price m d u) bound p → IsBoundRefusal m d bound p
+    pub reserve_refused_there : IsRefusal Minus d.reserve (room_price m d u) bound p → IsFarkasRefusal m d bound p
     reserve_refused_there h = in_worth (
       reserve_worth_terms m d u,
       reserve_of_unit u (offers-listed m u lt offers),
@@ -271,7 +271,7 @@ module _ (m : Parts) (d : Duals Fraction) where
         ∙ +ℚ_assoc (total (nothing_terms m d)) (total (map (block_most m d) (places k))) (part_above (block_weight m d k) *ℚ quantity m k)
         ∙ ap (λ t. total (nothing_terms m d) +ℚ t) (sym (total-places_more (block_most m d) k))
 
-    pub block_refused : (sum : Fraction) (bound : ℕ) (p : Passed Fraction) → k < length m.blocks → sum ≡ blocks_to k → IsShareRefusal sum (part_above weight) mw bound p → IsBoundRefusal m d bound p
+    pub block_refused : (sum : Fraction) (bound : ℕ) (p : Passed Fraction) → k < length m.blocks → sum ≡ blocks_to k → IsShareRefusal sum (part_above weight) mw bound p → IsFarkasRefusal m d bound p
     block_refused sum bound p inside before why =
         let r = terms_at (block_most m d) (length m.blocks) k inside in
         let front : List Term = nothing_terms m d ++ map (block_most m d) (places k) in
@@ -307,7 +307,7 @@ module _ (m : Parts) (d : Duals Fraction) where
         ∙ +ℚ_assoc (total before_offers) (total (map (offer_most m d) (places k))) (part_above (offer_weight m d k) *ℚ reserve_quantity m k)
         ∙ ap (λ t. total before_offers +ℚ t) (sym (total-places_more (offer_most m d) k))
 
-    pub offer_refused : (sum : Fraction) (bound : ℕ) (p : Passed Fraction) → k < length m.reserve.offers → sum ≡ offers_to k → IsShareRefusal sum (part_above weight) mw bound p → IsBoundRefusal m d bound p
+    pub offer_refused : (sum : Fraction) (bound : ℕ) (p : Passed Fraction) → k < length m.reserve.offers → sum ≡ offers_to k → IsShareRefusal sum (part_above weight) mw bound p → IsFarkasRefusal m d bound p
     offer_refused sum bound p inside before why =
         let r = terms_at (offer_most m d) (length m.reserve.offers) k inside in
         in_bound (

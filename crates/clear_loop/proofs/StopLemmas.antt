@@ -31,7 +31,7 @@ use Rattle.market_model.specs.declared.stops.Stop.TheVariants as stop
 use Rattle.market_model.specs.Optimality.{ArePricesOf}
 use Rattle.market_dict.proofs.RefusalLaws.{pair_range, posing_range}
 use Rattle.market_dict.proofs.TakingLists.{limits-append}
-use Rattle.clear_loop.specs.Bounding.{IsBoundRefusal}
+use Rattle.clear_loop.specs.Bounding.{IsFarkasRefusal}
 use Rattle.clear_loop.specs.Rounds.{IsLookRefusal, KeepsAll, StopsInRange}
 use Rattle.clear_loop.proofs.BoundLemmas.{bound_range}
 use Rattle.clear_loop.proofs.SolvedLemmas.{look_range, money_range, price_range}
@@ -69,7 +69,7 @@ module _ {N : Type 0} (value : N → Fraction) (bound : ℕ) (m : Parts) where
   earlier_stop t g stop.Memory grown range = tt
 
   -- where the bound of duals is made that show that nothing is feasible
-  pub bound_stop : (ts : List Taking) (d : Duals Fraction) (margin : Fraction) (s : Stop N) → IsMarket m → IsStuckBy m ts d margin → StopsBy value (IsBoundRefusal m d bound) s → StopsInRange value bound m (limits_of ts) s
+  pub bound_stop : (ts : List Taking) (d : Duals Fraction) (margin : Fraction) (s : Stop N) → IsMarket m → IsStuckBy m ts d margin → StopsBy value (IsFarkasRefusal m d bound) s → StopsInRange value bound m (limits_of ts) s
   bound_stop ts d margin (stop.Passed p) market stuck a = bound_range m ts d margin stuck market bound (passed_at value p) a
   bound_stop ts d margin stop.Memory market stuck a = tt
 

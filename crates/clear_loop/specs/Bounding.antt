@@ -21,12 +21,12 @@ pub data IsMostRefusal (m : Parts) (r : Row) (bound : ℕ) (p : Passed Fraction)
 
 -- an operation refused in a sum of what flows where nothing is accepted, in the prices of these duals, for what the flow of a row that they
 -- name leaves of the most that it may be then, in a worth, or in their bound
-pub data IsBoundRefusal (m : Parts) (d : Duals Fraction) (bound : ℕ) (p : Passed Fraction) : Type 0 where
-  in_flow : IsRefusedAmong (FlowSum m (empty m)) bound p → IsBoundRefusal m d bound p
-  in_prices : IsRefusedInPrices m d bound p → IsBoundRefusal m d bound p
-  in_most : (r : Row) → Contains (named_rows m d) r → IsMostRefusal m r bound p → IsBoundRefusal m d bound p
-  in_worth : IsRefusedAmong (WorthSum m d) bound p → IsBoundRefusal m d bound p
-  in_bound : IsRefusedAmong (BoundSum m d) bound p → IsBoundRefusal m d bound p
+pub data IsFarkasRefusal (m : Parts) (d : Duals Fraction) (bound : ℕ) (p : Passed Fraction) : Type 0 where
+  in_flow : IsRefusedAmong (FlowSum m (empty m)) bound p → IsFarkasRefusal m d bound p
+  in_prices : IsRefusedInPrices m d bound p → IsFarkasRefusal m d bound p
+  in_most : (r : Row) → Contains (named_rows m d) r → IsMostRefusal m r bound p → IsFarkasRefusal m d bound p
+  in_worth : IsRefusedAmong (WorthSum m d) bound p → IsFarkasRefusal m d bound p
+  in_bound : IsRefusedAmong (BoundSum m d) bound p → IsFarkasRefusal m d bound p
 
 -- ---- the same step by step
 -- of a row: in its flow, for the most that this may be, or on either side at these prices

@@ -13,7 +13,7 @@ ghost use Rattle.market_model.specs.Stops.{StopsBy};
 ghost use Rattle.market_model.specs.Valued.{duals_at, passed_at};
 ghost use Rattle.market_model.specs.NamedSums.{IsMarginRefusal};
 ghost use Rattle.limit_screen.specs.Flows.{flows_at};
-ghost use Rattle.clear_loop.specs.Bounding.{IsBoundRefusal, IsRowStepRefusal};
+ghost use Rattle.clear_loop.specs.Bounding.{IsFarkasRefusal, IsRowStepRefusal};
 
 use crate::bounding_reserve::{with_need, with_offers, with_rooms};
 use crate::worths::{unit_prices, with_blocks};
@@ -66,7 +66,7 @@ fn with_limits<N: Exact>(
     requires flows { map N.value flows.now ≡ flows_at market.now (empty market.now) }
     requires of_energy { N.value of_energy ≡ N.value duals.now.energy *ℚ balance market.now (empty market.now) }
     ensures sum { IfOk result (λ sum. N.value sum ≡ total (energy_left_terms market.now (duals_at N.value duals.now))) }
-    ensures cause { IfErr result (λ passed. IsBoundRefusal market.now (duals_at N.value duals.now) N.bound (passed_at N.value passed)) }
+    ensures cause { IfErr result (λ passed. IsFarkasRefusal market.now (duals_at N.value duals.now) N.bound (passed_at N.value passed)) }
 {
     let _lines = market.lines();
     let mut sum = of_energy;
@@ -82,7 +82,7 @@ fn left_of_energy<N: Exact>(market: &Market, flows: &[N], duals: &Duals<N>) -> R
     requires duals { ProperDuals market.now (duals_at N.value duals.now) }
     requires flows { map N.value flows.now ≡ flows_at market.now (empty market.now) }
     ensures sum { IfOk result (λ sum. N.value sum ≡ total (energy_left_terms market.now (duals_at N.value duals.now))) }
-    ensures cause { IfErr result (λ passed. IsBoundRefusal market.now (duals_at N.value duals.now) N.bound (passed_at N.value passed)) }
+    ensures cause { IfErr result (λ passed. IsFarkasRefusal market.now (duals_at N.value duals.now) N.bound (passed_at N.value passed)) }
 {
     let all = balance(market, bus_injections(market, flows))?;
     let of_energy = duals.energy.times(all)?;
@@ -100,7 +100,7 @@ fn with_reserve<N: Exact>(
     requires of_energy { N.value of_energy ≡ total (energy_left_terms market.now (duals_at N.value duals.now)) }
     requires own { map N.value own.now ≡ map (unit_price market.now (duals_at N.value duals.now)) (places (length market.now.units)) }
     ensures bound { IfOk result (λ bound. N.value bound ≡ farkas_bound market.now (duals_at N.value duals.now)) }
-    ensures cause { IfErr result (λ passed. IsBoundRefusal market.now (duals_at N.value duals.now) N.bound (passed_at N.value passed)) }
+    ensures cause { IfErr result (λ passed. IsFarkasRefusal market.now (duals_at N.value duals.now) N.bound (passed_at N.value passed)) }
 {
     let of_need = with_need(market, of_energy, duals)?;
     let of_rooms = with_rooms(market, of_need, duals)?;
@@ -119,7 +119,7 @@ pub(crate) fn farkas_bound<N: Exact>(
     requires duals { ProperDuals market.now (duals_at N.value duals.now) }
     requires flows { map N.value flows.now ≡ flows_at market.now (empty market.now) }
     ensures bound { IfOk result (λ bound. N.value bound ≡ farkas_bound market.now (duals_at N.value duals.now)) }
-    ensures cause { IfErr result (StopsBy N.value (IsBoundRefusal market.now (duals_at N.value duals.now) N.bound)) }
+    ensures cause { IfErr result (StopsBy N.value (IsFarkasRefusal market.now (duals_at N.value duals.now) N.bound)) }
 {
     let own = unit_prices(alloc, market, duals)?;
     let of_energy = left_of_energy(market, flows, duals)?;

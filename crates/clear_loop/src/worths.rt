@@ -13,7 +13,7 @@ ghost use Rattle.market_model.specs.Reserves.{offers_reserve};
 ghost use Rattle.market_model.specs.Stops.{StopsBy};
 ghost use Rattle.market_model.specs.SumTables.{IsRefusedInPrices};
 ghost use Rattle.market_model.specs.Valued.{duals_at, passed_at, room_dual_at};
-ghost use Rattle.clear_loop.specs.Bounding.{IsBoundRefusal};
+ghost use Rattle.clear_loop.specs.Bounding.{IsFarkasRefusal};
 
 use crate::answering::bus_prices;
 use bus_prices::own_prices;
@@ -89,7 +89,7 @@ pub(crate) fn with_blocks<N: Exact>(
     requires of_rooms { N.value of_rooms ≡ total (nothing_terms market.now (duals_at N.value duals.now)) }
     requires own { map N.value own.now ≡ map (unit_price market.now (duals_at N.value duals.now)) (places (length market.now.units)) }
     ensures sum { let d = duals_at N.value duals.now in IfOk result (λ sum. N.value sum ≡ total (nothing_terms market.now d ++ map (block_most market.now d) (places (length market.now.blocks)))) }
-    ensures cause { IfErr result (λ passed. IsBoundRefusal market.now (duals_at N.value duals.now) N.bound (passed_at N.value passed)) }
+    ensures cause { IfErr result (λ passed. IsFarkasRefusal market.now (duals_at N.value duals.now) N.bound (passed_at N.value passed)) }
 {
     let _units = market.units();
     let mut sum = of_rooms;

@@ -1,5 +1,5 @@
 -- A record of a table: the numbers in its cells.
-use Rattle.std.specs.Prelude.{ℕ, ◌*◌, ◌<◌, ◌≤◌, ◌^◌, ℤ, pos, ◌*ℤ◌, Bool, true, false, codes, nat_lt, unsigned_abs, if◌then◌else◌, Option, Some, None, Result, Ok, Err}
+use Rattle.std.specs.Prelude.{ℕ, ◌*◌, ◌≤◌, ◌^◌, ℤ, pos, ◌*ℤ◌, Bool, true, false, codes, nat_lt, unsigned_abs, if◌then◌else◌, Option, Some, None, Result, Ok, Err}
 use Rattle.std.specs.Option.{option_map_or}
 use Rattle.std.specs.Str.{bytes_eq}
 use Rattle.record_reading.specs.Records.{Record, cell_of}
@@ -14,6 +14,7 @@ use Rattle.factor_tables.specs.declared.table_fault.TableFault.{TableFault}
 use Rattle.factor_tables.specs.declared.table_fault.TableFault.TheVariants as fault
 use Rattle.market_data.specs.Scales.{most_factor, mw_places, place_count, place_step, price_places}
 use Rattle.market_data.specs.declared.scales.FactorPlaces.{FactorPlaces}
+use Rattle.market_data.specs.Participants.{IsDatum}
 
 -- ---- the numbers of a record
 -- the number in a cell, in units of so many places
@@ -58,15 +59,15 @@ penalty_in line r =
 
 -- ---- what is known of numbers that were read
 pub record FactorIsRead (r : FactorRecord) : Type 0 where
-  pub branch : unsigned_abs r.branch < 2 ^ 63
-  pub of : unsigned_abs r.of < 2 ^ 63
+  pub branch : IsDatum r.branch
+  pub of : IsDatum r.of
   pub factor : unsigned_abs r.factor ≤ most_factor
 
 pub record OffsetIsRead (r : OffsetRecord) : Type 0 where
-  pub branch : unsigned_abs r.branch < 2 ^ 63
-  pub mw : unsigned_abs r.mw < 2 ^ 63
+  pub branch : IsDatum r.branch
+  pub mw : IsDatum r.mw
 
 pub record PenaltyIsRead (r : PenaltyRecord) : Type 0 where
-  pub branch : unsigned_abs r.branch < 2 ^ 63
-  pub price : unsigned_abs r.softness.price < 2 ^ 63
-  pub excess : unsigned_abs r.softness.most_excess < 2 ^ 63
+  pub branch : IsDatum r.branch
+  pub price : IsDatum r.softness.price
+  pub excess : IsDatum r.softness.most_excess

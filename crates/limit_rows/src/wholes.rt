@@ -1,8 +1,9 @@
 //! The flow of a line where most buses put in whole numbers: what these add is summed up in whole numbers.
 
-ghost use Rattle.std.specs.Prelude.{◌≡◌, ◌<◌, ◌^◌, unsigned_abs, length, map, IfSome};
+ghost use Rattle.std.specs.Prelude.{◌≡◌, ◌<◌, ◌^◌, length, map, IfSome};
 ghost use Rattle.fraction_theory.specs.Fraction.{over, whole, ◌+ℚ◌};
 ghost use Rattle.market_data.specs.Scales.{factor_one};
+ghost use Rattle.market_data.specs.Participants.{IsDatum};
 ghost use Rattle.market_model.specs.LimitRows.{line_flow};
 ghost use Rattle.market_model.specs.PutIn.{put_in};
 ghost use Rattle.limit_rows.specs.Wholes.{AreWholes, IsWhole};
@@ -17,7 +18,7 @@ use std::cmp::Ordering;
 /// A whole number as an exact one. Nothing where 63 bits do not hold its size.
 fn exact_whole<N: Exact>(number: i64) -> Option<N>
     ensures value { IfSome result (λ n. N.value n ≡ whole number) }
-    ensures small { IfSome result (λ _. unsigned_abs number < 2 ^ 63) }
+    ensures small { IfSome result (λ _. IsDatum number) }
 {
     if number == i64::MIN {
         None
