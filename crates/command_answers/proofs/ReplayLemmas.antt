@@ -1,6 +1,6 @@
 -- Statuses, and what the last clear came to, one outcome after another.
-use Rattle.std.proofs.Common.{◌≡◌, ◌<◌, ◌≤◌, ◌∙◌, ℕ, ◌+◌, true, false, if◌then◌else◌, List, [], ◌∷◌, All, drop, take, get_or, map, length, Option, None, Some, zero, suc, refl, sym, ap, subst}
-use Rattle.std.specs.Prelude.{IfSome, option_and_then, unsigned_abs}
+use Rattle.std.proofs.Common.{◌≡◌, ◌<◌, ◌≤◌, ◌∙◌, ℕ, ◌+◌, true, false, if◌then◌else◌, List, [], ◌∷◌, All, drop, take, get_or, map, length, Option, Some, zero, suc, refl, sym, ap, subst}
+use Rattle.std.specs.Prelude.{unsigned_abs}
 use Rattle.std.proofs.lemmas.List.Elements.{All-cons, All-nil, All-tail, All-take}
 use Rattle.std.proofs.lemmas.List.{at_drop_all, at_drop_more}
 use Rattle.fraction_theory.specs.Fraction.{Fraction}
@@ -19,8 +19,6 @@ use Rattle.market_system.specs.Outcomes.{IsClear, IsDecided}
 use Rattle.market_system.specs.WorkingPairs.{NoPairPasses}
 use Rattle.market_system.proofs.Completeness.{law_of_completeness}
 use Rattle.clear_loop.specs.Keeping.{cold}
-use Rattle.cert_format.specs.Certificates.{NumbersFit, cert_of_outcome}
-use Rattle.cert_format.specs.Written.{certificate_of}
 use Rattle.offer_book.specs.Edits.{step_of}
 use Rattle.edit_table.specs.EditTable.{IsStep}
 use Rattle.edit_table.specs.declared.Step.{Step}
@@ -29,10 +27,9 @@ use Rattle.edit_replay.specs.SessionStates.{SessionState}
 use Rattle.edit_replay.specs.Replays.{IsReplay}
 use Rattle.edit_replay.proofs.FrameLemmas.{steps_market}
 use Rattle.edit_replay.specs.declared.step_outcome.StepOutcome.TheVariants as step
-use Rattle.replay_text.specs.ReplayTexts.{replayed}
 use Rattle.command_answers.specs.Clearing.{AreSidesWithin}
-use Rattle.command_answers.specs.Tellings.{Telling, certified}
-use Rattle.command_answers.specs.Replaying.{AreDecided, AreStepSidesWithin, NoPairPassesIn, ReplaysTo, clear_or, is_done, last_clear, replay_status, step_status}
+use Rattle.command_answers.specs.Tellings.{Telling}
+use Rattle.command_answers.specs.Replaying.{AreDecided, AreStepSidesWithin, NoPairPassesIn, ReplaysTo, clear_or, is_done, last_clear, replay_status, step_status, TellsSteps}
 use Rattle.command_answers.proofs.SidesLemmas.{passed_within}
 
 -- the first outcome and those behind it
@@ -142,10 +139,8 @@ module _ {N : Type 0} (value : N → Fraction) (bound : ℕ) (fits : (x : N) →
   pub replays_to : (m : Parts) (steps : List Step) (start now : SessionState) (outcomes : List (StepOutcome N)) (t : Telling) → start ≡ record { market = m; kept = cold }
       → IsMarket m → All IsStep steps
       → IsReplay bound start.market start.kept.taken.rows steps (map (step_outcome_at value) outcomes) now.kept.taken.rows
-      → t.status ≡ replay_status (map (step_outcome_at value) outcomes) → t.text ≡ replayed m steps (map (step_outcome_at value) outcomes)
-      → t.outputs ≡ certified (option_and_then (certificate_of m.factor_places m.reserve.listed) (last_clear None (map (step_outcome_at value) outcomes)))
-      → IfSome (option_and_then (cert_of_outcome m.factor_places m.reserve.listed) (last_clear None (map (step_outcome_at value) outcomes))) (NumbersFit bound) → ReplaysTo bound m steps t
-  replays_to m steps start now outcomes t is market data_ok replay status_is text_is certificate_is certificate_fits =
+      → TellsSteps bound m steps (map (step_outcome_at value) outcomes) t → ReplaysTo bound m steps t
+  replays_to m steps start now outcomes t is market data_ok replay told =
       let right : IsReplay bound m [] steps (map (step_outcome_at value) outcomes) now.kept.taken.rows =
       subst (λ (s : SessionState). IsReplay bound s.market s.kept.taken.rows steps (map (step_outcome_at value) outcomes) now.kept.taken.rows) is replay in
       record {
@@ -155,8 +150,5 @@ module _ {N : Type 0} (value : N → Fraction) (bound : ℕ) (fits : (x : N) →
         sides = all_within outcomes;
         markets = λ k. steps_market m (take k steps) market (All-take IsStep k steps data_ok);
         decided = λ none. are_decided bound m [] now.kept.taken.rows steps (map (step_outcome_at value) outcomes) market data_ok none right;
-        status_is = status_is;
-        text_is = text_is;
-        certificate_is = certificate_is;
-        certificate_fits = certificate_fits;
+        told = told;
       }

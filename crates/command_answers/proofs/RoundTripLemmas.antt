@@ -71,7 +71,7 @@ of_outcome m taken (outcome.Infeasible f) text market right fits is =
 of_outcome m taken (outcome.Range p) text market right fits is = cc is
 
 pub law_of_the_round_trip : LawOfTheRoundTrip
-law_of_the_round_trip m t text (market, clears) is = of_outcome m [] clears.outcome text market clears.right clears.certificate_fits (sym (ap (λ (o : Outputs (List ℕ)). o.certificate) clears.certificate_is) ∙ is)
+law_of_the_round_trip m t text (market, clears) is = of_outcome m [] clears.outcome text market clears.right clears.told.certificate_fits (sym (ap (λ (o : Outputs (List ℕ)). o.certificate) clears.told.certificate_is) ∙ is)
 
 -- ---- of the last clear of a replay
 -- an outcome is that of the last clear of steps
@@ -146,7 +146,7 @@ module _ (r : MarketSteps) (t : Telling) (text : List ℕ) (replays : ReplaysTo 
       from (inr h) = last_certifies o h fits is
 
 pub law_of_the_replay : LawOfTheReplay
-law_of_the_replay r t text (market, replays) is = by_last r t text replays (last_clear None replays.outcomes) refl replays.certificate_fits (sym (ap (λ (o : Outputs (List ℕ)). o.certificate) replays.certificate_is) ∙ is)
+law_of_the_replay r t text (market, replays) is = by_last r t text replays (last_clear None replays.outcomes) refl replays.told.certificate_fits (sym (ap (λ (o : Outputs (List ℕ)). o.certificate) replays.told.certificate_is) ∙ is)
 
 -- ---- of verifying
 pub law_of_yes : LawOfYes

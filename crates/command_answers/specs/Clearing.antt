@@ -44,10 +44,7 @@ pub record ClearsTo (bound : ℕ) (m : Parts) (t : Telling) : Type 0 where
   pub outcome : Outcome Fraction
   pub right : IsRightOutcome bound m [] outcome
   pub sides : AreSidesWithin bound outcome
-  pub status_is : t.status ≡ status_of outcome
-  pub text_is : t.text ≡ report_text m outcome
-  pub certificate_is : t.outputs ≡ certified (certificate_of m.factor_places m.reserve.listed outcome)
-  pub certificate_fits : IfSome (cert_of_outcome m.factor_places m.reserve.listed outcome) (NumbersFit bound)
+  pub told : TellsCertified bound m outcome t
 
 -- the same of a market, which keeps what every market keeps, by numbers of 127 bits
 abbrev pub TellsClear : Parts → Telling → Type 0

@@ -89,10 +89,7 @@ pub record ReplaysTo (bound : ℕ) (m : Parts) (steps : List Step) (t : Telling)
   pub sides : All (AreStepSidesWithin bound) outcomes
   pub markets : (k : ℕ) → IsMarket (edited_by m (take k steps))
   pub decided : NoPairPassesIn m [] steps bound → AreDecided m steps outcomes
-  pub status_is : t.status ≡ replay_status outcomes
-  pub text_is : t.text ≡ replayed m steps outcomes
-  pub certificate_is : t.outputs ≡ certified (option_and_then (certificate_of m.factor_places m.reserve.listed) (last_clear None outcomes))
-  pub certificate_fits : IfSome (option_and_then (cert_of_outcome m.factor_places m.reserve.listed) (last_clear None outcomes)) (NumbersFit bound)
+  pub told : TellsSteps bound m steps outcomes t
 
 -- the same of a market, which keeps what every market keeps, by numbers of 127 bits
 abbrev pub TellsReplay : MarketSteps → Telling → Type 0

@@ -138,8 +138,8 @@ market-reported : (m : Parts) (t : Telling) (text : List ℕ) (s : Status) → t
 market-reported m t text s words ends (market, clears) = record {
   outcome = clears.outcome;
   fits = outcome_fits _ m clears.outcome clears.right;
-  text_is = sym words ∙ clears.text_is;
-  status_is = sym ends ∙ clears.status_is;
+  text_is = sym words ∙ clears.told.text_is;
+  status_is = sym ends ∙ clears.told.status_is;
 }
 
 pub law_of_complete : LawOfComplete
@@ -159,13 +159,13 @@ law_of_complete words files text s prints =
 steps-replayed : (m : Parts) (steps : List Step) (t : Telling) (text : List ℕ) (s : Status) → t.text ≡ text → t.status ≡ s → TellsReplay (record { market = m; steps = steps }) t → IsReplayText m steps text s
 steps-replayed m steps t text s words ends (market, replays) =
     let fit = replay_fits most_part m [] replays.taken steps replays.outcomes replays.right in
-    let is = sym words ∙ replays.text_is in
+    let is = sym words ∙ replays.told.text_is in
     record {
       outcomes = replays.outcomes;
       fit = fit;
       text_is = is;
       only = λ others fits same. replays_read_apart m steps others replays.outcomes fits fit (sym same ∙ is);
-      status_is = sym ends ∙ replays.status_is;
+      status_is = sym ends ∙ replays.told.status_is;
       edits = λ k e at. edit-at most_part m [] replays.taken steps replays.outcomes k e replays.right at;
       clears = λ k at. cleared-at most_part m [] replays.taken steps replays.outcomes k replays.right at;
     }
@@ -300,9 +300,9 @@ has-certificate places listed (outcome.Range p) (inr is) = cc is
 
 told-certificate : (m : Parts) (t : Telling) (s : Status) → t.status ≡ s → (s ≡ status.Done) ⊎ (s ≡ status.Infeasible) → TellsClear m t → (bytes : List ℕ) × (t.outputs.certificate ≡ Some bytes)
 told-certificate m t s ends which (market, clears) =
-    let is = sym clears.status_is ∙ ends in
+    let is = sym clears.told.status_is ∙ ends in
     let some = has-certificate m.factor_places m.reserve.listed clears.outcome (subst (λ (x : Status). (x ≡ status.Done) ⊎ (x ≡ status.Infeasible)) (sym is) which) in
-    (some.0, ap (λ (o : Outputs (List ℕ)). o.certificate) clears.certificate_is ∙ some.1)
+    (some.0, ap (λ (o : Outputs (List ℕ)). o.certificate) clears.told.certificate_is ∙ some.1)
 
 -- a file has this text, or what it had where there is none
 abbrev HasFileText : Option (List ℕ) → Option (List ℕ) → Option (List ℕ) → Type 0
@@ -352,8 +352,8 @@ pub law_of_certificate : LawOfCertificate
 law_of_certificate words files later text s names file m o clear now asked market fits is =
     let p = printed words files text s clear in
     let tells = clear-told files words p.telling p.written (Ok m) p.answers market in
-    let same : tells.1.outcome ≡ o = reports_apart m tells.1.outcome o (outcome_fits _ m tells.1.outcome tells.1.right) fits (sym tells.1.text_is ∙ p.text_is ∙ is) in
-    let put : p.telling.outputs.certificate ≡ certificate_of m.factor_places m.reserve.listed o = ap (λ (x : Outputs (List ℕ)). x.certificate) tells.1.certificate_is ∙ ap (certificate_of m.factor_places m.reserve.listed) same in
+    let same : tells.1.outcome ≡ o = reports_apart m tells.1.outcome o (outcome_fits _ m tells.1.outcome tells.1.right) fits (sym tells.1.told.text_is ∙ p.text_is ∙ is) in
+    let put : p.telling.outputs.certificate ≡ certificate_of m.factor_places m.reserve.listed o = ap (λ (x : Outputs (List ℕ)). x.certificate) tells.1.told.certificate_is ∙ ap (certificate_of m.factor_places m.reserve.listed) same in
     let written = clear-written files words p.telling p.written names (Some file) asked p.answers ∙ ap (λ c. named_bytes (Some file) c []) put in
     certificate-kept (Certifies m) (cert_of_outcome m.factor_places m.reserve.listed o) (files file) (later file) (kept-as files later file (certificate_of m.factor_places m.reserve.listed o) p.written clear.after.files written now p.kept)
     (λ c some. (let trip = law_of_the_round_trip m p.telling (cert_text c) tells (put ∙ ap (option_map cert_text) some) in
@@ -384,10 +384,10 @@ law_of_last_certificate words files later text s names edits file r outcomes rep
     let p = printed words files text s replay in
     let tells = replay-told files words p.telling p.written (Ok r) p.answers steps in
     let same : tells.1.outcomes ≡ outcomes =
-    replays_read_apart r.market r.steps tells.1.outcomes outcomes (replay_fits most_part r.market [] tells.1.taken r.steps tells.1.outcomes tells.1.right) fits (sym tells.1.text_is ∙ p.text_is ∙ is) in
+    replays_read_apart r.market r.steps tells.1.outcomes outcomes (replay_fits most_part r.market [] tells.1.taken r.steps tells.1.outcomes tells.1.right) fits (sym tells.1.told.text_is ∙ p.text_is ∙ is) in
     let last = last_clear None outcomes in
     let put : p.telling.outputs.certificate ≡ option_map cert_text (option_and_then (cert_of_outcome r.market.factor_places r.market.reserve.listed) last) =
-    ap (λ (x : Outputs (List ℕ)). x.certificate) tells.1.certificate_is ∙ ap (λ os. option_and_then (certificate_of r.market.factor_places r.market.reserve.listed) (last_clear None os)) same ∙ text-of-last r.market.factor_places r.market.reserve.listed last in
+    ap (λ (x : Outputs (List ℕ)). x.certificate) tells.1.told.certificate_is ∙ ap (λ os. option_and_then (certificate_of r.market.factor_places r.market.reserve.listed) (last_clear None os)) same ∙ text-of-last r.market.factor_places r.market.reserve.listed last in
     let written = replay-written files words p.telling p.written names edits (Some file) asked p.answers ∙ ap (λ c. named_bytes (Some file) c []) put in
     certificate-kept (CertifiesLast r) (option_and_then (cert_of_outcome r.market.factor_places r.market.reserve.listed) last) (files file) (later file)
     (kept-as files later file (option_map cert_text (option_and_then (cert_of_outcome r.market.factor_places r.market.reserve.listed) last)) p.written replay.after.files written now p.kept)
@@ -484,11 +484,11 @@ module _ (words : List (List ℕ)) (files : Files) (text : List ℕ) (s : Status
     no-clear (outcome.Range q) is = cc is
 
     of-clear : (m : Parts) → TellsClear m p.telling → Why
-    of-clear m (market, clears) = no-clear clears.outcome (sym clears.status_is ∙ bad)
+    of-clear m (market, clears) = no-clear clears.outcome (sym clears.told.status_is ∙ bad)
 
     of-steps : (r : MarketSteps) → AsksSteps files words r.market r.steps → TellsReplay r p.telling → Why
     of-steps r asks (market, replays) =
-        let here = refused-status replays.outcomes (sym replays.status_is ∙ bad) in
+        let here = refused-status replays.outcomes (sym replays.told.status_is ∙ bad) in
         let edit = refused-at most_part r.market [] replays.taken r.steps replays.outcomes here.0 here.1 replays.right here.2 in
         inr (inl (record { market = r.market; steps = r.steps; asks = asks; place = here.0; edit = edit.0; stands = edit.1; fault = here.1; refused = edit.2 }))
 

@@ -195,14 +195,14 @@ pub record IsOutcomeOf (words : List (List ℕ)) (files : Files) (text : List �
 module _ (words : List (List ℕ)) (files : Files) (text : List ℕ) (m : Parts) (o : Outcome Fraction) (t : Telling) where
   clear-outcome : AsksMarket files words m → OutcomeFitsReport m o → t.text ≡ report_text m o → TellsClear m t → IsOutcomeOf words files text m o 0
   clear-outcome asks fits is (market, clears) =
-      let same : clears.outcome ≡ o = reports_apart m clears.outcome o (outcome_fits _ m clears.outcome clears.right) fits (sym clears.text_is ∙ is) in
+      let same : clears.outcome ≡ o = reports_apart m clears.outcome o (outcome_fits _ m clears.outcome clears.right) fits (sym clears.told.text_is ∙ is) in
       record { market = market; taken = []; begins = in_clear asks; right = subst (IsRightOutcome most_part m []) same clears.right; sides = subst (AreSidesWithin most_part) same clears.sides }
 
   step-outcome : (start : Parts) (steps : List Step) (outcomes : List (StepOutcome Fraction)) (k : ℕ) → AsksSteps files words start steps → OutcomesFit start steps outcomes
       → t.text ≡ replayed start steps outcomes → text ≡ replayed start steps outcomes → slice_get outcomes k ≡ Some (reply.Clear o) → m ≡ edited_by start (take k steps)
       → TellsReplay (record { market = start; steps = steps }) t → IsOutcomeOf words files text m o k
   step-outcome start steps outcomes k asks fits is text_is at edited (market, replays) =
-      let same : replays.outcomes ≡ outcomes = replays_read_apart start steps replays.outcomes outcomes (replay_fits most_part start [] replays.taken steps replays.outcomes replays.right) fits (sym replays.text_is ∙ is) in
+      let same : replays.outcomes ≡ outcomes = replays_read_apart start steps replays.outcomes outcomes (replay_fits most_part start [] replays.taken steps replays.outcomes replays.right) fits (sym replays.told.text_is ∙ is) in
       let right = subst (λ (os : List (StepOutcome Fraction)). IsReplay most_part start [] steps os replays.taken) same replays.right in
       let here = clear-at most_part start [] replays.taken steps outcomes k o right at in
       record {

@@ -9,9 +9,6 @@ returns-clause-clears g c =
       outcome = outcome_at g.N.Exact.value c.in_ok-outcome.outcome;
       right = c.in_ok-outcome.ensures.right;
       sides = c.in_ok-outcome.ensures.sides;
-      status_is = is.status_is;
-      text_is = is.text_is;
-      certificate_is = is.certificate_is;
-      certificate_fits = is.certificate_fits;
+      told = is;
     })
     c.outcome_told.ensures.tells

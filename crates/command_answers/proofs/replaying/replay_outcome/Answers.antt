@@ -20,5 +20,6 @@ returns-clause-replays g c =
     let text = ap (λ (need : ℤ). replayed (with_need market need) c.args.steps.now outcomes) (kept ∙ c.need_of-need.ensures) in
     if_ok-map _ _ c.outcomes_told.result
     (λ told is. replays_to g.N.Exact.value g.N.Exact.bound g.met.N.Exact.value_fits c.args.market c.args.steps.now c.new-session.result c.replay.new.self c.in_ok-outcomes.outcomes _ c.new-session.ensures
-    c.requires.market c.requires.steps c.in_ok-outcomes.ensures.replay is.status_is (is.text_is ∙ text) is.certificate_is is.certificate_fits)
+    c.requires.market c.requires.steps c.in_ok-outcomes.ensures.replay
+    (record { status_is = is.status_is; text_is = is.text_is ∙ text; certificate_is = is.certificate_is; certificate_fits = is.certificate_fits }))
     (c.outcomes_told.ensures.tells c.args.market same)
