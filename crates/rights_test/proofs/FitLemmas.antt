@@ -1,9 +1,10 @@
 -- Flows of rights, and which limit they break first.
-use Rattle.std.specs.Prelude.{◌≡◌, ℕ, ◌+◌, ◌<◌, pos, List, [], ◌∷◌, ◌++◌, length, map, replicate, All, Contains, refl, range_with_len}
+use Rattle.std.specs.Prelude.{◌≡◌, ℕ, ◌+◌, ◌<◌, pos, List, [], ◌∷◌, ◌++◌, length, map, replicate, All, Contains, refl}
 use Rattle.std.proofs.Common.{suc, zero, arith, inl, inr, ap, ap₂, sym, subst, ◌∙◌, get_or}
 use Rattle.std.proofs.lemmas.List.{get_or_append_left, get_or-append-add, length-append, length-map, map-append}
 use Rattle.std.proofs.lemmas.List.FromFn.{length-map-range_with_len}
 use Rattle.std.proofs.lemmas.List.Elements.{All-append, All-cons, All-contains, All-nil, Contains-append_left, Contains-append_right}
+use Rattle.std.specs.List.{range_with_len}
 use Rattle.fraction_theory.specs.Fraction.{Fraction, whole, ◌-ℚ◌}
 use Rattle.fraction_theory.specs.Order.{◌≤ℚ◌}
 use Rattle.fraction_theory.specs.Sums.{Term, Product, total}
