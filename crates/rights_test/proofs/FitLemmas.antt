@@ -97,7 +97,7 @@ behind_front value (x ∷ front) back n e =
 
 nothing_from : (first n : ℕ) → replicate n (whole (pos 0)) ≡ map (λ (k : ℕ). whole (pos 0)) (range_with_len first n)
 nothing_from first zero = refl
-nothing_from first (suc n) = ap (λ (xs : List Fraction). whole (pos 0) ∷ xs) (nothing_from (suc first) n)
+nothing_from first (suc n) = ap (λ (xs : List Fraction). whole (pos 0) ∷ xs) (nothing_from (first + 1) n)
 
 pub flows_put : {N : Type 0} (value : N → Fraction) (m : Parts) (rights : List TransmissionRight) (old front back new : List N) → map value old ≡ replicate (length m.lines + length m.unit_outages) (whole (pos 0)) → old ≡ front ++ back
     → length front ≡ length m.lines → map value new ≡ map (line_flow m (rights_injection rights)) (places (length m.lines)) → map value (new ++ back) ≡ carried_list m (carried_for m rights)
