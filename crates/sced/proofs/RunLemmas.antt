@@ -109,9 +109,9 @@ module _ (bound : ℕ) where
   -- each edit among the steps comes to what it is judged to
   edit-here : (m : Parts) (before between : List Row) (s : Step) (e : Edit) (x : StepOutcome Fraction) → IsReply bound m before s x between → Some s ≡ Some (step.Edit e) → x ≡ outcome_of_edit m e
   edit-here m before between (step.Edit d) e reply.Accepted is same =
-      let here : d ≡ e = cc same in ap (λ (j : Option EditFault). reply_of {Fraction} (answer j)) (sym is.0) ∙ ap (outcome_of_edit m) here
+      let here : d ≡ e = cc same in ap (λ (j : Option EditFault). reply_of {N = Fraction} (answer j)) (sym is.0) ∙ ap (outcome_of_edit m) here
   edit-here m before between (step.Edit d) e (reply.Refused f) is same =
-      let here : d ≡ e = cc same in ap (λ (j : Option EditFault). reply_of {Fraction} (answer j)) (sym is.0) ∙ ap (outcome_of_edit m) here
+      let here : d ≡ e = cc same in ap (λ (j : Option EditFault). reply_of {N = Fraction} (answer j)) (sym is.0) ∙ ap (outcome_of_edit m) here
   edit-here m before between (step.Edit d) e (reply.Clear o) none same = absurd none
   edit-here m before between step.Clear e x is same = cc same
 
