@@ -8,6 +8,3 @@ mod rings;
 
 pub use market_model::{Market, Memory};
 pub use rings::ring;
-
-#[cfg(test)]
-mod tests;

@@ -111,6 +111,3 @@ impl<'a> Tokens<'a> {
         }
     }
 }
-
-#[cfg(test)]
-mod tests;

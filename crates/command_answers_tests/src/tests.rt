@@ -38,7 +38,7 @@ const CERTIFICATE: &[u8] =
     b"{\"blocks\":[\"50000000000/1\",\"10000000000/1\"],\"energy\":\"10000000/1\",\"kind\":\"optimal\",\"limits\":[{\"branch\":2,\"down\":\"0/1\",\"outage\":0,\"up\":\"40000000/1\"}],\"places\":6,\"version\":2}";
 
 /// Compares a status, and how the text begins.
-fn expect<R: Abort>(rt: &R, told: &Told, status: Status, start: &[u8]) {
+fn expect<R: Abort>(rt: &R, told: Told, status: Status, start: &[u8]) {
     assert_eq!(rt; told.status, status);
     assert!(rt; told.text.starts_with(start));
 }
@@ -68,12 +68,12 @@ fn tells_of_each_command(rt: HostRuntime) -> Result<(), Fail> {
     let edits = b"op,target,side,block,value\nclear,,,,\n";
     let done = Status::Done;
     let pooled = pool_told(alloc, CASE, OFFERS)?;
-    expect(&rt, &pooled, done, b"cleared\nwelfare -600\n");
+    expect(&rt, pooled, done, b"cleared\nwelfare -600\n");
     let cleared = clear_told(alloc, &bytes, PostRating::C, FactorPlaces::Six)?;
-    expect(&rt, &cleared, done, b"cleared\nwelfare -800\n");
     assert!(rt; cleared.outputs.certificate.is_some());
+    expect(&rt, cleared, done, b"cleared\nwelfare -800\n");
     let replayed = replay_told(alloc, &bytes, PostRating::C, FactorPlaces::Six, edits)?;
-    expect(&rt, &replayed, done, b"step 1 clear\ncleared\n");
+    expect(&rt, replayed, done, b"step 1 clear\ncleared\n");
     let verified = verify_told(
         alloc,
         &bytes,
@@ -82,17 +82,17 @@ fn tells_of_each_command(rt: HostRuntime) -> Result<(), Fail> {
         edits,
         CERTIFICATE,
     )?;
-    expect(&rt, &verified, done, b"yes\n");
+    expect(&rt, verified, done, b"yes\n");
     expect(
         &rt,
-        &check_told(alloc, &grid, FactorPlaces::Six)?,
+        check_told(alloc, &grid, FactorPlaces::Six)?,
         done,
         b"bus most 0 ",
     );
     let made = make_told(alloc, 4, 7)?;
     expect(
         &rt,
-        &made,
+        made,
         done,
         b"ring 4 seed 7 buses 4 blocks 8 limits 16\n",
     );
@@ -157,7 +157,7 @@ fn refuses_certificates(rt: HostRuntime) -> Result<(), Fail> {
             edits,
             certificate.as_bytes(),
         )?;
-        expect(&rt, &told, status, text.as_bytes());
+        expect(&rt, told, status, text.as_bytes());
     }
     Ok(())
 }

@@ -262,6 +262,3 @@ pub fn header_line(alloc: Global, header: &[&str]) -> Result<Vec<u8>, AllocError
     line.push_str("\n")?;
     Ok(line.into_bytes())
 }
-
-#[cfg(test)]
-mod tests;

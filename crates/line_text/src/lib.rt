@@ -5,6 +5,3 @@ mod decimals;
 mod text;
 
 pub use text::Text;
-
-#[cfg(test)]
-mod tests;

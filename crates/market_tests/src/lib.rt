@@ -1,4 +1,5 @@
-//! Tests of `market_model`, `limit_rows`, `limit_screen`, `settlement`, `cert_sums`, `rights_test` and `dual_restart`.
+//! Tests of `market_model`, `limit_rows`, `limit_screen`, `settlement`, `cert_sums`, `rights_test`, `dual_restart` and
+//! `case_maker`.
 #![tactic(auto)]
 
 #[cfg(test)]
@@ -13,5 +14,7 @@ mod payments;
 mod restarts;
 #[cfg(test)]
 mod rights;
+#[cfg(test)]
+mod rings;
 #[cfg(test)]
 mod rooms;

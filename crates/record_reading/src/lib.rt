@@ -45,6 +45,3 @@ pub fn push_some<T: Drop>(list: &mut List<T>, item: Option<T>) -> Result<(), Mem
         None => Ok(()),
     }
 }
-
-#[cfg(test)]
-mod tests;

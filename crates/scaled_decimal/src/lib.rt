@@ -94,6 +94,3 @@ pub fn is_number(bytes: &[u8]) -> bool
         None => is_not_finite_text(bytes),
     }
 }
-
-#[cfg(test)]
-mod tests;
