@@ -151,10 +151,13 @@ fn network(alloc: Global) -> Result<Parts, Memory>
     ensures { IfOk result (λ parts. parts ≡ network) }
 {
     let buses = listed(alloc, &CORNERS)?;
-    let mut parts = Parts::bare(alloc, buses, List::new(alloc), List::new(alloc));
-    parts.shift = listed(alloc, &SHIFT)?;
-    parts.loss = listed(alloc, &LOSS)?;
-    Ok(parts)
+    let shift = listed(alloc, &SHIFT)?;
+    let loss = listed(alloc, &LOSS)?;
+    Ok(Parts {
+        shift,
+        loss,
+        ..Parts::bare(alloc, buses, List::new(alloc), List::new(alloc))
+    })
 }
 
 /// Three buses in a triangle, with outages or without.

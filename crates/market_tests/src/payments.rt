@@ -3,11 +3,28 @@
 ghost use Rattle.std.specs.Prelude.{◌≡◌, length, true};
 
 use crate::markets::needing;
-use exact_fraction::Frac;
+use exact_fraction::{Exact, Frac};
 use market_model::{Duals, List, Market, Money, Price, Stop, datum};
 use settlement::settle;
 use std::alloc::Global;
 use std::test::Fail;
+
+/// So many MW of each of two.
+fn of_two(first: i32, second: i32) -> [Frac; 2] {
+    [
+        Frac::of_parts(i64::from(first), 1),
+        Frac::of_parts(i64::from(second), 1),
+    ]
+}
+
+/// A price of 13 with no congestion.
+fn uncongested() -> Price<Frac> {
+    Price {
+        energy: datum(13),
+        congestion: datum(0),
+        total: datum(13),
+    }
+}
 
 /// The settlement where the first unit sells all that is taken, at 13, and reserve of 40 and 20 MW has the price 5.
 fn settled(alloc: Global, market: &Market) -> Result<Money<Frac>, Stop<Frac>>
@@ -16,20 +33,15 @@ fn settled(alloc: Global, market: &Market) -> Result<Money<Frac>, Stop<Frac>>
     requires listed { market.now.reserve.listed ≡ true }
     requires buses { length market.now.buses ≡ 1 }
 {
-    let energy: Frac = datum(13);
-    let prices = [Price {
-        energy,
-        congestion: datum(0),
-        total: energy,
-    }];
+    let prices = [uncongested()];
+    let dispatch = of_two(60, 0);
+    let reserve = of_two(40, 20);
     let duals = Duals {
-        energy,
+        energy: datum(13),
         limits: List::new(alloc),
         reserve: datum(5),
         rooms: List::new(alloc),
     };
-    let dispatch: [Frac; 2] = [datum(60), datum(0)];
-    let reserve: [Frac; 2] = [datum(40), datum(20)];
     settle(alloc, market, &dispatch, &reserve, &prices, &duals)
 }
 

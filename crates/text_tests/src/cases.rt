@@ -135,16 +135,24 @@ BadToken { at: 56 }|#mpc.version = '2';$mpc.branch = [$1 2 0
 Code { line: 2 }|#mpc.a = Inf'
 Missing { field: BaseMva }|function mpc = t^$mpc.version = '2';^$";
 
+/// The byte that a sign of a row stands for.
+fn byte_of(sign: u8) -> u8 {
+    match sign {
+        b'$' => b'\n',
+        b'^' => b'\r',
+        b'!' => b'\t',
+        byte => byte,
+    }
+}
+
 /// The text that a row stands for.
 fn text_of_row(alloc: Global, row: &[u8]) -> Result<Vec<u8>, AllocError> {
     let mut text = Vec::new(alloc);
-    for byte in row {
-        match byte {
-            b'$' => text.push(b'\n')?,
-            b'^' => text.push(b'\r')?,
-            b'!' => text.push(b'\t')?,
-            b'#' => text.extend_from_slice(b"function mpc = t\n")?,
-            _ => text.push(*byte)?,
+    for sign in row {
+        if *sign == b'#' {
+            text.extend_from_slice(b"function mpc = t\n")?;
+        } else {
+            text.push(byte_of(*sign))?;
         }
     }
     Ok(text)
@@ -187,13 +195,16 @@ mpc.branch = [1 2 0 0.2 0 0 0 0 0 0 1\r
 1 2 0 0.1 0 0 0 0 0 0 Inf]\r
 ";
     let case = read_case(rt.alloc(), text)?;
-    assert_eq!(rt; case.rows(Field::Bus), 2);
-    assert_eq!(rt; case.width(Field::Bus), 13);
-    assert_eq!(rt; case.cell(Field::Bus, 1, 2), b"3".as_slice());
-    assert_eq!(rt; case.cell(Field::Bus, 2, 13), b"-9e-1".as_slice());
-    assert_eq!(rt; case.rows(Field::Gen), 0);
-    assert_eq!(rt; case.width(Field::Gen), 0);
-    assert_eq!(rt; case.cell(Field::Branch, 2, 11), b"Inf".as_slice());
-    assert_eq!(rt; case.cell(Field::Branch, 3, 1), b"".as_slice());
+    for (field, rows, width) in [(Field::Bus, 2, 13), (Field::Gen, 0, 0)] {
+        assert!(rt; case.rows(field) == rows && case.width(field) == width);
+    }
+    for (field, row, col, want) in [
+        (Field::Bus, 1, 2, b"3".as_slice()),
+        (Field::Bus, 2, 13, b"-9e-1"),
+        (Field::Branch, 2, 11, b"Inf"),
+        (Field::Branch, 3, 1, b""),
+    ] {
+        assert_eq!(rt; case.cell(field, row, col), want);
+    }
     Ok(())
 }

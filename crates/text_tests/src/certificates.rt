@@ -230,15 +230,25 @@ fn reads_the_greatest_and_any_order(rt: HostRuntime) -> Result<(), Fail> {
     Ok(())
 }
 
+/// The certificate of an outcome.
+fn written(
+    alloc: Global,
+    places: FactorPlaces,
+    listed: bool,
+    outcome: Outcome<Frac63>,
+) -> Result<Option<Vec<u8>>, Memory> {
+    outcome_json(alloc, places, listed, &outcome)
+}
+
 /// Whether the certificate of an outcome is written so.
 fn is_written(
     alloc: Global,
     places: FactorPlaces,
     listed: bool,
-    outcome: &Outcome<Frac63>,
+    outcome: Outcome<Frac63>,
     want: &str,
 ) -> Result<bool, Memory> {
-    match outcome_json(alloc, places, listed, outcome)? {
+    match written(alloc, places, listed, outcome)? {
         Some(written) => Ok(written.as_slice() == want.as_bytes()),
         None => Ok(false),
     }
@@ -294,18 +304,16 @@ fn has_none_of_range(alloc: Global) -> Result<bool, Memory> {
         left: Frac63::of_parts(1, 1),
         right: Frac63::of_parts(2, 1),
     });
-    match outcome_json(alloc, FactorPlaces::Six, true, &range)? {
-        Some(_) => Ok(false),
-        None => Ok(true),
-    }
+    Ok(written(alloc, FactorPlaces::Six, true, range)?.is_none())
 }
 
 #[test]
 fn writes_outcomes(rt: HostRuntime) -> Result<(), Fail> {
     let alloc = rt.alloc();
     assert!(rt; has_none_of_range(alloc)?);
-    let farkas = infeasible(-1, 0, one_limit(alloc)?, List::new(alloc));
-    assert!(rt; is_written(alloc, FactorPlaces::Nine, false, &farkas, FARKAS)?);
+    let limits = one_limit(alloc)?;
+    let farkas = infeasible(-1, 0, limits, List::new(alloc));
+    assert!(rt; is_written(alloc, FactorPlaces::Nine, false, farkas, FARKAS)?);
     Ok(())
 }
 
@@ -316,18 +324,17 @@ const LISTED: &str =
 /// The same where it is not.
 const UNLISTED: &str = r#"{"energy":"0/1","kind":"farkas","limits":[],"places":6,"version":2}"#;
 
-/// Whether the part on reserve is written where that is listed.
-fn is_written_where_listed(alloc: Global, farkas: &Outcome<Frac63>) -> Result<bool, Memory> {
-    let listed = is_written(alloc, FactorPlaces::Six, true, farkas, LISTED)?;
-    let unlisted = is_written(alloc, FactorPlaces::Six, false, farkas, UNLISTED)?;
-    Ok(listed && unlisted)
+/// Whether the certificate of that outcome is written so.
+fn is_short(alloc: Global, listed: bool, want: &str) -> Result<bool, Memory> {
+    let rooms = one_room(alloc)?;
+    let farkas = infeasible(0, 1, List::new(alloc), rooms);
+    is_written(alloc, FactorPlaces::Six, listed, farkas, want)
 }
 
 /// The part on reserve is written where that is listed, of any market.
 #[test]
 fn writes_what_is_listed(rt: HostRuntime) -> Result<(), Fail> {
-    let alloc = rt.alloc();
-    let farkas = infeasible(0, 1, List::new(alloc), one_room(alloc)?);
-    assert!(rt; is_written_where_listed(alloc, &farkas)?);
+    assert!(rt; is_short(rt.alloc(), true, LISTED)?);
+    assert!(rt; is_short(rt.alloc(), false, UNLISTED)?);
     Ok(())
 }

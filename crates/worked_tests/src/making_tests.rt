@@ -1,7 +1,7 @@
 //! Tables that are made, with texts worked by hand.
 
 use crate::triangle::TRIANGLE;
-use command_answers::{Status, check_told, factors_told};
+use command_answers::{Status, Told, check_told, factors_told};
 use market_data::FactorPlaces;
 use market_tables::GridTables;
 use std::process::Abort;
@@ -57,6 +57,16 @@ struct Want {
     loss: &'static str,
 }
 
+/// Compares what is told, and the tables, where one that is not made has no text.
+fn compare<R: Abort>(rt: &R, told: &Told, want: Want) {
+    assert_eq!(rt; told.status, want.status);
+    assert_eq!(rt; told.text.as_slice(), want.text.as_bytes());
+    let shift = told.outputs.ptdf.as_deref().unwrap_or(b"".as_slice());
+    assert_eq!(rt; shift, want.shift.as_bytes());
+    let loss = told.outputs.lodf.as_deref().unwrap_or(b"".as_slice());
+    assert_eq!(rt; loss, want.loss.as_bytes());
+}
+
 /// Makes tables of a case with this start of its first branch, and compares.
 fn makes<R: Abort + AllocGlobal>(
     rt: &R,
@@ -74,12 +84,7 @@ fn makes<R: Abort + AllocGlobal>(
         wanted,
         FactorPlaces::Six,
     )?;
-    assert_eq!(rt; told.status, want.status);
-    assert_eq!(rt; told.text.as_slice(), want.text.as_bytes());
-    let shift = told.outputs.ptdf.as_deref().unwrap_or(b"".as_slice());
-    assert_eq!(rt; shift, want.shift.as_bytes());
-    let loss = told.outputs.lodf.as_deref().unwrap_or(b"".as_slice());
-    assert_eq!(rt; loss, want.loss.as_bytes());
+    compare(rt, &told, want);
     Ok(())
 }
 

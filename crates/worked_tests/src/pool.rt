@@ -1,6 +1,6 @@
 //! The pool of a case of three buses and its offers, compared with texts worked by hand.
 
-use command_answers::{Status, pool_told};
+use command_answers::{Status, Told, pool_told};
 use std::process::Abort;
 use std::test::Fail;
 
@@ -33,6 +33,15 @@ fn case<R: AllocGlobal>(rt: &R, buses: &str, units: &str) -> Result<String, Fail
     Ok(text)
 }
 
+/// Compares a status and a text.
+fn compare<R: Abort>(rt: &R, told: &Told, want: (Status, Text<'_>)) {
+    assert_eq!(rt; told.status, want.0);
+    match want.1 {
+        Text::Whole(text) => assert_eq!(rt; told.text.as_slice(), text.as_bytes()),
+        Text::Start(text) => assert!(rt; told.text.starts_with(text.as_bytes())),
+    }
+}
+
 /// Clears a case and its offers, and compares.
 fn expect_pool<R: Abort + AllocGlobal>(
     rt: &R,
@@ -41,11 +50,7 @@ fn expect_pool<R: Abort + AllocGlobal>(
     want: (Status, Text<'_>),
 ) -> Result<(), Fail> {
     let told = pool_told(rt.alloc(), case, offers.as_bytes())?;
-    assert_eq!(rt; told.status, want.0);
-    match want.1 {
-        Text::Whole(text) => assert_eq!(rt; told.text.as_slice(), text.as_bytes()),
-        Text::Start(text) => assert!(rt; told.text.starts_with(text.as_bytes())),
-    }
+    compare(rt, &told, want);
     Ok(())
 }
 
