@@ -138,7 +138,9 @@ fn lines(alloc: Global, price: i64, excess: i64) -> Result<List<Line>, Memory>
         ∷ record (hard_line 2 (Some (pos 40000000000)) (Some (pos 1000000000000)) (pos 0)) { base_price = price; base_most_excess = excess }
         ∷ hard_line 3 None None (pos 0) ∷ []) }
 {
-    let second = Line {
+    let mut lines = List::new(alloc);
+    lines.push(FIRST_LINE)?;
+    lines.push(Line {
         row: 2,
         base: Some(40_000_000_000),
         post: Some(1_000_000_000_000),
@@ -147,8 +149,9 @@ fn lines(alloc: Global, price: i64, excess: i64) -> Result<List<Line>, Memory>
         post_price: 0,
         post_most_excess: 0,
         offset: 0,
-    };
-    listed(alloc, &[FIRST_LINE, second, THIRD_LINE])
+    })?;
+    lines.push(THIRD_LINE)?;
+    Ok(lines)
 }
 
 /// The buses, units and blocks of the market, which has nothing else yet.
@@ -206,24 +209,23 @@ pub(crate) fn are<N: Exact>(values: &[N], wanted: &[i32], unit: i64) -> bool {
     values.len() == wanted.len()
 }
 
-/// Whether a price is the 10 of energy with this of congestion, and this together.
-fn is_price<N: Exact>(price: &Price<N>, congestion: i32, total: i32) -> bool {
-    are(
-        &[price.energy, price.congestion, price.total],
-        &[10, congestion, total],
-        PRICE_ONE,
-    )
-}
-
 /// Whether prices are the 10 of energy with these of congestion, and these together.
 pub(crate) fn are_prices<N: Exact>(
     prices: &[Price<N>],
     congestion: &[i32],
     totals: &[i32],
 ) -> bool {
-    match (prices, congestion, totals) {
-        ([one, two, three], [a, b, c], [first, second, third]) => {
-            is_price(one, *a, *first) && is_price(two, *b, *second) && is_price(three, *c, *third)
+    match prices {
+        [one, two, three] => {
+            are(
+                &[one.energy, two.energy, three.energy],
+                &[10, 10, 10],
+                PRICE_ONE,
+            ) && are(
+                &[one.congestion, two.congestion, three.congestion],
+                congestion,
+                PRICE_ONE,
+            ) && are(&[one.total, two.total, three.total], totals, PRICE_ONE)
         }
         _ => false,
     }
