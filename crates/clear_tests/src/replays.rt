@@ -25,6 +25,19 @@ fn price(price: i64) -> Edit
     }
 }
 
+/// Whether an outcome is an answer of these MW of the blocks and these prices.
+fn is_cleared<N: Exact>(
+    outcome: Outcome<N>,
+    mw: &[i32],
+    congestion: &[i32],
+    totals: &[i32],
+) -> bool {
+    match &outcome {
+        Outcome::Cleared(answer) => is_answer(answer, mw, congestion, totals),
+        _ => false,
+    }
+}
+
 /// Whether a clear comes to these MW of the blocks and these prices.
 fn clears<N: Exact>(
     session: &mut Session<N>,
@@ -33,10 +46,8 @@ fn clears<N: Exact>(
     congestion: &[i32],
     totals: &[i32],
 ) -> Result<bool, Memory> {
-    match session.clear(alloc)? {
-        Outcome::Cleared(answer) => Ok(is_answer(&answer, mw, congestion, totals)),
-        _ => Ok(false),
-    }
+    let outcome = session.clear(alloc)?;
+    Ok(is_cleared(outcome, mw, congestion, totals))
 }
 
 /// The same, with the limit of branch 2 in the base alone taken.
@@ -184,24 +195,25 @@ fn is_range(outcome: &StepOutcome<Frac63>, left: Frac63, right: Frac63, op: Op) 
     }
 }
 
+/// Whether the clears of twelve steps come to this.
+fn are_dear(told: &[StepOutcome<Frac63>]) -> bool {
+    let paid = Frac63::of_parts(-200_000_000, 1);
+    let made = Frac63::of_parts(60_000_000_000, 1);
+    let first = Frac63::of_parts(-6_000_000_000_000_000_000, 1);
+    let second = Frac63::of_parts(-4_000_000_000_000_000_000, 1);
+    told.len() == 12
+        && is_free(&told[2])
+        && is_range(&told[5], paid, made, Op::Times)
+        && is_free(&told[7])
+        && is_range(&told[11], first, second, Op::Plus)
+}
+
 /// What these steps come to.
 fn replays_dear(session: &mut Session<Frac63>, alloc: Global, steps: &Steps) -> Result<bool, Memory>
     requires { All IsStep steps.now }
 {
     let outcomes = session.replay(alloc, steps)?;
-    let told = outcomes.slice();
-    let paid = Frac63::of_parts(-200_000_000, 1);
-    let made = Frac63::of_parts(60_000_000_000, 1);
-    let first = Frac63::of_parts(-6_000_000_000_000_000_000, 1);
-    let second = Frac63::of_parts(-4_000_000_000_000_000_000, 1);
-    Ok(
-        told.len() == 12
-            && is_free(&told[2])
-            && is_range(&told[5], paid, made, Op::Times)
-            && is_free(&told[7])
-            && is_range(&told[11], first, second, Op::Plus)
-            && session.clearer().taken() == 0,
-    )
+    Ok(are_dear(outcomes.slice()) && session.clearer().taken() == 0)
 }
 
 /// The same in a session of the market.

@@ -138,9 +138,7 @@ fn lines(alloc: Global, price: i64, excess: i64) -> Result<List<Line>, Memory>
         ∷ record (hard_line 2 (Some (pos 40000000000)) (Some (pos 1000000000000)) (pos 0)) { base_price = price; base_most_excess = excess }
         ∷ hard_line 3 None None (pos 0) ∷ []) }
 {
-    let mut lines = List::new(alloc);
-    lines.push(FIRST_LINE)?;
-    lines.push(Line {
+    let second = Line {
         row: 2,
         base: Some(40_000_000_000),
         post: Some(1_000_000_000_000),
@@ -149,9 +147,8 @@ fn lines(alloc: Global, price: i64, excess: i64) -> Result<List<Line>, Memory>
         post_price: 0,
         post_most_excess: 0,
         offset: 0,
-    })?;
-    lines.push(THIRD_LINE)?;
-    Ok(lines)
+    };
+    listed(alloc, &[FIRST_LINE, second, THIRD_LINE])
 }
 
 /// The buses, units and blocks of the market, which has nothing else yet.

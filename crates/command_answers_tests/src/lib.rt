@@ -13,6 +13,8 @@ mod six_tests;
 #[cfg(test)]
 mod soft_tests;
 #[cfg(test)]
+mod tells;
+#[cfg(test)]
 mod tests;
 #[cfg(test)]
 mod unit_tests;

@@ -2,7 +2,8 @@
 //!
 //! With a factor of -0.500000001 in place of -0.5 unit 2 makes 5 / 0.500000001 MW, and the price of the limit is 20 / 0.500000001.
 
-use command_answers::{Status, check_told, clear_told, migrate_told, verify_told};
+use crate::tells::tells;
+use command_answers::{Status, Told, check_told, clear_told, migrate_told, verify_told};
 use market_data::FactorPlaces;
 use market_tables::{GridTables, MarketTables};
 use net_case::PostRating;
@@ -88,8 +89,7 @@ fn clears_with_nine_places(rt: HostRuntime) -> Result<(), Fail> {
         ),
     ] {
         let told = clear_told(rt.alloc(), &tables(ptdf), PostRating::C, places)?;
-        assert!(rt; told.status == status);
-        assert!(rt; told.text.as_slice() == text.as_bytes());
+        assert!(rt; tells(told, status, text.as_bytes()));
     }
     Ok(())
 }
@@ -97,8 +97,7 @@ fn clears_with_nine_places(rt: HostRuntime) -> Result<(), Fail> {
 #[test]
 fn checks_with_nine_places(rt: HostRuntime) -> Result<(), Fail> {
     let told = check_told(rt.alloc(), &grid(NINE), FactorPlaces::Nine)?;
-    assert!(rt; told.status == Status::Done);
-    assert!(rt; told.text.as_slice() == NINE_RESIDUALS.as_bytes());
+    assert!(rt; tells(told, Status::Done, NINE_RESIDUALS.as_bytes()));
     Ok(())
 }
 
@@ -121,28 +120,27 @@ fn verifies_by_places(rt: HostRuntime) -> Result<(), Fail> {
             edits,
             certificate,
         )?;
-        assert!(rt; told.status == status);
-        assert!(rt; told.text.as_slice() == text.as_bytes());
+        assert!(rt; tells(told, status, text.as_bytes()));
     }
     Ok(())
 }
 
+/// Whether a command told this, and wrote this certificate or none.
+fn writes(told: Told, status: Status, text: &str, certificate: Option<&[u8]>) -> bool {
+    told.outputs.certificate.as_deref() == certificate && tells(told, status, text.as_bytes())
+}
+
 #[test]
 fn writes_certificates_anew(rt: HostRuntime) -> Result<(), Fail> {
-    for text in [FIRST, SECOND] {
+    let second = Some(SECOND.as_bytes());
+    let refused = "refused certificate Key version\n";
+    for (text, status, line, written) in [
+        (FIRST, Status::Done, "migrated\n", second),
+        (SECOND, Status::Done, "migrated\n", second),
+        ("{\"energy\":\"1/1\"}", Status::Refused, refused, None),
+    ] {
         let told = migrate_told(rt.alloc(), text.as_bytes())?;
-        assert!(rt; told.status == Status::Done);
-        assert!(rt; told.text.as_slice() == b"migrated\n".as_slice());
-        let written = told
-            .outputs
-            .certificate
-            .as_deref()
-            .unwrap_or(b"".as_slice());
-        assert!(rt; written == SECOND.as_bytes());
+        assert!(rt; writes(told, status, line, written));
     }
-    let told = migrate_told(rt.alloc(), b"{\"energy\":\"1/1\"}".as_slice())?;
-    assert!(rt; told.status == Status::Refused);
-    assert!(rt; told.text.as_slice() == b"refused certificate Key version\n".as_slice());
-    assert!(rt; told.outputs.certificate.is_none());
     Ok(())
 }

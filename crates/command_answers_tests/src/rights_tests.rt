@@ -3,6 +3,7 @@
 //! A MW from bus 1 to bus 3 adds 0.75 MW to the flow of branch 2, one from bus 1 to bus 2 0.5 MW, and after the loss of branch 1 the first
 //! adds 1 MW. So 50 MW and 5 MW fill a limit of 40 in the base; 50 MW alone make 37.5 there, and 50 after the loss.
 
+use crate::tells::tells;
 use command_answers::{Status, rights_told};
 use market_data::FactorPlaces;
 use market_tables::{GridTables, MarketTables};
@@ -196,9 +197,8 @@ fn tells_of_rights(rt: HostRuntime) -> Result<(), Fail> {
         let bytes = without_offset(branch, tables(case.as_bytes()));
         let places = FactorPlaces::Six;
         let told = rights_told(alloc, &bytes, PostRating::C, places, rights.as_bytes())?;
-        assert!(&rt; told.status == status, "{records}");
-        assert!(&rt; told.text.as_slice() == text.as_bytes(), "{records}");
         assert!(&rt; told.outputs.certificate.is_none());
+        assert!(&rt; tells(told, status, text.as_bytes()), "{records}");
     }
     Ok(())
 }

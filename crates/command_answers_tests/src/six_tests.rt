@@ -1,6 +1,7 @@
 //! The six-bus system of Wood and Wollenberg, all of whose outages cannot be survived: by how much, where one limit gives way at a
 //! penalty. These are the texts of `examples/six_bus`.
 
+use crate::tells::tells;
 use command_answers::{Status, clear_told};
 use market_data::FactorPlaces;
 use market_tables::{GridTables, MarketTables};
@@ -105,7 +106,6 @@ fn clears_six_buses_at_a_penalty(rt: HostRuntime) -> Result<(), Fail> {
         penalties: b"branch,limit,price,excess\n5,post,500,60\n".as_slice(),
     };
     let told = clear_told(rt.alloc(), &bytes, PostRating::C, FactorPlaces::Six)?;
-    assert_eq!(rt; told.status, Status::Done);
-    assert_eq!(rt; told.text.as_slice(), REPORT);
+    assert!(rt; tells(told, Status::Done, REPORT));
     Ok(())
 }

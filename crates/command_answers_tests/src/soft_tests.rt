@@ -4,6 +4,7 @@
 //! which is 45 where unit 1 makes all, and 1 MW of that after the loss of branch 1, which is 60. So a MW of flow is worth 40 in the base
 //! and 20 after the loss: a limit gives way at once where its penalty is below that, and does not where it is above.
 
+use crate::tells::tells;
 use command_answers::{Status, Told, clear_told, verify_told};
 use market_data::FactorPlaces;
 use market_tables::{GridTables, MarketTables};
@@ -77,11 +78,6 @@ const FARKAS: &[u8] =
 const UNNAMED: &[u8] =
     b"{\"blocks\":[\"60000000000/1\",\"0/1\"],\"energy\":\"10000000/1\",\"kind\":\"optimal\",\"limits\":[],\"places\":6,\"version\":2}";
 
-/// Whether a command ended with a status and a text.
-fn tells(told: &Told, status: Status, text: &str) -> bool {
-    told.status == status && told.text.as_slice() == text.as_bytes()
-}
-
 /// The tables of the market with a case and penalties.
 fn tables<'a>(case: &'a [u8], penalties: &'a [u8]) -> MarketTables<&'a [u8]> {
     let grid = GridTables {
@@ -134,6 +130,20 @@ fn verified(alloc: Global, ratings: &str, records: &str, certificate: &[u8]) -> 
     )?)
 }
 
+/// Verifies the certificate where there is one.
+fn expect_yes<R: Abort + AllocGlobal>(
+    rt: &R,
+    ratings: &str,
+    records: &str,
+    certificate: Option<&[u8]>,
+) -> Result<(), Fail> {
+    if let Some(certificate) = certificate {
+        let verdict = verified(rt.alloc(), ratings, records, certificate)?;
+        assert!(rt; tells(verdict, Status::Done, b"yes\n"));
+    }
+    Ok(())
+}
+
 /// Clears, and verifies the certificate where there is one.
 fn expect<R: Abort + AllocGlobal>(
     rt: &R,
@@ -143,11 +153,9 @@ fn expect<R: Abort + AllocGlobal>(
     text: &str,
 ) -> Result<(), Fail> {
     let told = cleared(rt.alloc(), ratings, records)?;
-    assert!(rt; tells(&told, status, text));
-    if let Some(certificate) = &told.outputs.certificate {
-        let verdict = verified(rt.alloc(), ratings, records, certificate.as_slice())?;
-        assert!(rt; tells(&verdict, Status::Done, "yes\n"));
-    }
+    let certificate = told.outputs.certificate.as_deref();
+    expect_yes(rt, ratings, records, certificate)?;
+    assert!(rt; tells(told, status, text.as_bytes()));
     Ok(())
 }
 
@@ -196,7 +204,7 @@ fn verifies_with_penalties(rt: HostRuntime) -> Result<(), Fail> {
         ),
     ] {
         let told = verified(rt.alloc(), ratings, records, certificate)?;
-        assert!(rt; tells(&told, status, text));
+        assert!(rt; tells(told, status, text.as_bytes()));
     }
     Ok(())
 }

@@ -3,7 +3,8 @@
 //! A MW at bus 2 moves the flow of branch 3 by 0.5, one at bus 3 by -0.25; that of branch 1 by -0.5 and -0.25. The load is 60 MW at bus 3.
 //! Where units 2 and 3 pick up half of unit 1's output each, each MW of it adds 0.125 MW to the flow of branch 3 after its loss.
 
-use command_answers::{Status, Told, clear_told, replay_told, verify_told};
+use crate::tells::tells;
+use command_answers::{Status, clear_told, replay_told, verify_told};
 use market_data::FactorPlaces;
 use market_tables::{GridTables, MarketTables};
 use net_case::PostRating;
@@ -159,9 +160,15 @@ impl Texts {
     }
 }
 
-/// Whether a command ended with a status and a text.
-fn tells(told: &Told, status: Status, text: &str) -> bool {
-    told.status == status && told.text.as_slice() == text.as_bytes()
+/// Clears, and verifies the certificate.
+fn clears<R: Abort + AllocGlobal>(rt: &R, texts: &Texts, text: &str) -> Result<(), Fail> {
+    let bytes = texts.tables();
+    let told = clear_told(rt.alloc(), &bytes, PostRating::C, FactorPlaces::Six)?;
+    let certificate = told.outputs.certificate.as_deref();
+    let certificate = certificate.unwrap_or(b"".as_slice());
+    verifies(rt, texts, certificate, Status::Done, "yes\n")?;
+    assert!(rt; tells(told, Status::Done, text.as_bytes()));
+    Ok(())
 }
 
 #[test]
@@ -209,17 +216,7 @@ fn clears_with_outages_of_units(rt: HostRuntime) -> Result<(), Fail> {
         (both, BOTH),
     ] {
         let texts = Texts::new(rt.alloc(), &example)?;
-        let told = clear_told(
-            rt.alloc(),
-            &texts.tables(),
-            PostRating::C,
-            FactorPlaces::Six,
-        )?;
-        assert!(rt; tells(&told, Status::Done, text));
-        assert!(rt; told.outputs.certificate.is_some());
-        if let Some(certificate) = &told.outputs.certificate {
-            verifies(&rt, &texts, certificate.as_slice(), Status::Done, "yes\n")?;
-        }
+        clears(&rt, &texts, text)?;
     }
     Ok(())
 }
@@ -241,21 +238,24 @@ fn verifies<R: Abort + AllocGlobal>(
         edits,
         certificate,
     )?;
-    assert!(rt; tells(&verdict, status, text));
+    assert!(rt; tells(verdict, status, text.as_bytes()));
     Ok(())
 }
 
 #[test]
 fn refuses_with_outages_of_units(rt: HostRuntime) -> Result<(), Fail> {
     let texts = Texts::new(rt.alloc(), &WORKED)?;
-    verifies(&rt, &texts, AT_ITS_BUS, Status::Refuted, "no Support 1\n")?;
-    verifies(
-        &rt,
-        &texts,
-        ALL_OF_ONE,
-        Status::Refuted,
-        "no Limit branch 3 outage 0 unit 1\n",
-    )?;
+    for (certificate, line) in [
+        (AT_ITS_BUS, "no Support 1\n"),
+        (ALL_OF_ONE, "no Limit branch 3 outage 0 unit 1\n"),
+    ] {
+        verifies(&rt, &texts, certificate, Status::Refuted, line)?;
+    }
+    replays(&rt, &texts)
+}
+
+/// Another price and fewer MW, and a clear.
+fn replays<R: Abort + AllocGlobal>(rt: &R, texts: &Texts) -> Result<(), Fail> {
     let edits = b"op,target,side,block,value\nprice,2,sell,1,31\nquantity,1,sell,1,30\nclear,,,,\n";
     let replayed = replay_told(
         rt.alloc(),
@@ -264,7 +264,13 @@ fn refuses_with_outages_of_units(rt: HostRuntime) -> Result<(), Fail> {
         FactorPlaces::Six,
         edits,
     )?;
-    assert!(rt; tells(&replayed, Status::Done, FEWER));
+    assert!(rt; tells(replayed, Status::Done, FEWER.as_bytes()));
+    Ok(())
+}
+
+#[test]
+fn refuses_shares(rt: HostRuntime) -> Result<(), Fail> {
+    let line = "refused unit-outages ShareSum unit 1 sum 0.9\n";
     let short = Texts::new(
         rt.alloc(),
         &Example {
@@ -278,12 +284,6 @@ fn refuses_with_outages_of_units(rt: HostRuntime) -> Result<(), Fail> {
         PostRating::C,
         FactorPlaces::Six,
     )?;
-    assert!(rt;
-        tells(
-            &told,
-            Status::Refused,
-            "refused unit-outages ShareSum unit 1 sum 0.9\n"
-        )
-    );
+    assert!(rt; tells(told, Status::Refused, line.as_bytes()));
     Ok(())
 }

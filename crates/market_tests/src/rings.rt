@@ -2,6 +2,7 @@
 
 use case_maker::ring;
 use market_model::Market;
+use std::process::Abort;
 use std::test::Fail;
 
 /// Whether the buses have these loads.
@@ -69,16 +70,21 @@ fn has_post_limits(market: &Market) -> bool {
     }
 }
 
-#[test]
-fn makes_a_ring_of_four(rt: HostRuntime) -> Result<(), Fail> {
-    let market = ring(rt.alloc(), 4, 7)?;
-    assert!(rt; has_loads(&market));
-    assert!(rt; has_prices(&market));
-    assert!(rt; has_base_limits(&market));
-    assert!(rt; has_post_limits(&market));
+/// Compares the market of a ring.
+fn compare(rt: &impl Abort, market: &Market) {
+    assert!(rt; has_loads(market));
+    assert!(rt; has_prices(market));
+    assert!(rt; has_base_limits(market));
+    assert!(rt; has_post_limits(market));
     assert_eq!(rt; market.outages().slice(), [1, 2, 3, 4].as_slice());
     assert_eq!(rt; market.buses().len(), 4);
     assert_eq!(rt; market.lines().len(), 4);
     assert_eq!(rt; market.shift(2, 3), -250_000_000);
+}
+
+#[test]
+fn makes_a_ring_of_four(rt: HostRuntime) -> Result<(), Fail> {
+    let market = ring(rt.alloc(), 4, 7)?;
+    compare(&rt, &market);
     Ok(())
 }

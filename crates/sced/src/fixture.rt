@@ -108,20 +108,36 @@ pub fn expect_within<R: Abort + AllocGlobal>(
     failing: (&[u64], &[u64]),
     want: Want<'_>,
 ) -> Result<(), Fail> {
-    let mut store = MemoryStore::new(rt.alloc(), room(bytes), failing.0)?;
-    for (name, bytes) in files {
-        assert!(rt; store.add(name, bytes).is_ok());
-    }
+    let mut store = stocked(rt, files, bytes, failing.0)?;
     answers(rt, line, &mut store, failing.1, want)
 }
 
-/// Room for all files of a run, each of at most so many bytes.
-pub fn room(bytes: usize) -> Room {
-    Room {
+/// A store of these files and room for others, each of at most so many bytes, with reads and writes that fail, by the number of each.
+pub fn stocked<R: Abort + AllocGlobal>(
+    rt: &R,
+    files: &[(&str, &[u8])],
+    bytes: usize,
+    failing: &[u64],
+) -> Result<MemoryStore, Fail> {
+    let room = Room {
         files: 10,
         name: 16,
         bytes,
+    };
+    let mut store = MemoryStore::new(rt.alloc(), room, failing)?;
+    for (name, bytes) in files {
+        assert!(rt; store.add(name, bytes).is_ok());
     }
+    Ok(store)
+}
+
+/// The words of a line.
+fn words_of<R: AllocGlobal>(rt: &R, line: &str) -> Result<Vec<String>, Fail> {
+    let mut words = Vec::new(rt.alloc());
+    for word in line.split(' ') {
+        words.push(String::from_str(rt.alloc(), word)?)?;
+    }
+    Ok(words)
 }
 
 /// Runs the words of a line over a store, with puts that fail, and compares.
@@ -132,20 +148,23 @@ pub fn answers<R: Abort + AllocGlobal>(
     failing: &[u64],
     want: Want<'_>,
 ) -> Result<(), Fail> {
+    let words = words_of(rt, line)?;
     let mut sink = MemorySink::new(rt.alloc(), 8192, failing)?;
-    let mut words = Vec::new(rt.alloc());
-    for word in line.split(' ') {
-        words.push(String::from_str(rt.alloc(), word)?)?;
-    }
     let status = run(rt.alloc(), words.as_slice(), store, &mut sink);
+    compare(rt, status, sink.bytes(), want)?;
+    holds(rt, store, "out.json", want.written)
+}
+
+/// Compares what a run ended with and put.
+fn compare<R: Abort>(rt: &R, status: Status, put: &[u8], want: Want<'_>) -> Result<(), Fail> {
     assert_eq!(rt; status, want.status);
     if want.start == want.end {
-        assert_eq!(rt; sink.bytes(), want.start.as_bytes());
+        assert_eq!(rt; put, want.start.as_bytes());
     } else {
-        assert!(rt; sink.bytes().starts_with(want.start.as_bytes()));
-        assert!(rt; sink.bytes().ends_with(want.end.as_bytes()));
+        assert!(rt; put.starts_with(want.start.as_bytes()));
+        assert!(rt; put.ends_with(want.end.as_bytes()));
     }
-    holds(rt, store, "out.json", want.written)
+    Ok(())
 }
 
 /// Compares what a file of a store has, where it is there.

@@ -1,10 +1,7 @@
 //! Certificates that are written and verified, replays of edits, and rings.
 
-use crate::fixture::{
-    BUSES, LOSS, OFFERS, SHIFT, UNITS, Want, answers, begins, case, expect, room, whole,
-};
+use crate::fixture::{BUSES, LOSS, OFFERS, SHIFT, UNITS, Want, begins, case, expect, whole};
 use command_answers::Status;
-use outside_store::MemoryStore;
 use std::process::Abort;
 use std::test::Fail;
 
@@ -54,16 +51,17 @@ fn expect_task<R: Abort + AllocGlobal>(
     want: Want<'_>,
 ) -> Result<(), Fail> {
     let case = case(rt, BUSES, UNITS, ratings)?;
-    let mut store = MemoryStore::new(rt.alloc(), room(65_536), failing.0)?;
-    assert!(rt; store.add("case.m", case.as_bytes()).is_ok());
-    assert!(rt; store.add("shift.csv", SHIFT.as_bytes()).is_ok());
-    assert!(rt; store.add("loss.csv", LOSS.as_bytes()).is_ok());
-    assert!(rt; store.add("listed.csv", b"branch\n1\n").is_ok());
-    assert!(rt; store.add("offers.csv", inputs.0.as_bytes()).is_ok());
-    assert!(rt; store.add("offsets.csv", b"branch,mw\n").is_ok());
-    assert!(rt; store.add("edits.csv", inputs.1.as_bytes()).is_ok());
-    assert!(rt; store.add("in.json", inputs.2.as_bytes()).is_ok());
-    answers(rt, line, &mut store, failing.1, want)
+    let files: [(&str, &[u8]); 8] = [
+        ("case.m", case.as_bytes()),
+        ("shift.csv", SHIFT.as_bytes()),
+        ("loss.csv", LOSS.as_bytes()),
+        ("listed.csv", b"branch\n1\n"),
+        ("offers.csv", inputs.0.as_bytes()),
+        ("offsets.csv", b"branch,mw\n"),
+        ("edits.csv", inputs.1.as_bytes()),
+        ("in.json", inputs.2.as_bytes()),
+    ];
+    expect(rt, line, files.as_slice(), failing, want)
 }
 
 const ALL: (&[u64], &[u64]) = (&[], &[]);

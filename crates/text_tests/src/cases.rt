@@ -1,7 +1,8 @@
 //! `case_text`: a case that is read, and the faults of texts that are none.
 
-use case_text::{Field, read_case};
+use case_text::{Field, RawCase, read_case};
 use std::alloc::{AllocError, Global};
+use std::process::Abort;
 use std::test::Fail;
 
 /// Texts that are no cases, each behind the fault of it. In a text `$` stands for a line end, `^` for a carriage return, `!` for a tab,
@@ -178,6 +179,21 @@ fn tells_faults(rt: HostRuntime) -> Result<(), Fail> {
     Ok(())
 }
 
+/// Compares rows and cells of the case below.
+fn compare(rt: &impl Abort, case: &RawCase<'_>) {
+    for (field, rows, width) in [(Field::Bus, 2, 13), (Field::Gen, 0, 0)] {
+        assert!(rt; case.rows(field) == rows && case.width(field) == width);
+    }
+    for (field, row, col, want) in [
+        (Field::Bus, 1, 2, b"3".as_slice()),
+        (Field::Bus, 2, 13, b"-9e-1"),
+        (Field::Branch, 2, 11, b"Inf"),
+        (Field::Branch, 3, 1, b""),
+    ] {
+        assert_eq!(rt; case.cell(field, row, col), want);
+    }
+}
+
 #[test]
 fn reads_a_case(rt: HostRuntime) -> Result<(), Fail> {
     let text = b"\xEF\xBB\xBF%% a case\r
@@ -195,16 +211,6 @@ mpc.branch = [1 2 0 0.2 0 0 0 0 0 0 1\r
 1 2 0 0.1 0 0 0 0 0 0 Inf]\r
 ";
     let case = read_case(rt.alloc(), text)?;
-    for (field, rows, width) in [(Field::Bus, 2, 13), (Field::Gen, 0, 0)] {
-        assert!(rt; case.rows(field) == rows && case.width(field) == width);
-    }
-    for (field, row, col, want) in [
-        (Field::Bus, 1, 2, b"3".as_slice()),
-        (Field::Bus, 2, 13, b"-9e-1"),
-        (Field::Branch, 2, 11, b"Inf"),
-        (Field::Branch, 3, 1, b""),
-    ] {
-        assert_eq!(rt; case.cell(field, row, col), want);
-    }
+    compare(&rt, &case);
     Ok(())
 }

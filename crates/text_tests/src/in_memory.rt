@@ -3,6 +3,7 @@
 use crate::reading::{gives, shows};
 use outside_store::{Failed, MemorySink, MemoryStore, NoRoom, Room, Sink, Store};
 use std::alloc::{AllocError, Global};
+use std::process::Abort;
 use std::test::Fail;
 
 const ROOM: Room = Room {
@@ -35,25 +36,29 @@ fn has_both(store: &MemoryStore) -> bool {
         && [store.calls(), store.failed_reads(), store.failed_writes()] == [5, 0, 0]
 }
 
-#[test]
-fn a_store_reads_and_replaces(rt: HostRuntime) -> Result<(), Fail> {
-    let mut store = small_store(rt.alloc(), &[])?;
+/// Reads a file up to so many bytes, and replaces it.
+fn read_and_replace<R: Abort + AllocGlobal>(rt: &R, store: &mut MemoryStore) {
     for (limit, want) in [(2, "abc"), (3, "abcd"), (100, "abcd")] {
         assert!(rt;
-            gives(rt.alloc(), &mut store, "first", limit, want),
+            gives(rt.alloc(), store, "first", limit, want),
             "at {limit}"
         );
     }
-    assert!(rt; writes_both(&mut store));
-    assert!(rt; has_both(&store));
-    Ok(())
+    assert!(rt; writes_both(store));
+    assert!(rt; has_both(store));
 }
 
 #[test]
-fn a_store_fails_where_it_must(rt: HostRuntime) -> Result<(), Fail> {
-    let mut store = small_store(rt.alloc(), &[1, 3])?;
+fn a_store_reads_and_replaces(rt: HostRuntime) -> Result<(), Fail> {
+    let mut store = small_store(rt.alloc(), &[])?;
+    read_and_replace(&rt, &mut store);
+    Ok(())
+}
+
+/// Reads and writes, of which the second and the fourth call fail.
+fn read_and_write<R: Abort + AllocGlobal>(rt: &R, store: &mut MemoryStore) {
     for want in [true, false, true] {
-        assert_eq!(rt; gives(rt.alloc(), &mut store, "first", 100, "abcd"), want);
+        assert_eq!(rt; gives(rt.alloc(), store, "first", 100, "abcd"), want);
     }
     // The call that fails, bytes that are too long, a name that is too long, and a third name.
     for (name, text, want) in [
@@ -75,6 +80,12 @@ fn a_store_fails_where_it_must(rt: HostRuntime) -> Result<(), Fail> {
         [store.calls(), store.failed_reads(), store.failed_writes()],
         [8, 1, 4]
     );
+}
+
+#[test]
+fn a_store_fails_where_it_must(rt: HostRuntime) -> Result<(), Fail> {
+    let mut store = small_store(rt.alloc(), &[1, 3])?;
+    read_and_write(&rt, &mut store);
     Ok(())
 }
 

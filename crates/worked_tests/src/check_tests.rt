@@ -1,5 +1,6 @@
 //! Checks of tables, with texts worked by hand.
 
+use crate::tells::tells;
 use crate::triangle::TRIANGLE;
 use command_answers::{Status, check_told};
 use market_data::FactorPlaces;
@@ -80,8 +81,7 @@ fn expect<R: Abort + AllocGlobal>(
         contingencies: texts[3].as_bytes(),
     };
     let told = check_told(rt.alloc(), &grid, FactorPlaces::Six)?;
-    assert_eq!(rt; told.status, want.0);
-    assert_eq!(rt; told.text.as_slice(), want.1.as_bytes());
+    assert!(rt; tells(told, want.0, want.1.as_bytes()));
     Ok(())
 }
 

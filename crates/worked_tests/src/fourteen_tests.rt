@@ -1,7 +1,8 @@
 //! Tables that are made of a network too large for exact fractions, as they were made outside in fractions of any size.
 
-use command_answers::{Status, factors_told};
+use command_answers::{Status, Told, factors_told};
 use market_data::FactorPlaces;
+use std::process::Abort;
 use std::test::Fail;
 
 /// The IEEE system of fourteen buses.
@@ -64,6 +65,17 @@ const FIRST_LOST: &str =
     "branch,outage,factor\n2,1,1\n3,1,-0.168846\n4,1,-0.353359\n5,1,-0.477795\n6,1,-0.168846\n7,1,-0.493344\n8,1,-0.018225\n9,1,-0.010636\n10,1,0.028861\n11,1,0.01738\n12,1,0.002553\n13,1,0.008929\n14,1,0\n15,1,-0.018225\n16,1,-0.01738\n17,1,-0.011482\n18,1,-0.01738\n19,1,0.002553\n20,1,0.011482\n";
 
 /// The entries of its inverse pass 127 bits, so nothing but a guess makes these.
+/// Compares what is told of the tables.
+fn compare(rt: &impl Abort, told: &Told) {
+    assert_eq!(rt; told.status, Status::Done);
+    let text = told.text.as_slice();
+    assert_eq!(rt; text, b"shift records 280\noutage records 19\n".as_slice());
+    let shift = told.outputs.ptdf.as_deref().unwrap_or(b"".as_slice());
+    assert!(rt; shift.starts_with(FIRST_BRANCH.as_bytes()));
+    let loss = told.outputs.lodf.as_deref().unwrap_or(b"".as_slice());
+    assert_eq!(rt; loss, FIRST_LOST.as_bytes());
+}
+
 #[test]
 fn makes_tables_of_fourteen_buses(rt: HostRuntime) -> Result<(), Fail> {
     let told = factors_told(
@@ -73,12 +85,6 @@ fn makes_tables_of_fourteen_buses(rt: HostRuntime) -> Result<(), Fail> {
         true,
         FactorPlaces::Six,
     )?;
-    assert_eq!(rt; told.status, Status::Done);
-    let text = told.text.as_slice();
-    assert_eq!(rt; text, b"shift records 280\noutage records 19\n".as_slice());
-    let shift = told.outputs.ptdf.as_deref().unwrap_or(b"".as_slice());
-    assert!(rt; shift.starts_with(FIRST_BRANCH.as_bytes()));
-    let loss = told.outputs.lodf.as_deref().unwrap_or(b"".as_slice());
-    assert_eq!(rt; loss, FIRST_LOST.as_bytes());
+    compare(&rt, &told);
     Ok(())
 }

@@ -17,4 +17,6 @@ mod pool;
 #[cfg(test)]
 mod reserve;
 #[cfg(test)]
+mod tells;
+#[cfg(test)]
 mod triangle;

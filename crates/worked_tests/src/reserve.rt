@@ -4,7 +4,8 @@
 //! Where 60 MW are needed, energy and reserve share unit 1's room: a MW less of reserve there costs 3 more at unit 2, and so does a MW
 //! more of energy.
 
-use command_answers::{Status, Told, clear_told, replay_told, verify_told};
+use crate::tells::tells;
+use command_answers::{Status, clear_told, replay_told, verify_told};
 use market_data::FactorPlaces;
 use market_tables::{GridTables, MarketTables};
 use net_case::PostRating;
@@ -157,20 +158,17 @@ fn limited() -> MarketTables<&'static [u8]> {
     }
 }
 
-/// Whether a command ended with a status and a text.
-fn tells(told: &Told, status: Status, text: &str) -> bool {
-    told.status == status && told.text.as_slice() == text.as_bytes()
-}
+/// No edits.
+const NO_EDITS: &[u8] = b"op,target,side,block,value\n";
 
-/// Compares what a verification tells.
+/// Compares what a verification after edits tells.
 fn verifies<R: Abort + AllocGlobal>(
     rt: &R,
     tables: &MarketTables<&[u8]>,
+    edits: &[u8],
     certificate: &[u8],
-    status: Status,
-    text: &str,
+    want: (Status, &str),
 ) -> Result<(), Fail> {
-    let edits = b"op,target,side,block,value\n".as_slice();
     let verdict = verify_told(
         rt.alloc(),
         tables,
@@ -179,7 +177,26 @@ fn verifies<R: Abort + AllocGlobal>(
         edits,
         certificate,
     )?;
-    assert!(rt; tells(&verdict, status, text));
+    assert!(rt; tells(verdict, want.0, want.1.as_bytes()));
+    Ok(())
+}
+
+/// Clears, and verifies the certificate, which is this one where one is given.
+fn clears<R: Abort + AllocGlobal>(
+    rt: &R,
+    tables: &MarketTables<&[u8]>,
+    want: (Status, &str),
+    certificate: Option<&str>,
+) -> Result<(), Fail> {
+    let told = clear_told(rt.alloc(), tables, PostRating::C, FactorPlaces::Six)?;
+    let written = told.outputs.certificate.as_deref();
+    let written = written.unwrap_or(b"".as_slice());
+    let is_wanted = match certificate {
+        Some(text) => written == text.as_bytes(),
+        None => true,
+    };
+    verifies(rt, tables, NO_EDITS, written, (Status::Done, "yes\n"))?;
+    assert!(rt; tells(told, want.0, want.1.as_bytes()) && is_wanted);
     Ok(())
 }
 
@@ -189,24 +206,7 @@ fn clears_with_reserve(rt: HostRuntime) -> Result<(), Fail> {
         (NEED_60, Status::Done, SHARED, SHARED_CERTIFICATE),
         (NEED_110, Status::Infeasible, TOO_MUCH, TOO_MUCH_CERTIFICATE),
     ] {
-        let told = clear_told(
-            rt.alloc(),
-            &tables(reserves),
-            PostRating::C,
-            FactorPlaces::Six,
-        )?;
-        assert!(rt; tells(&told, status, text));
-        assert!(rt; told.outputs.certificate.is_some());
-        if let Some(written) = &told.outputs.certificate {
-            assert!(rt; written.as_slice() == certificate.as_bytes());
-            verifies(
-                &rt,
-                &tables(reserves),
-                written.as_slice(),
-                Status::Done,
-                "yes\n",
-            )?;
-        }
+        clears(&rt, &tables(reserves), (status, text), Some(certificate))?;
     }
     Ok(())
 }
@@ -222,7 +222,7 @@ fn replays_the_need(rt: HostRuntime) -> Result<(), Fail> {
         FactorPlaces::Six,
         edits,
     )?;
-    assert!(rt; tells(&replayed, Status::Refused, RAISED_AND_LET_DOWN));
+    assert!(rt; tells(replayed, Status::Refused, RAISED_AND_LET_DOWN.as_bytes()));
     Ok(())
 }
 
@@ -290,13 +290,9 @@ fn refutes_by_reserve(rt: HostRuntime) -> Result<(), Fail> {
         let certificate = format!(in rt.alloc();
             "{{\"blocks\":[\"60000000000/1\",\"0/1\"],\"energy\":\"13000000/1\",\"kind\":\"optimal\",\"limits\":[],\"places\":6,\"reserve\":{{\"price\":\"{price}\",\"quantities\":[{quantities}],\"units\":[{units}]}},\"version\":3}}"
         )?;
-        verifies(
-            &rt,
-            &tables(NEED_60),
-            certificate.as_bytes(),
-            Status::Refuted,
-            line,
-        )?;
+        let certificate = certificate.as_bytes();
+        let want = (Status::Refuted, line);
+        verifies(&rt, &tables(NEED_60), NO_EDITS, certificate, want)?;
     }
     Ok(())
 }
@@ -318,11 +314,7 @@ fn clears_at_the_edges(rt: HostRuntime) -> Result<(), Fail> {
         (buying(), Status::Done, BUYING),
         (limited(), Status::Done, WITH_OUTAGES),
     ] {
-        let told = clear_told(rt.alloc(), &tables, PostRating::C, FactorPlaces::Six)?;
-        assert!(rt; tells(&told, status, text));
-        if let Some(written) = &told.outputs.certificate {
-            verifies(&rt, &tables, written.as_slice(), Status::Done, "yes\n")?;
-        }
+        clears(&rt, &tables, (status, text), None)?;
     }
     Ok(())
 }
@@ -333,18 +325,9 @@ fn keeps_a_room(rt: HostRuntime) -> Result<(), Fail> {
     let edits = b"op,target,side,block,value\nclear,,,,\nneed,,,,0\nclear,,,,\n";
     let tables = buying();
     let replayed = replay_told(rt.alloc(), &tables, PostRating::C, FactorPlaces::Six, edits)?;
+    let written = replayed.outputs.certificate.as_deref();
+    let written = written.unwrap_or(b"".as_slice());
+    verifies(&rt, &tables, edits, written, (Status::Done, "yes\n"))?;
     assert!(rt; replayed.status == Status::Done);
-    assert!(rt; replayed.outputs.certificate.is_some());
-    if let Some(written) = &replayed.outputs.certificate {
-        let verdict = verify_told(
-            rt.alloc(),
-            &tables,
-            PostRating::C,
-            FactorPlaces::Six,
-            edits,
-            written.as_slice(),
-        )?;
-        assert!(rt; tells(&verdict, Status::Done, "yes\n"));
-    }
     Ok(())
 }
