@@ -99,55 +99,58 @@ fn tells_of_each_command(rt: HostRuntime) -> Result<(), Fail> {
     Ok(())
 }
 
+/// Certificates, where VAST stands for a number of 127 bits, and what is told of them.
+static CERTIFICATES: [(&str, Status, &str); 9] = [
+    ("{", Status::Refused, "refused certificate Key json\n"),
+    (
+        "{\"energy\":\"2/4\",\"kind\":\"farkas\",\"limits\":[],\"version\":1}",
+        Status::Refused,
+        "refused certificate Key energy\n",
+    ),
+    (
+        "{\"energy\":\"10/1\",\"kind\":\"optimal\",\"limits\":[],\"version\":1}",
+        Status::Refused,
+        "refused certificate Key blocks\n",
+    ),
+    (
+        "{\"energy\":\"1/1\",\"kind\":\"farkas\",\"limits\":[],\"version\":2}",
+        Status::Refused,
+        "refused certificate Key places\n",
+    ),
+    (
+        "{\"energy\":\"1/1\",\"kind\":\"farkas\",\"limits\":[],\"version\":1,\"x\":0}",
+        Status::Refused,
+        "refused certificate Key extra\n",
+    ),
+    (
+        "{\"blocks\":[\"VAST\"],\"energy\":\"VAST\",\"kind\":\"optimal\",\"limits\":[],\"places\":9,\"version\":2}",
+        Status::Refuted,
+        "no Places\n",
+    ),
+    (
+        "{\"blocks\":[\"VAST\"],\"energy\":\"VAST\",\"kind\":\"optimal\",\"limits\":[],\"places\":6,\"version\":2}",
+        Status::Refuted,
+        "no Count\n",
+    ),
+    (
+        "{\"energy\":\"VAST\",\"kind\":\"farkas\",\"limits\":[{\"branch\":2,\"down\":\"-1/1\",\"outage\":0,\"up\":\"VAST\"}],\"places\":6,\"version\":2}",
+        Status::Refuted,
+        "no Sign branch 2 outage 0\n",
+    ),
+    (
+        "{\"energy\":\"VAST\",\"kind\":\"farkas\",\"limits\":[{\"branch\":2,\"down\":\"0/1\",\"outage\":0,\"up\":\"VAST\"}],\"places\":6,\"version\":2}",
+        Status::Range,
+        "range ",
+    ),
+];
+
 /// Certificates of the market that are none, or tell a reason before any sum is made of numbers that are too large.
 #[test]
 fn refuses_certificates(rt: HostRuntime) -> Result<(), Fail> {
     let vast = "170141183460469231731687303715884105727/1";
     let edits = b"op,target,side,block,value\n";
     let bytes = market();
-    for (certificate, status, text) in [
-        ("{", Status::Refused, "refused certificate Key json\n"),
-        (
-            "{\"energy\":\"2/4\",\"kind\":\"farkas\",\"limits\":[],\"version\":1}",
-            Status::Refused,
-            "refused certificate Key energy\n",
-        ),
-        (
-            "{\"energy\":\"10/1\",\"kind\":\"optimal\",\"limits\":[],\"version\":1}",
-            Status::Refused,
-            "refused certificate Key blocks\n",
-        ),
-        (
-            "{\"energy\":\"1/1\",\"kind\":\"farkas\",\"limits\":[],\"version\":2}",
-            Status::Refused,
-            "refused certificate Key places\n",
-        ),
-        (
-            "{\"energy\":\"1/1\",\"kind\":\"farkas\",\"limits\":[],\"version\":1,\"x\":0}",
-            Status::Refused,
-            "refused certificate Key extra\n",
-        ),
-        (
-            "{\"blocks\":[\"VAST\"],\"energy\":\"VAST\",\"kind\":\"optimal\",\"limits\":[],\"places\":9,\"version\":2}",
-            Status::Refuted,
-            "no Places\n",
-        ),
-        (
-            "{\"blocks\":[\"VAST\"],\"energy\":\"VAST\",\"kind\":\"optimal\",\"limits\":[],\"places\":6,\"version\":2}",
-            Status::Refuted,
-            "no Count\n",
-        ),
-        (
-            "{\"energy\":\"VAST\",\"kind\":\"farkas\",\"limits\":[{\"branch\":2,\"down\":\"-1/1\",\"outage\":0,\"up\":\"VAST\"}],\"places\":6,\"version\":2}",
-            Status::Refuted,
-            "no Sign branch 2 outage 0\n",
-        ),
-        (
-            "{\"energy\":\"VAST\",\"kind\":\"farkas\",\"limits\":[{\"branch\":2,\"down\":\"0/1\",\"outage\":0,\"up\":\"VAST\"}],\"places\":6,\"version\":2}",
-            Status::Range,
-            "range ",
-        ),
-    ] {
+    for (certificate, status, text) in &CERTIFICATES {
         let certificate = certificate.replace(rt.alloc(), "VAST", vast)?;
         let told = verify_told(
             rt.alloc(),
@@ -157,7 +160,7 @@ fn refuses_certificates(rt: HostRuntime) -> Result<(), Fail> {
             edits,
             certificate.as_bytes(),
         )?;
-        expect(&rt, told, status, text.as_bytes());
+        expect(&rt, told, *status, text.as_bytes());
     }
     Ok(())
 }

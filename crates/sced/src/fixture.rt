@@ -59,33 +59,34 @@ pub fn case<R: AllocGlobal>(
     Ok(text)
 }
 
-/// What a run is to end with: its status, the beginning and the end of its text, the whole where both are one, and the file that it wrote.
+/// The text that a run is to put: the whole, how it begins, or how it begins and ends.
+#[derive(Clone, Copy)]
+pub enum Text<'a> {
+    Whole(&'a str),
+    Start(&'a str),
+    Ends(&'a str, &'a str),
+}
+
+/// What a run is to end with: its status, its text, and the file that it wrote.
 #[derive(Clone, Copy)]
 pub struct Want<'a> {
     pub status: Status,
-    pub start: &'a str,
-    pub end: &'a str,
+    pub text: Text<'a>,
     pub written: Option<&'a str>,
 }
 
-/// A text that is told whole.
-pub fn whole(status: Status, text: &str) -> Want<'_> {
+/// A text that is told, where no file is written.
+pub fn told(status: Status, text: Text<'_>) -> Want<'_> {
     Want {
         status,
-        start: text,
-        end: text,
+        text,
         written: None,
     }
 }
 
-/// How a text begins, and that its last line ends.
-pub fn begins(status: Status, start: &str) -> Want<'_> {
-    Want {
-        status,
-        start,
-        end: "\n",
-        written: None,
-    }
+/// The same of a whole text.
+pub fn whole(status: Status, text: &str) -> Want<'_> {
+    told(status, Text::Whole(text))
 }
 
 /// Runs the words of a line over files, with reads and puts that fail, by the number of each, and compares.
@@ -158,12 +159,15 @@ pub fn answers<R: Abort + AllocGlobal>(
 /// Compares what a run ended with and put.
 fn compare<R: Abort>(rt: &R, status: Status, put: &[u8], want: Want<'_>) -> Result<(), Fail> {
     assert_eq!(rt; status, want.status);
-    if want.start == want.end {
-        assert_eq!(rt; put, want.start.as_bytes());
-    } else {
-        assert!(rt; put.starts_with(want.start.as_bytes()));
-        assert!(rt; put.ends_with(want.end.as_bytes()));
-    }
+    let (start, end) = match want.text {
+        Text::Whole(text) => {
+            assert_eq!(rt; put, text.as_bytes());
+            (text, text)
+        }
+        Text::Start(start) => (start, "\n"),
+        Text::Ends(start, end) => (start, end),
+    };
+    assert!(rt; put.starts_with(start.as_bytes()) && put.ends_with(end.as_bytes()));
     Ok(())
 }
 

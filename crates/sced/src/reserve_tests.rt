@@ -1,6 +1,6 @@
 //! Markets that clear spinning reserve beside energy, with texts worked by hand.
 
-use crate::fixture::{BUSES, OFFERS, SHIFT, UNITS, Want, case, expect, whole};
+use crate::fixture::{BUSES, OFFERS, SHIFT, Text, UNITS, Want, case, expect, whole};
 use command_answers::Status;
 use std::process::Abort;
 use std::test::Fail;
@@ -78,8 +78,7 @@ fn expect_reserve<R: Abort + AllocGlobal>(
 fn written<'a>(status: Status, text: &'a str, certificate: &'a str) -> Want<'a> {
     Want {
         status,
-        start: text,
-        end: text,
+        text: Text::Whole(text),
         written: Some(certificate),
     }
 }
@@ -138,23 +137,31 @@ fn edits_the_need(rt: HostRuntime) -> Result<(), Fail> {
     Ok(())
 }
 
+/// Records of reserve that are refused, and why.
+static FAULTS: [(&str, &str); 7] = [
+    ("offer,1,1\n", "Width line 2"),
+    ("need,1,x,\n", "Word line 2"),
+    ("offer,1,x,2\n", "Cell line 2 col 3 BadNumber"),
+    ("offer,3,1,2\n", "NoUnit line 2"),
+    ("offer,1,-1,2\n", "Negative line 2"),
+    ("offer,1,1,2\noffer,1,1,3\n", "Twice line 3"),
+    ("need,,1,\nneed,,1,\n", "Twice line 3"),
+];
+
+/// Refuses records of reserve.
+fn refuses<R: Abort + AllocGlobal>(rt: &R, records: &str, told: &str) -> Result<(), Fail> {
+    let line = format!(in rt.alloc(); "refused reserves {told}\n")?;
+    let want = whole(Status::Refused, line.as_str());
+    expect_reserve(rt, "clear --reserves reserves.csv", records, "", want)
+}
+
 #[test]
 fn refuses_reserves(rt: HostRuntime) -> Result<(), Fail> {
-    let many = "need,,1,\n".repeat(rt.alloc(), 1002)?;
-    for (records, told) in [
-        ("offer,1,1\n", "Width line 2"),
-        (many.as_str(), "TooMany count 1002"),
-        ("need,1,x,\n", "Word line 2"),
-        ("offer,1,x,2\n", "Cell line 2 col 3 BadNumber"),
-        ("offer,3,1,2\n", "NoUnit line 2"),
-        ("offer,1,-1,2\n", "Negative line 2"),
-        ("offer,1,1,2\noffer,1,1,3\n", "Twice line 3"),
-        ("need,,1,\nneed,,1,\n", "Twice line 3"),
-    ] {
-        let line = format!(in rt.alloc(); "refused reserves {told}\n")?;
-        let want = whole(Status::Refused, line.as_str());
-        expect_reserve(&rt, "clear --reserves reserves.csv", records, "", want)?;
+    for (records, told) in &FAULTS {
+        refuses(&rt, records, told)?;
     }
+    let many = "need,,1,\n".repeat(rt.alloc(), 1002)?;
+    refuses(&rt, many.as_str(), "TooMany count 1002")?;
     let want = whole(Status::Refused, "refused reserves Header\n");
     expect_reserve(&rt, "clear --reserves other", "", "kind,unit,mw\n", want)
 }

@@ -1,6 +1,6 @@
 //! Certificates that are written and verified, replays of edits, and rings.
 
-use crate::fixture::{BUSES, LOSS, OFFERS, SHIFT, UNITS, Want, begins, case, expect, whole};
+use crate::fixture::{BUSES, LOSS, OFFERS, SHIFT, Text, UNITS, Want, case, expect, told, whole};
 use command_answers::Status;
 use std::process::Abort;
 use std::test::Fail;
@@ -66,161 +66,139 @@ fn expect_task<R: Abort + AllocGlobal>(
 
 const ALL: (&[u64], &[u64]) = (&[], &[]);
 
+/// The words of the market, ratings of branch 2, a certificate, and what is told of it.
+static VERDICTS: [(&str, &str, &str, Status, &str); 5] = [
+    (AFTER, "40 0 45 0 0", OPTIMAL, Status::Done, "yes\n"),
+    (AFTER, "40 0 45 0 0", MOVED, Status::Refuted, NO_SLACK),
+    (ALONE, "40 0 0 0 0", OPTIMAL, Status::Refuted, NO_ROW),
+    (ALONE, "10 0 0 0 0", FARKAS, Status::Done, "yes\n"),
+    (ALONE, "40 0 0 0 0", FARKAS, Status::Refuted, "no Bound\n"),
+];
+
+const NO_SLACK: &str = "no Slack branch 2 outage 0\n";
+
+const NO_ROW: &str = "no NoRow branch 2 outage 1\n";
+
 #[test]
-fn writes_and_verifies_certificates(rt: HostRuntime) -> Result<(), Fail> {
-    for (words, market, ratings, certificate, want) in [
-        (
-            "clear --certificate out.json",
-            AFTER,
-            "40 0 45 0 0",
-            "",
-            Want {
-                status: Status::Done,
-                start: "cleared\nwelfare -900\n",
-                end: "surplus 900\n",
-                written: Some(OPTIMAL),
-            },
-        ),
-        (
-            "verify --certificate in.json",
-            AFTER,
-            "40 0 45 0 0",
-            OPTIMAL,
-            whole(Status::Done, "yes\n"),
-        ),
-        (
-            "verify --certificate in.json",
-            AFTER,
-            "40 0 45 0 0",
-            MOVED,
-            whole(Status::Refuted, "no Slack branch 2 outage 0\n"),
-        ),
-        (
-            "verify --certificate in.json",
-            ALONE,
-            "40 0 0 0 0",
-            OPTIMAL,
-            whole(Status::Refuted, "no NoRow branch 2 outage 1\n"),
-        ),
-        (
-            "migrate --certificate in.json --out",
-            "out.json",
-            "40 0 0 0 0",
-            MOVED,
-            Want {
-                status: Status::Done,
-                start: "migrated\n",
-                end: "migrated\n",
-                written: Some(MOVED_ANEW),
-            },
-        ),
-        (
-            "rights --rights in.json",
-            ALONE,
-            "40 0 0 0 0",
-            "from,to,mw\n1,3,50\n1,2,5\n",
-            Want {
-                status: Status::Done,
-                start: LIMITED,
-                end: "surplus 1600\nrights fit\nright 1 pays 1500\nright 2 pays 100\nrights pay 1600\n",
-                written: None,
-            },
-        ),
-        (
-            "verify --certificate in.json",
-            ALONE,
-            "10 0 0 0 0",
-            FARKAS,
-            whole(Status::Done, "yes\n"),
-        ),
-        (
-            "verify --certificate in.json",
-            ALONE,
-            "40 0 0 0 0",
-            FARKAS,
-            whole(Status::Refuted, "no Bound\n"),
-        ),
-        (
-            "clear --certificate out.json",
-            ALONE,
-            "10 0 0 0 0",
-            "",
-            Want {
-                status: Status::Infeasible,
-                start: "infeasible\nbound -",
-                end: "\n",
-                written: Some(FARKAS),
-            },
-        ),
-    ] {
-        let line = format!(in rt.alloc(); "sced {words} {market}")?;
-        expect_task(
-            &rt,
-            line.as_str(),
-            ratings,
-            (OFFERS, "", certificate),
-            ALL,
-            want,
-        )?;
+fn verifies_certificates(rt: HostRuntime) -> Result<(), Fail> {
+    for (market, ratings, certificate, status, text) in &VERDICTS {
+        let line = format!(in rt.alloc(); "sced verify --certificate in.json {market}")?;
+        let inputs = (OFFERS, "", *certificate);
+        let want = whole(*status, text);
+        expect_task(&rt, line.as_str(), ratings, inputs, ALL, want)?;
     }
     Ok(())
 }
 
+/// Words, ratings of branch 2, the other file, and what is told: the status, the text, and the certificate that is written.
+static TASKS: [(&str, &str, &str, Status, Text, Option<&str>); 4] = [
+    (
+        "clear --certificate out.json --case case.m --ptdf shift.csv --offers offers.csv --lodf loss.csv --contingencies listed.csv",
+        "40 0 45 0 0",
+        "",
+        Status::Done,
+        Text::Ends("cleared\nwelfare -900\n", "surplus 900\n"),
+        Some(OPTIMAL),
+    ),
+    (
+        "clear --certificate out.json --case case.m --ptdf shift.csv --offers offers.csv",
+        "10 0 0 0 0",
+        "",
+        Status::Infeasible,
+        Text::Start("infeasible\nbound -"),
+        Some(FARKAS),
+    ),
+    (
+        "migrate --certificate in.json --out out.json",
+        "40 0 0 0 0",
+        MOVED,
+        Status::Done,
+        Text::Whole("migrated\n"),
+        Some(MOVED_ANEW),
+    ),
+    (
+        "rights --rights in.json --case case.m --ptdf shift.csv --offers offers.csv",
+        "40 0 0 0 0",
+        "from,to,mw\n1,3,50\n1,2,5\n",
+        Status::Done,
+        Text::Ends(
+            LIMITED,
+            "surplus 1600\nrights fit\nright 1 pays 1500\nright 2 pays 100\nrights pay 1600\n",
+        ),
+        None,
+    ),
+];
+
 #[test]
-fn replays_edits(rt: HostRuntime) -> Result<(), Fail> {
-    let done = Status::Done;
-    for (edits, status, start, end, written) in [
-        ("", done, "no steps\n", "no steps\n", None),
-        (
-            "clear,,,,\nprice,2,sell,1,20\nclear,,,,\n",
-            done,
-            CHEAPER,
-            CHEAPER,
-            Some(CHEAPER_CERTIFICATE),
-        ),
-        (
-            "demand,1,,,40\nlimit,2,base,,0\nclear,,,,\n",
-            done,
-            BLOCKED,
-            BLOCKED,
-            None,
-        ),
-        (
-            "price,2,sell,2,5\nclear,,,,\n",
-            Status::Refused,
+fn writes_certificates(rt: HostRuntime) -> Result<(), Fail> {
+    for (words, ratings, other, status, text, written) in &TASKS {
+        let line = format!(in rt.alloc(); "sced {words}")?;
+        let want = Want {
+            status: *status,
+            text: *text,
+            written: *written,
+        };
+        expect_task(&rt, line.as_str(), ratings, (OFFERS, "", *other), ALL, want)?;
+    }
+    Ok(())
+}
+
+/// Edits, and what is told: a status, the text, and the certificate that is written, where one is asked for.
+static REPLAYS: [(&str, Status, Text, Option<&str>); 8] = [
+    ("", Status::Done, Text::Whole("no steps\n"), None),
+    (
+        "clear,,,,\nprice,2,sell,1,20\nclear,,,,\n",
+        Status::Done,
+        Text::Whole(CHEAPER),
+        Some(CHEAPER_CERTIFICATE),
+    ),
+    (
+        "demand,1,,,40\nlimit,2,base,,0\nclear,,,,\n",
+        Status::Done,
+        Text::Whole(BLOCKED),
+        None,
+    ),
+    (
+        "price,2,sell,2,5\nclear,,,,\n",
+        Status::Refused,
+        Text::Ends(
             "step 1 edit refused NoBlock\nstep 2 clear\ncleared\nwelfare -800\n",
             LIMITED,
-            None,
         ),
-        (
-            "quantity,1,sell,1,120\n",
-            Status::Refused,
-            "step 1 edit refused OverCapacity 20\n",
-            "step 1 edit refused OverCapacity 20\n",
-            None,
-        ),
-        (
-            "limit,2,base,,10\nclear,,,,\nlimit,2,base,,40\nclear,,,,\n",
-            Status::Infeasible,
+        None,
+    ),
+    (
+        "quantity,1,sell,1,120\n",
+        Status::Refused,
+        Text::Whole("step 1 edit refused OverCapacity 20\n"),
+        None,
+    ),
+    (
+        "limit,2,base,,10\nclear,,,,\nlimit,2,base,,40\nclear,,,,\n",
+        Status::Infeasible,
+        Text::Ends(
             "step 1 edit accepted\nstep 2 clear\ninfeasible\nbound -10\nenergy -1\nlimit 2 base up 2 down 0\nstep 3 edit accepted\n",
             LIMITED,
-            None,
         ),
-        (
-            "price,1,sell,,5\n",
-            Status::Refused,
-            "refused edits Cell line 2 col 4 BadNumber\n",
-            "refused edits Cell line 2 col 4 BadNumber\n",
-            None,
-        ),
-        (
-            "demand,3,sell,,5\n",
-            Status::Refused,
-            "refused edits Word line 2\n",
-            "refused edits Word line 2\n",
-            None,
-        ),
-    ] {
+        None,
+    ),
+    (
+        "price,1,sell,,5\n",
+        Status::Refused,
+        Text::Whole("refused edits Cell line 2 col 4 BadNumber\n"),
+        None,
+    ),
+    (
+        "demand,3,sell,,5\n",
+        Status::Refused,
+        Text::Whole("refused edits Word line 2\n"),
+        None,
+    ),
+];
+
+#[test]
+fn replays_edits(rt: HostRuntime) -> Result<(), Fail> {
+    for (edits, status, text, written) in &REPLAYS {
         let certificate = if written.is_some() {
             " --certificate out.json"
         } else {
@@ -229,10 +207,9 @@ fn replays_edits(rt: HostRuntime) -> Result<(), Fail> {
         let line = format!(in rt.alloc(); "sced replay {ALONE} --edits edits.csv{certificate}")?;
         let edits = format!(in rt.alloc(); "op,target,side,block,value\n{edits}")?;
         let want = Want {
-            status,
-            start,
-            end,
-            written,
+            status: *status,
+            text: *text,
+            written: *written,
         };
         expect_task(
             &rt,
@@ -283,28 +260,56 @@ fn verifies_after_edits(rt: HostRuntime) -> Result<(), Fail> {
     )
 }
 
+/// Rings, their status, and what is told.
+static RINGS: [(&str, Status, Text); 6] = [
+    ("sced make 4 7", Status::Done, Text::Whole(FOUR)),
+    ("sced make 4 7", Status::Done, Text::Whole(FOUR)),
+    ("sced make 16 1", Status::Done, Text::Whole(SIXTEEN)),
+    ("sced make 16 1", Status::Done, Text::Whole(SIXTEEN)),
+    ("sced make 64 1", Status::Done, Text::Start(MOST)),
+    ("sced make 5 7", Status::Usage, Text::Start("error")),
+];
+
+const FOUR: &str =
+    "ring 4 seed 7 buses 4 blocks 8 limits 16\ncleared\nwelfare -4631\nsurplus 1218\n";
+
+const SIXTEEN: &str =
+    "ring 16 seed 1 buses 16 blocks 32 limits 256\ncleared\nwelfare -21253\nsurplus 2766\n";
+
+const MOST: &str = "ring 64 seed 1 buses 64 blocks 128 limits 4096\ncleared\nwelfare -";
+
 /// Two of them twice, with equal bytes. On that of four buses, where branch 1 is lost, bus 1 sends its 42 MW over branch 4, which carries no
 /// more; the rest is made at bus 3 for 60. The welfare of that of sixteen was worked out with all rows at once, outside this repository; its
 /// surplus is that of one of several sets of duals.
 #[test]
 fn makes_rings(rt: HostRuntime) -> Result<(), Fail> {
-    let four = "ring 4 seed 7 buses 4 blocks 8 limits 16\ncleared\nwelfare -4631\nsurplus 1218\n";
-    let sixteen =
-        "ring 16 seed 1 buses 16 blocks 32 limits 256\ncleared\nwelfare -21253\nsurplus 2766\n";
-    let most = "ring 64 seed 1 buses 64 blocks 128 limits 4096\ncleared\nwelfare -";
-    for (line, want) in [
-        ("sced make 4 7", whole(Status::Done, four)),
-        ("sced make 4 7", whole(Status::Done, four)),
-        ("sced make 16 1", whole(Status::Done, sixteen)),
-        ("sced make 16 1", whole(Status::Done, sixteen)),
-        ("sced make 64 1", begins(Status::Done, most)),
-        ("sced make 5 7", begins(Status::Usage, "error")),
-    ] {
-        let all = ([].as_slice(), [].as_slice());
-        expect(&rt, line, [].as_slice(), all, want)?;
+    for (line, status, text) in &RINGS {
+        let want = told(*status, *text);
+        expect(&rt, line, [].as_slice(), ALL, want)?;
     }
     Ok(())
 }
+
+/// A clear with the outage of branch 1.
+const AFTER_ONE: Text = Text::Ends("step 1 clear\ncleared\n", "surplus 900\n");
+
+/// Ratings of branch 2, within 40 MW in the base.
+const GOOD: &str = "40 0 45 0 0";
+
+/// Ratings, the call of the store and the put that fail, the status, and what is written.
+static FAILING: [(&str, u64, u64, Status, Option<&str>); 11] = [
+    (GOOD, 0, 9, Status::ReadFailed, None),
+    (GOOD, 1, 9, Status::ReadFailed, None),
+    (GOOD, 2, 9, Status::ReadFailed, None),
+    (GOOD, 3, 9, Status::ReadFailed, None),
+    (GOOD, 4, 9, Status::ReadFailed, None),
+    (GOOD, 5, 9, Status::ReadFailed, None),
+    (GOOD, 6, 9, Status::ReadFailed, None),
+    ("x 0 45 0 0", 1, 9, Status::ReadFailed, None),
+    (GOOD, 7, 9, Status::WriteFailed, None),
+    (GOOD, 8, 0, Status::WriteFailed, Some(OPTIMAL)),
+    (GOOD, 8, 1, Status::Done, Some(OPTIMAL)),
+];
 
 /// Seven files are read, then a certificate is written and a text is put; one of these fails, or none, and there are no other calls. All
 /// files are read before any is understood, so a failed read is told of a malformed case too.
@@ -314,28 +319,14 @@ fn tells_the_call_that_fails(rt: HostRuntime) -> Result<(), Fail> {
     let line = format!(in rt.alloc();
         "sced replay {AFTER} --offsets offsets.csv --edits edits.csv --certificate out.json"
     )?;
-    let good = "40 0 45 0 0";
-    for (ratings, store_call, put, status, written) in [
-        (good, 0, 9, Status::ReadFailed, None),
-        (good, 1, 9, Status::ReadFailed, None),
-        (good, 2, 9, Status::ReadFailed, None),
-        (good, 3, 9, Status::ReadFailed, None),
-        (good, 4, 9, Status::ReadFailed, None),
-        (good, 5, 9, Status::ReadFailed, None),
-        (good, 6, 9, Status::ReadFailed, None),
-        ("x 0 45 0 0", 1, 9, Status::ReadFailed, None),
-        (good, 7, 9, Status::WriteFailed, None),
-        (good, 8, 0, Status::WriteFailed, Some(OPTIMAL)),
-        (good, 8, 1, Status::Done, Some(OPTIMAL)),
-    ] {
-        let done = status == Status::Done;
+    for (ratings, store_call, put, status, written) in &FAILING {
+        let done = *status == Status::Done;
         let want = Want {
-            status,
-            start: if done { "step 1 clear\ncleared\n" } else { "" },
-            end: if done { "surplus 900\n" } else { "" },
-            written,
+            status: *status,
+            text: if done { AFTER_ONE } else { Text::Whole("") },
+            written: *written,
         };
-        let failing = ([store_call], [put]);
+        let failing = ([*store_call], [*put]);
         expect_task(
             &rt,
             line.as_str(),

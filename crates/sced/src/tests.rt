@@ -1,6 +1,6 @@
 //! The pool, with texts worked by hand, and words that are refused.
 
-use crate::fixture::{BUSES, OFFERS, UNITS, Want, begins, case, expect, whole};
+use crate::fixture::{BUSES, OFFERS, Text, UNITS, Want, case, expect, told, whole};
 use command_answers::Status;
 use std::process::Abort;
 use std::test::Fail;
@@ -61,29 +61,32 @@ fn clears(rt: HostRuntime) -> Result<(), Fail> {
     expect_pool(&rt, SAVED.as_bytes(), OFFERS, want)
 }
 
+/// Words that are refused, or ask for help, and how the text begins.
+static USAGES: [(&str, &str); 5] = [
+    ("", "error: "),
+    (
+        "sced pool --help",
+        "Clears the market as if no branch had a limit\n\nUsage: sced pool --case <FILE> --offers <FILE>\n",
+    ),
+    (
+        "sced reply --case a",
+        "error: unrecognized subcommand 'reply'\n",
+    ),
+    (
+        "sced pool --case a --offer b",
+        "error: unexpected argument '--offer' found\n",
+    ),
+    (
+        "sced pool --case=a --case=a --offers=b",
+        "error: the argument '--case <FILE>' cannot be used multiple times\n",
+    ),
+];
+
 #[test]
 fn refuses_words(rt: HostRuntime) -> Result<(), Fail> {
     let all = ([].as_slice(), [].as_slice());
-    for (line, start) in [
-        ("", "error: "),
-        (
-            "sced pool --help",
-            "Clears the market as if no branch had a limit\n\nUsage: sced pool --case <FILE> --offers <FILE>\n",
-        ),
-        (
-            "sced reply --case a",
-            "error: unrecognized subcommand 'reply'\n",
-        ),
-        (
-            "sced pool --case a --offer b",
-            "error: unexpected argument '--offer' found\n",
-        ),
-        (
-            "sced pool --case=a --case=a --offers=b",
-            "error: the argument '--case <FILE>' cannot be used multiple times\n",
-        ),
-    ] {
-        let want = begins(Status::Usage, start);
+    for (line, start) in &USAGES {
+        let want = told(Status::Usage, Text::Start(start));
         expect(&rt, line, [].as_slice(), all, want)?;
     }
     let none = whole(Status::ReadFailed, "");

@@ -50,36 +50,38 @@ fn check_tokens(rt: &impl Abort, text: &[u8], shape: &[u8], lines: &[u8], fault:
     assert_eq!(rt; tokens.next(), end, "again after {text:?}");
 }
 
+/// Texts, the shapes of their tokens, the lines of these, and where a text stops that goes on with no token.
+static TEXTS: [(&[u8], &[u8], &[u8], Option<usize>); 25] = [
+    (b"", b"", b"", None),
+    (b" \t\r", b"...", b"", None),
+    (b"a b", b"R.R", b"11", None),
+    (b"a\r\nb", b"R.LR", b"112", None),
+    (b"mpc.x=5;", b"RrrrrMRM", b"1111", None),
+    (b"a % b\nc", b"R....LR", b"112", None),
+    (b"%{\n%}", b"BbLBb", b"112", None),
+    (b" %{ \r\n%{a", b".Bb..L...", b"11", None),
+    (b"a %{\n% {", b"R...L...", b"11", None),
+    (b"a ... %{\n%{", b"R........Bb", b"12", None),
+    (b"a ...\nb", b"R.....R", b"12", None),
+    (b"a...\nb", b"RrrrLR", b"112", None),
+    (b"a ...", b"R....", b"1", None),
+    (b"'a % b'", b"Ttttttt", b"1", None),
+    (b"'a''b' \"c'\"", b"Tttttt.Tttt", b"11", None),
+    (b"'a\n'", b"OoLO", b"112", None),
+    (b"5'a'", b"RTtt", b"11", None),
+    (b"[1, 'a']%", b"MRM.TttM.", b"11111", None),
+    (b"[1 -Inf]...", b"MR.RrrrM...", b"1111", None),
+    (b"[5'a'", b"M....", b"1", Some(1)),
+    (b"[1 a]", b"MR...", b"11", Some(3)),
+    (b"[1=2]", b"M....", b"1", Some(1)),
+    (b"{'a", b"M..", b"1", Some(1)),
+    (b"[1\n", b"MRL", b"111", Some(3)),
+    (b"]=[[]=a", b"MMMMMMR", b"1111111", None),
+];
+
 #[test]
 fn cuts_texts(rt: HostRuntime) {
-    let rows: [(&[u8], &[u8], &[u8], Option<usize>); 25] = [
-        (b"", b"", b"", None),
-        (b" \t\r", b"...", b"", None),
-        (b"a b", b"R.R", b"11", None),
-        (b"a\r\nb", b"R.LR", b"112", None),
-        (b"mpc.x=5;", b"RrrrrMRM", b"1111", None),
-        (b"a % b\nc", b"R....LR", b"112", None),
-        (b"%{\n%}", b"BbLBb", b"112", None),
-        (b" %{ \r\n%{a", b".Bb..L...", b"11", None),
-        (b"a %{\n% {", b"R...L...", b"11", None),
-        (b"a ... %{\n%{", b"R........Bb", b"12", None),
-        (b"a ...\nb", b"R.....R", b"12", None),
-        (b"a...\nb", b"RrrrLR", b"112", None),
-        (b"a ...", b"R....", b"1", None),
-        (b"'a % b'", b"Ttttttt", b"1", None),
-        (b"'a''b' \"c'\"", b"Tttttt.Tttt", b"11", None),
-        (b"'a\n'", b"OoLO", b"112", None),
-        (b"5'a'", b"RTtt", b"11", None),
-        (b"[1, 'a']%", b"MRM.TttM.", b"11111", None),
-        (b"[1 -Inf]...", b"MR.RrrrM...", b"1111", None),
-        (b"[5'a'", b"M....", b"1", Some(1)),
-        (b"[1 a]", b"MR...", b"11", Some(3)),
-        (b"[1=2]", b"M....", b"1", Some(1)),
-        (b"{'a", b"M..", b"1", Some(1)),
-        (b"[1\n", b"MRL", b"111", Some(3)),
-        (b"]=[[]=a", b"MMMMMMR", b"1111111", None),
-    ];
-    for (text, shape, lines, fault) in rows {
-        check_tokens(&rt, text, shape, lines, fault);
+    for (text, shape, lines, fault) in &TEXTS {
+        check_tokens(&rt, text, shape, lines, *fault);
     }
 }

@@ -85,53 +85,56 @@ fn expect<R: Abort + AllocGlobal>(
     Ok(())
 }
 
+/// A case, a table of shift factors, one of outage factors and a list of outages, and what is told.
+static TABLES: [([&str; 4], (Status, &str)); 8] = [
+    ([TRIANGLE, SHIFT, LOSS, "branch\n1\n"], (Status::Done, FITS)),
+    (
+        [TRIANGLE, SHIFT, LOSS_OFF, "branch\n1\n"],
+        (Status::Refuted, OUTAGE_OVER),
+    ),
+    (
+        [
+            TRIANGLE,
+            "branch,bus,factor\n1,2,-0.5\n2,2,-0.5\n3,2,0.5\n1,3,-0.25\n2,3,-0.75\n3,3,-0.25\n2,3,-0.75\n",
+            "",
+            "",
+        ],
+        (Status::Refused, "refused ptdf Twice line 8\n"),
+    ),
+    (
+        [
+            LINE,
+            "branch,bus,factor\n",
+            "branch,outage,factor\n",
+            "branch\n2\n",
+        ],
+        (
+            Status::Refused,
+            "refused contingencies Islands branch 2 side 3\n",
+        ),
+    ),
+    (
+        [TRIANGLE, SHIFT_OFF, NO_LOSS, NO_OUTAGES],
+        (Status::Refuted, SHIFT_OVER),
+    ),
+    (
+        [SPLIT, "", "", ""],
+        (Status::Refused, "refused case Split bus 2\n"),
+    ),
+    (
+        [TRIANGLE, SHIFT, "branch,bus,factor\n", ""],
+        (Status::Refused, "refused lodf Header\n"),
+    ),
+    (
+        [TRIANGLE, SHIFT, LOSS, "branch\n4\n"],
+        (Status::Refused, "refused contingencies NoBranch line 2\n"),
+    ),
+];
+
 #[test]
 fn checks_tables(rt: HostRuntime) -> Result<(), Fail> {
-    for (files, want) in [
-        ([TRIANGLE, SHIFT, LOSS, "branch\n1\n"], (Status::Done, FITS)),
-        (
-            [TRIANGLE, SHIFT, LOSS_OFF, "branch\n1\n"],
-            (Status::Refuted, OUTAGE_OVER),
-        ),
-        (
-            [
-                TRIANGLE,
-                "branch,bus,factor\n1,2,-0.5\n2,2,-0.5\n3,2,0.5\n1,3,-0.25\n2,3,-0.75\n3,3,-0.25\n2,3,-0.75\n",
-                "",
-                "",
-            ],
-            (Status::Refused, "refused ptdf Twice line 8\n"),
-        ),
-        (
-            [
-                LINE,
-                "branch,bus,factor\n",
-                "branch,outage,factor\n",
-                "branch\n2\n",
-            ],
-            (
-                Status::Refused,
-                "refused contingencies Islands branch 2 side 3\n",
-            ),
-        ),
-        (
-            [TRIANGLE, SHIFT_OFF, NO_LOSS, NO_OUTAGES],
-            (Status::Refuted, SHIFT_OVER),
-        ),
-        (
-            [SPLIT, "", "", ""],
-            (Status::Refused, "refused case Split bus 2\n"),
-        ),
-        (
-            [TRIANGLE, SHIFT, "branch,bus,factor\n", ""],
-            (Status::Refused, "refused lodf Header\n"),
-        ),
-        (
-            [TRIANGLE, SHIFT, LOSS, "branch\n4\n"],
-            (Status::Refused, "refused contingencies NoBranch line 2\n"),
-        ),
-    ] {
-        expect(&rt, files, want)?;
+    for (files, want) in &TABLES {
+        expect(&rt, *files, *want)?;
     }
     Ok(())
 }

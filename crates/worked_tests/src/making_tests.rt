@@ -88,59 +88,62 @@ fn makes<R: Abort + AllocGlobal>(
     Ok(())
 }
 
+/// A case, the start of its first branch, the outages, whether their factors are wanted, and what is told.
+static MADE: [(&str, &str, &str, bool, Want); 4] = [
+    (
+        TRIANGLE,
+        "1 2 0 0.2",
+        "branch\n1\n",
+        true,
+        Want {
+            status: Status::Done,
+            text: "shift records 9\noutage records 2\n",
+            shift: SHIFT,
+            loss: LOSS,
+        },
+    ),
+    (
+        TRIANGLE,
+        "1 2 0 0.2",
+        "branch\n1\n",
+        false,
+        Want {
+            status: Status::Done,
+            text: "shift records 9\n",
+            shift: SHIFT,
+            loss: "",
+        },
+    ),
+    (
+        TRIANGLE,
+        "1 2 0 0.1",
+        NO_OUTAGES,
+        true,
+        Want {
+            status: Status::Done,
+            text: "shift records 9\noutage records 0\n",
+            shift: THIRDS,
+            loss: NO_LOSS,
+        },
+    ),
+    (
+        UNEVEN,
+        "1 2 0 0.001",
+        "branch\n1\n",
+        true,
+        Want {
+            status: Status::Done,
+            text: "shift records 9\noutage records 2\n",
+            shift: HALVES,
+            loss: LOSS,
+        },
+    ),
+];
+
 #[test]
 fn makes_tables(rt: HostRuntime) -> Result<(), Fail> {
-    for (case, branch, outages, wanted, want) in [
-        (
-            TRIANGLE,
-            "1 2 0 0.2",
-            "branch\n1\n",
-            true,
-            Want {
-                status: Status::Done,
-                text: "shift records 9\noutage records 2\n",
-                shift: SHIFT,
-                loss: LOSS,
-            },
-        ),
-        (
-            TRIANGLE,
-            "1 2 0 0.2",
-            "branch\n1\n",
-            false,
-            Want {
-                status: Status::Done,
-                text: "shift records 9\n",
-                shift: SHIFT,
-                loss: "",
-            },
-        ),
-        (
-            TRIANGLE,
-            "1 2 0 0.1",
-            NO_OUTAGES,
-            true,
-            Want {
-                status: Status::Done,
-                text: "shift records 9\noutage records 0\n",
-                shift: THIRDS,
-                loss: NO_LOSS,
-            },
-        ),
-        (
-            UNEVEN,
-            "1 2 0 0.001",
-            "branch\n1\n",
-            true,
-            Want {
-                status: Status::Done,
-                text: "shift records 9\noutage records 2\n",
-                shift: HALVES,
-                loss: LOSS,
-            },
-        ),
-    ] {
-        makes(&rt, case, branch, outages, wanted, want)?;
+    for (case, branch, outages, wanted, want) in &MADE {
+        makes(&rt, case, branch, outages, *wanted, *want)?;
     }
     Ok(())
 }

@@ -144,101 +144,136 @@ fn passes_127_bits(rt: HostRuntime) -> Result<(), Fail> {
     expect_pool(&rt, case.as_bytes(), offers, traded)
 }
 
+/// Texts that are no cases, and what is told of them.
+static NO_CASES: [(&[u8], &str); 7] = [
+    (b"", "refused case NoVersion\n"),
+    (b"\xEF\xBB\xBF% nothing\n", "refused case NoVersion\n"),
+    (b"\x00\xff\n[\x80;", "refused case Code line 1\n"),
+    (b"function [x] = t\n", "refused case VersionOne\n"),
+    (
+        b"function mpc = t\nmpc.version = '1';\n",
+        "refused case VersionOne\n",
+    ),
+    (
+        b"function mpc = t\nmpc.version = '2';\n",
+        "refused case Missing baseMVA\n",
+    ),
+    (
+        b"function mpc = t\nmpc.version = '2';\nmpc.gen = [1 2 3\n4 5 6];\n",
+        "refused case Narrow gen\n",
+    ),
+];
+
 #[test]
 fn refuses_cases(rt: HostRuntime) -> Result<(), Fail> {
-    for (text, line) in [
-        (b"".as_slice(), "refused case NoVersion\n"),
-        (b"\xEF\xBB\xBF% nothing\n", "refused case NoVersion\n"),
-        (b"\x00\xff\n[\x80;", "refused case Code line 1\n"),
-        (b"function [x] = t\n", "refused case VersionOne\n"),
-        (
-            b"function mpc = t\nmpc.version = '1';\n",
-            "refused case VersionOne\n",
-        ),
-        (
-            b"function mpc = t\nmpc.version = '2';\n",
-            "refused case Missing baseMVA\n",
-        ),
-        (
-            b"function mpc = t\nmpc.version = '2';\nmpc.gen = [1 2 3\n4 5 6];\n",
-            "refused case Narrow gen\n",
-        ),
-    ] {
+    for (text, line) in &NO_CASES {
         let want = (Status::Refused, Text::Whole(line));
         expect_pool(&rt, text, "no table", want)?;
     }
     Ok(())
 }
 
+/// Texts of the case, others that come in their place, and the fault.
+static CHANGES: [(&str, &str, &str); 14] = [
+    (
+        "360;\n];\n",
+        "360;\n];\nmpc.bus(2,3) = 5;\n",
+        "Code line 18",
+    ),
+    ("360;\n];\n", "360;\n];\n%{\n", "Code line 18"),
+    (
+        "360;\n];\n",
+        "360;\n];\nmpc.baseMVA = 1e2;\n",
+        "Twice baseMVA",
+    ),
+    (
+        "2 1 0 0 0 0 1 1 0 230 1 1.1 0.9;",
+        "2 1 0;",
+        "Ragged bus row 2",
+    ),
+    (
+        "mpc.gen = [\n1 0 0 0 0 1 100 1 100 0;\n2 0 0 0 0 1 100 1 100 0;\n];",
+        "",
+        "Missing gen",
+    ),
+    (
+        "3 1 60 ",
+        "3 1 1e999999999 ",
+        "Cell bus row 3 col 3 OutOfRange",
+    ),
+    (
+        "3 1 60 ",
+        "3 1 1e-999999999 ",
+        "Cell bus row 3 col 3 TooFine",
+    ),
+    (
+        "3 1 60 0 0 ",
+        "3 1 60 0 Inf ",
+        "Cell bus row 3 col 5 NotFinite",
+    ),
+    ("3 1 60 ", "3 5 60 ", "Cell bus row 3 col 2 Bounds"),
+    ("3 1 60 ", "2 1 60 ", "BusTwice row 3"),
+    ("1 3 0 ", "1 1 0 ", "NoReference"),
+    (
+        "1 0 0 0 0 1 100 1 ",
+        "7 0 0 0 0 1 100 1 ",
+        "NoBus gen row 1",
+    ),
+    (
+        "1 0 0 0 0 1 100 1 ",
+        "1 0 0 0 0 1 100 NaN ",
+        "Cell gen row 1 col 8 NotFinite",
+    ),
+    ("1 100 0;\n2 0", "1 100 200;\n2 0", "MinAboveMax unit 1"),
+];
+
+/// Refuses a case with another text in place of one of its own.
+fn refuses_changed<R: Abort + AllocGlobal>(
+    rt: &R,
+    case: &str,
+    old: &str,
+    new: &str,
+    line: &str,
+) -> Result<(), Fail> {
+    let text = case.replace(rt.alloc(), old, new)?;
+    let line = format!(in rt.alloc(); "refused case {line}\n")?;
+    let want = (Status::Refused, Text::Whole(line.as_str()));
+    expect_pool(rt, text.as_bytes(), OFFERS, want)
+}
+
 /// The case with another text in place of one of its own, or with a statement more.
 #[test]
 fn refuses_changed_cases(rt: HostRuntime) -> Result<(), Fail> {
     let plain = case(&rt, BUSES, UNITS)?;
-    let row = "1 3 0 0 0 0 1 1 0 230 1 1.1 0.9;\n".repeat(rt.alloc(), 999)?;
-    for (old, new, line) in [
-        (
-            "360;\n];\n",
-            "360;\n];\nmpc.bus(2,3) = 5;\n",
-            "Code line 18",
-        ),
-        ("360;\n];\n", "360;\n];\n%{\n", "Code line 18"),
-        (
-            "360;\n];\n",
-            "360;\n];\nmpc.baseMVA = 1e2;\n",
-            "Twice baseMVA",
-        ),
-        (
-            "2 1 0 0 0 0 1 1 0 230 1 1.1 0.9;",
-            "2 1 0;",
-            "Ragged bus row 2",
-        ),
-        (
-            "mpc.gen = [\n1 0 0 0 0 1 100 1 100 0;\n2 0 0 0 0 1 100 1 100 0;\n];",
-            "",
-            "Missing gen",
-        ),
-        (
-            "1 3 0 0 0 0 1 1 0 230 1 1.1 0.9;\n",
-            row.as_str(),
-            "TooMany bus count 1001",
-        ),
-        (
-            "3 1 60 ",
-            "3 1 1e999999999 ",
-            "Cell bus row 3 col 3 OutOfRange",
-        ),
-        (
-            "3 1 60 ",
-            "3 1 1e-999999999 ",
-            "Cell bus row 3 col 3 TooFine",
-        ),
-        (
-            "3 1 60 0 0 ",
-            "3 1 60 0 Inf ",
-            "Cell bus row 3 col 5 NotFinite",
-        ),
-        ("3 1 60 ", "3 5 60 ", "Cell bus row 3 col 2 Bounds"),
-        ("3 1 60 ", "2 1 60 ", "BusTwice row 3"),
-        ("1 3 0 ", "1 1 0 ", "NoReference"),
-        (
-            "1 0 0 0 0 1 100 1 ",
-            "7 0 0 0 0 1 100 1 ",
-            "NoBus gen row 1",
-        ),
-        (
-            "1 0 0 0 0 1 100 1 ",
-            "1 0 0 0 0 1 100 NaN ",
-            "Cell gen row 1 col 8 NotFinite",
-        ),
-        ("1 100 0;\n2 0", "1 100 200;\n2 0", "MinAboveMax unit 1"),
-    ] {
-        let text = plain.replace(rt.alloc(), old, new)?;
-        let line = format!(in rt.alloc(); "refused case {line}\n")?;
-        let want = (Status::Refused, Text::Whole(line.as_str()));
-        expect_pool(&rt, text.as_bytes(), OFFERS, want)?;
+    for (old, new, line) in &CHANGES {
+        refuses_changed(&rt, plain.as_str(), old, new, line)?;
     }
-    Ok(())
+    let row = "1 3 0 0 0 0 1 1 0 230 1 1.1 0.9;\n";
+    let rows = row.repeat(rt.alloc(), 999)?;
+    refuses_changed(
+        &rt,
+        plain.as_str(),
+        row,
+        rows.as_str(),
+        "TooMany bus count 1001",
+    )
 }
+
+/// Ends of a header with records that are refused, and why.
+static NO_OFFERS: [(&str, &str); 9] = [
+    ("price\n1,sell,1\n", "Width line 2"),
+    ("cost\n1,sell,1\n", "Width line 2"),
+    ("price\n1,sell,x,1\n", "Cell line 2 col 3 BadNumber"),
+    ("price\n1,give,1,1\n", "Side line 2"),
+    (
+        "price\n1,sell,100,10\n2,sell,100,30\n3,sell,1,1\n",
+        "NoUnit line 4",
+    ),
+    ("price\n1,sell,-1,1\n", "Negative line 2"),
+    ("price\n1,sell,1,2\n1,sell,1,1\n", "OutOfOrder line 3"),
+    ("price\n1,sell,101,1\n", "OverCapacity line 2"),
+    ("price\n1,buy,1,1\n", "OverCapacity line 2"),
+];
 
 #[test]
 fn refuses_offers(rt: HostRuntime) -> Result<(), Fail> {
@@ -247,20 +282,7 @@ fn refuses_offers(rt: HostRuntime) -> Result<(), Fail> {
         let want = (Status::Refused, Text::Whole("refused offers Header\n"));
         expect_pool(&rt, plain.as_bytes(), offers, want)?;
     }
-    for (records, line) in [
-        ("price\n1,sell,1\n", "Width line 2"),
-        ("cost\n1,sell,1\n", "Width line 2"),
-        ("price\n1,sell,x,1\n", "Cell line 2 col 3 BadNumber"),
-        ("price\n1,give,1,1\n", "Side line 2"),
-        (
-            "price\n1,sell,100,10\n2,sell,100,30\n3,sell,1,1\n",
-            "NoUnit line 4",
-        ),
-        ("price\n1,sell,-1,1\n", "Negative line 2"),
-        ("price\n1,sell,1,2\n1,sell,1,1\n", "OutOfOrder line 3"),
-        ("price\n1,sell,101,1\n", "OverCapacity line 2"),
-        ("price\n1,buy,1,1\n", "OverCapacity line 2"),
-    ] {
+    for (records, line) in &NO_OFFERS {
         let offers = format!(in rt.alloc(); "unit,side,mw,{records}")?;
         let line = format!(in rt.alloc(); "refused offers {line}\n")?;
         let want = (Status::Refused, Text::Whole(line.as_str()));
