@@ -5,6 +5,9 @@ use exact_fraction::{Exact, Frac, Frac63, Op, Passed, Sign, size};
 use std::cmp::Ordering;
 use std::process::Abort;
 
+/// The most that 63 bits hold.
+const MOST: i64 = i64::MAX;
+
 /// `num/den`, where a fraction may be made of these.
 fn fraction<N: Exact>(num: i64, den: u64) -> Option<N> {
     if num > i64::MIN && den > 0 && den < 1 << 63 {
@@ -82,7 +85,6 @@ fn each_call_at_both_types(rt: HostRuntime) {
 /// Sides whose parts have 63 bits: at `Frac` none of these passes.
 #[test]
 fn edges_of_63_bits(rt: HostRuntime) {
-    const MOST: i64 = i64::MAX;
     for (op, (a, b), (c, d), passes) in [
         (Op::Plus, (MOST, 1), (0, 1), false),
         (Op::Plus, (MOST, 1), (1, 1), true),
@@ -139,7 +141,6 @@ fn edges_of_127_bits(rt: HostRuntime) {
 /// are answered.
 #[test]
 fn sums_with_products(rt: HostRuntime) {
-    const MOST: i64 = i64::MAX;
     const HALF: u64 = 1 << 31;
     for ((x, x_den), (a, a_den), (b, b_den), text, op) in [
         ((-MOST, 1), (1 << 32, 1), (1 << 31, 1), "1/1", None),
@@ -201,42 +202,53 @@ fn sums_with_products(rt: HostRuntime) {
     }
 }
 
+/// Operations on two numbers, and the number that they come to.
+static WAYS: [(Op, (i64, u64), (i64, u64), &str); 13] = [
+    (Op::Plus, (3, 1), (-3, 1), "0/1"),
+    (Op::Plus, (MOST, 1), (-1, 1), "9223372036854775806/1"),
+    (Op::Plus, (5, 1), (2, 3), "17/3"),
+    (Op::Plus, (1, 4), (1, 6), "5/12"),
+    (Op::Plus, (1, 6), (1, 10), "4/15"),
+    (Op::Plus, (1, 6), (1, 6), "1/3"),
+    (Op::Minus, (1, 6), (1, 6), "0/1"),
+    (Op::Times, (0, 1), (-5, 7), "0/1"),
+    (Op::Times, (-5, 7), (0, 1), "0/1"),
+    (Op::Times, (-5, 7), (-1, 1), "5/7"),
+    (Op::Times, (12, 35), (-25, 18), "-10/21"),
+    (Op::Times, (1 << 62, 3), (9, 1 << 60), "12/1"),
+    (Op::Times, (-MOST, 1), (1, MOST as u64), "-1/1"),
+];
+
+/// Two numbers and their order.
+static ORDERS: [((i64, u64), (i64, u64), Ordering); 6] = [
+    ((1, 3), (1, 3), Ordering::Equal),
+    ((-2, 3), (-1, 3), Ordering::Less),
+    ((0, 1), (1, 3), Ordering::Less),
+    ((0, 1), (-1, 3), Ordering::Greater),
+    ((7, 2), (10, 3), Ordering::Greater),
+    ((MOST, 2), (MOST, 1), Ordering::Less),
+];
+
 /// Each way through a sum, a product and a comparison, at both types.
 fn ways<N: Exact>(rt: &impl Abort) {
-    const MOST: i64 = i64::MAX;
-    for (op, (a, b), (c, d), text) in [
-        (Op::Plus, (3, 1), (-3, 1), "0/1"),
-        (Op::Plus, (MOST, 1), (-1, 1), "9223372036854775806/1"),
-        (Op::Plus, (5, 1), (2, 3), "17/3"),
-        (Op::Plus, (1, 4), (1, 6), "5/12"),
-        (Op::Plus, (1, 6), (1, 10), "4/15"),
-        (Op::Plus, (1, 6), (1, 6), "1/3"),
-        (Op::Minus, (1, 6), (1, 6), "0/1"),
-        (Op::Times, (0, 1), (-5, 7), "0/1"),
-        (Op::Times, (-5, 7), (0, 1), "0/1"),
-        (Op::Times, (-5, 7), (-1, 1), "5/7"),
-        (Op::Times, (12, 35), (-25, 18), "-10/21"),
-        (Op::Times, (1 << 62, 3), (9, 1 << 60), "12/1"),
-        (Op::Times, (-MOST, 1), (1, MOST as u64), "-1/1"),
-    ] {
-        match (fraction::<N>(a, b), fraction::<N>(c, d)) {
-            (Some(left), Some(right)) => match apply(op, left, right) {
+    for (op, left, right, text) in &WAYS {
+        match (
+            fraction::<N>(left.0, left.1),
+            fraction::<N>(right.0, right.1),
+        ) {
+            (Some(left), Some(right)) => match apply(*op, left, right) {
                 Ok(found) => assert!(rt; is_in_parts(found, text), "{text}"),
                 Err(_) => assert!(rt; false, "{text}"),
             },
             _ => assert!(rt; false),
         }
     }
-    for ((a, b), (c, d), order) in [
-        ((1, 3), (1, 3), Ordering::Equal),
-        ((-2, 3), (-1, 3), Ordering::Less),
-        ((0, 1), (1, 3), Ordering::Less),
-        ((0, 1), (-1, 3), Ordering::Greater),
-        ((7, 2), (10, 3), Ordering::Greater),
-        ((MOST, 2), (MOST, 1), Ordering::Less),
-    ] {
-        match (fraction::<N>(a, b), fraction::<N>(c, d)) {
-            (Some(left), Some(right)) => assert!(rt; left.order(right) == order),
+    for (left, right, order) in &ORDERS {
+        match (
+            fraction::<N>(left.0, left.1),
+            fraction::<N>(right.0, right.1),
+        ) {
+            (Some(left), Some(right)) => assert!(rt; left.order(right) == *order),
             _ => assert!(rt; false),
         }
     }

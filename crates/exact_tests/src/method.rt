@@ -257,6 +257,13 @@ fn ends(rt: &impl Abort, posed: Posed<Frac63>, case: &Case)
     }
 }
 
+/// A number far off, one more than its opposite, and one more than it.
+const FAR: i64 = 4_611_686_018_427_387_904;
+
+const ABOVE_FAR_BELOW: i64 = -4_611_686_018_427_387_903;
+
+const BEYOND_FAR: i64 = 4_611_686_018_427_387_905;
+
 /// Columns 1, 2 and 3 that are T, from -T to 0, and T, with T = 2^62, of which twice passes 63 bits; row 4, column 2, is to be at
 /// least 1 - T, and row 5, the sum of all columns, from 0 to 1 + T.
 fn posed_far(dict: Dict<Frac63>) -> Result<Posed<Frac63>, Passed<Frac63>>
@@ -267,14 +274,14 @@ fn posed_far(dict: Dict<Frac63>) -> Result<Posed<Frac63>, Passed<Frac63>>
     ensures rows { IfOk result (λ posed. posed.rows ≡ dict.rows) }
 {
     let zero: Frac63 = fraction(0, 1);
-    let far: Frac63 = fraction(1 << 62, 1);
+    let far: Frac63 = fraction(FAR, 1);
     let fixed = between(far, far);
     let bounds = [
         fixed,
         between(far.neg(), zero),
         fixed,
-        between(fraction(1 - (1 << 62), 1), zero),
-        between(zero, fraction(1 + (1 << 62), 1)),
+        between(fraction(ABOVE_FAR_BELOW, 1), zero),
+        between(zero, fraction(BEYOND_FAR, 1)),
     ];
     let prices = [zero, zero, zero];
     pose(dict, &prices, &bounds)
