@@ -25,19 +25,6 @@ fn price(price: i64) -> Edit
     }
 }
 
-/// Whether an outcome is an answer of these MW of the blocks and these prices.
-fn is_cleared<N: Exact>(
-    outcome: Outcome<N>,
-    mw: &[i32],
-    congestion: &[i32],
-    totals: &[i32],
-) -> bool {
-    match &outcome {
-        Outcome::Cleared(answer) => is_answer(answer, mw, congestion, totals),
-        _ => false,
-    }
-}
-
 /// Whether a clear comes to these MW of the blocks and these prices.
 fn clears<N: Exact>(
     session: &mut Session<N>,
@@ -46,8 +33,10 @@ fn clears<N: Exact>(
     congestion: &[i32],
     totals: &[i32],
 ) -> Result<bool, Memory> {
-    let outcome = session.clear(alloc)?;
-    Ok(is_cleared(outcome, mw, congestion, totals))
+    match session.clear(alloc)? {
+        Outcome::Cleared(answer) => Ok(is_answer(&answer, mw, congestion, totals)),
+        _ => Ok(false),
+    }
 }
 
 /// The same, with the limit of branch 2 in the base alone taken.
