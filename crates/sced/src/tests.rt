@@ -90,11 +90,6 @@ fn refuses_words(rt: HostRuntime) -> Result<(), Fail> {
         expect(&rt, line, [].as_slice(), all, want)?;
     }
     let none = whole(Status::ReadFailed, "");
-    expect(
-        &rt,
-        "sced pool --offers=b --case=a",
-        [].as_slice(),
-        all,
-        none,
-    )
+    let line = "sced pool --offers=b --case=a";
+    expect(&rt, line, [].as_slice(), all, none)
 }
