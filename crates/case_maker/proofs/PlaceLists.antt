@@ -11,6 +11,7 @@ use Rattle.std.proofs.lemmas.List.FromFn.{get_or-map-range_with_len, get_or-rang
 use Rattle.std.proofs.lemmas.List.Kept.{AllPairs-cons}
 use Rattle.market_model.specs.Dispatch.{places}
 use Rattle.market_model.proofs.MorePlaces.{places_more}
+use Rattle.market_model.proofs.PlainMarkets.{distinct_by_rise}
 
 -- ---- one place more
 pub map-more : {X : Type 0} (f : ℕ → X) (n : ℕ) → map f (places n) ++ f n ∷ [] ≡ map f (places (n + 1))
@@ -52,12 +53,15 @@ places-rise n i j d p q =
     let high : get_or (places n) j d ≡ j = places-at n j d j' in
     omega (arith, p, low, high)
 
-pub numbers-differ : (n : ℕ) → AllPairs (λ a b. a ≢ b) (map (λ i. i + 1) (places n))
-numbers-differ n i j d p q e =
+pub numbers-rise : (n : ℕ) → AllPairs (λ a b. a < b) (map (λ i. i + 1) (places n))
+numbers-rise n i j d p q =
     let j' : j < n = omega (arith, q, length-map-range_with_len (λ k. k + 1) 0 n) in
     let low : get_or (map (λ k. k + 1) (places n)) i d ≡ i + 1 = at-place (λ k. k + 1) n i d (omega (arith, p, j')) in
     let high : get_or (map (λ k. k + 1) (places n)) j d ≡ j + 1 = at-place (λ k. k + 1) n j d j' in
-    omega (arith, p, low, high, e)
+    omega (arith, p, low, high)
+
+pub numbers-differ : (n : ℕ) → AllPairs (λ a b. a ≢ b) (map (λ i. i + 1) (places n))
+numbers-differ n = distinct_by_rise (map (λ i. i + 1) (places n)) (numbers-rise n)
 
 pub Contains-place : (n i : ℕ) → i < n → Contains (places n) i
 Contains-place n i lt = (i, omega (arith, lt, length-range_with_len 0 n), places-at n i i lt)

@@ -23,7 +23,7 @@ use Rattle.market_model.proofs.LinePenalties.{hard_is_line}
 use Rattle.case_maker.specs.Rings.{ring_blocks, ring_bus, drawn, half_sold, ring_branch, ring_loss, mw, ring_of, ring_shift, ring_unit}
 use Rattle.case_maker.proofs.DrawLemmas.{drawn-small}
 use Rattle.case_maker.proofs.FactorLemmas.{are-factors, loss-small, shift-small}
-use Rattle.case_maker.proofs.PlaceLists.{All-flat, All-places, at-place, length-flat, numbers-differ}
+use Rattle.case_maker.proofs.PlaceLists.{All-flat, All-places, at-place, length-flat, numbers-differ, numbers-rise}
 
 -- what holds of each size
 pub by-size : (P : ℕ → Type 0) → P 4 → P 8 → P 16 → P 32 → P 64 → (n : ℕ) → IsRingSize n → P n
@@ -122,7 +122,7 @@ ring-kept n seed few =
       buses = All-places IsBus (λ i. ring_bus i (drawn seed i)) n (λ i lt. bus-kept i seed);
       bus_numbers = subst (AllPairs (λ a b. a ≢ b)) (sym (map-map (λ (b : Bus). b.number) (λ i. ring_bus i (drawn seed i)) (places n))) (numbers-differ n);
       units = subst (λ (k : ℕ). All (IsUnit k) (ring_of n seed).units) (sym buses) (All-places (IsUnit n) ring_unit n (unit-kept n));
-      unit_rows = subst (AllPairs (λ a b. a ≢ b)) (sym (map-map (λ (u : unit.Unit). u.row) ring_unit (places n))) (numbers-differ n);
+      unit_rows = subst (AllPairs (λ a b. a < b)) (sym (map-map (λ (u : unit.Unit). u.row) ring_unit (places n))) (numbers-rise n);
       blocks = subst (λ (k : ℕ). All (IsBlock k) (ring_of n seed).blocks) (sym units) (All-flat (IsBlock n) (λ i. ring_blocks i (drawn seed i)) 0 n (λ i p q.
           let s = drawn-small seed i in
           let lt : i < n = omega (arith, q) in

@@ -24,7 +24,7 @@ abbrev line_free : ℕ → Line
 line_free row = hard_line row None None (pos 0)
 
 abbrev line_limited : ℤ → ℤ → Line
-line_limited price excess = record (hard_line 2 (Some (pos 40000000000)) (Some (pos 1000000000000)) (pos 0)) { base_price = price; base_most_excess = excess }
+line_limited price excess = record (hard_line 2 (Some (pos 40000000000)) (Some (pos 1000000000000)) (pos 0)) { base_price = price; base_excess = excess }
 
 abbrev pub worked : ℤ → ℤ → Parts
 worked price excess = record participants {
@@ -60,7 +60,7 @@ worked_is_market price excess penalty = record {
       (All-cons IsBus (bus_of 2 0 0) (bus_of 3 50000000000 10000000000 ∷ []) (record { load = Prim.omega (arith, ints); shunt = Prim.omega (arith, ints) }) (All-cons IsBus (bus_of 3 50000000000 10000000000) [] (record { load = Prim.omega (arith, ints); shunt = Prim.omega (arith, ints) }) (All-nil IsBus)));
   bus_numbers = one_is_market.bus_numbers;
   units = All-cons (IsUnit 3) (unit_of 1 0) (unit_of 2 1 ∷ []) (unit_fits 1 0 (Prim.omega arith) (Prim.omega arith)) (All-cons (IsUnit 3) (unit_of 2 1) [] (unit_fits 2 1 (Prim.omega arith) (Prim.omega arith)) (All-nil (IsUnit 3)));
-  unit_rows = λ i j d p q e. absurd (rows_differ i j d p q e);
+  unit_rows = rows_rise;
   blocks = All-cons (IsBlock 2) (block_of 0 10000000) (block_of 1 30000000 ∷ []) (record { unit = Prim.omega arith; quantity = Prim.omega (arith, ints); price = Prim.omega (arith, ints) })
       (All-cons (IsBlock 2) (block_of 1 30000000) [] (record { unit = Prim.omega arith; quantity = Prim.omega (arith, ints); price = Prim.omega (arith, ints) }) (All-nil (IsBlock 2)));
   room = room_at;
@@ -85,13 +85,13 @@ worked_is_market price excess penalty = record {
     free : (row : ℕ) → 1 ≤ row → IsLine (line_free row)
     free row p = hard_is_line row None None (pos 0) p tt tt (Prim.omega (arith, ints))
 
-    rows_differ : (i j d : ℕ) → i < j → j < 2 → slice_index_or (1 ∷ 2 ∷ []) i d ≡ slice_index_or (1 ∷ 2 ∷ []) j d → ⊥
-    rows_differ zero zero d p q e = absurd (Prim.omega (arith, p))
-    rows_differ zero (suc zero) d p q e = absurd (Prim.omega (arith, e))
-    rows_differ zero (suc (suc j)) d p q e = absurd (Prim.omega (arith, q))
-    rows_differ (suc i) zero d p q e = absurd (Prim.omega (arith, p))
-    rows_differ (suc i) (suc zero) d p q e = absurd (Prim.omega (arith, p))
-    rows_differ (suc i) (suc (suc j)) d p q e = absurd (Prim.omega (arith, q))
+    rows_rise : (i j d : ℕ) → i < j → j < 2 → slice_index_or (1 ∷ 2 ∷ []) i d < slice_index_or (1 ∷ 2 ∷ []) j d
+    rows_rise zero zero d p q = absurd (Prim.omega (arith, p))
+    rows_rise zero (suc zero) d p q = Prim.omega arith
+    rows_rise zero (suc (suc j)) d p q = absurd (Prim.omega (arith, q))
+    rows_rise (suc i) zero d p q = absurd (Prim.omega (arith, p))
+    rows_rise (suc i) (suc zero) d p q = absurd (Prim.omega (arith, p))
+    rows_rise (suc i) (suc (suc j)) d p q = absurd (Prim.omega (arith, q))
 
 -- the limit of branch 2 in the base
 abbrev pub base_row : Row

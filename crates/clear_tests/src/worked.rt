@@ -75,9 +75,9 @@ const FIRST_LINE: Line = Line {
     base: None,
     post: None,
     base_price: 0,
-    base_most_excess: 0,
+    base_excess: 0,
     post_price: 0,
-    post_most_excess: 0,
+    post_excess: 0,
     offset: 0,
 };
 
@@ -86,9 +86,9 @@ const THIRD_LINE: Line = Line {
     base: None,
     post: None,
     base_price: 0,
-    base_most_excess: 0,
+    base_excess: 0,
     post_price: 0,
-    post_most_excess: 0,
+    post_excess: 0,
     offset: 0,
 };
 
@@ -135,7 +135,7 @@ pub(crate) fn listed<T: Copy>(alloc: Global, items: &[T]) -> Result<List<T>, Mem
 /// The branches, where the limit of branch 2 in the base may be exceeded by so much at a price.
 fn lines(alloc: Global, price: i64, excess: i64) -> Result<List<Line>, Memory>
     ensures { IfOk result (λ lines. lines ≡ hard_line 1 None None (pos 0)
-        ∷ record (hard_line 2 (Some (pos 40000000000)) (Some (pos 1000000000000)) (pos 0)) { base_price = price; base_most_excess = excess }
+        ∷ record (hard_line 2 (Some (pos 40000000000)) (Some (pos 1000000000000)) (pos 0)) { base_price = price; base_excess = excess }
         ∷ hard_line 3 None None (pos 0) ∷ []) }
 {
     let second = Line {
@@ -143,9 +143,9 @@ fn lines(alloc: Global, price: i64, excess: i64) -> Result<List<Line>, Memory>
         base: Some(40_000_000_000),
         post: Some(1_000_000_000_000),
         base_price: price,
-        base_most_excess: excess,
+        base_excess: excess,
         post_price: 0,
-        post_most_excess: 0,
+        post_excess: 0,
         offset: 0,
     };
     listed(alloc, &[FIRST_LINE, second, THIRD_LINE])

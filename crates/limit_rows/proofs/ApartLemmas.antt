@@ -14,6 +14,7 @@ use Rattle.market_data.specs.declared.participants.Unit as unit
 use Rattle.market_model.specs.Dispatch.{places, unit_at}
 use Rattle.market_model.specs.Market.{IsMarket}
 use Rattle.market_model.proofs.ChangeLemmas.{same_default}
+use Rattle.market_model.proofs.PlainMarkets.{distinct_by_rise}
 use Rattle.market_model.specs.declared.limits.Row.{Row}
 use Rattle.market_model.specs.declared.limits.Cause.{Cause}
 use Rattle.market_model.specs.declared.limits.Cause.TheVariants.{Base, Branch, UnitOutage}
@@ -66,7 +67,7 @@ module _ (m : Parts) (market : IsMarket m) where
   not_one_row : (u v : ℕ) → u < v → v < length m.units → (unit_at m u).row ≢ (unit_at m v).row
   not_one_row u v below lt =
       let long : v < length (map (λ (u : unit.Unit). u.row) m.units) = Prim.omega (arith, lt, length-map (λ (u : unit.Unit). u.row) m.units) in
-      λ e. market.unit_rows u v 0 below long (unit_row_at u 0 (Prim.omega (arith, below, lt)) ∙ e ∙ sym (unit_row_at v 0 lt))
+      λ e. distinct_by_rise (map (λ (u : unit.Unit). u.row) m.units) market.unit_rows u v 0 below long (unit_row_at u 0 (Prim.omega (arith, below, lt)) ∙ e ∙ sym (unit_row_at v 0 lt))
 
   pub unit_of_row : (u v : ℕ) → u < length m.units → v < length m.units → (unit_at m u).row ≡ (unit_at m v).row → u ≡ v
   unit_of_row u v p q e = by (cases_lt u v) (cases_lt v u)

@@ -49,9 +49,9 @@ pub fn most_excess_at(market: &Market, row: Row) -> i64
 {
     let line = market.lines().at(row.line);
     if is_outage(row.cause) {
-        line.post_most_excess
+        line.post_excess
     } else {
-        line.base_most_excess
+        line.base_excess
     }
 }
 

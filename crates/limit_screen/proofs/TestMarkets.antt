@@ -1,5 +1,5 @@
 -- The market with reserve of `clear_tests` and `market_tests` is one.
-use Rattle.std.specs.Prelude.{◌≢◌, ◌<◌, ℕ, ℤ, pos, ◌≤ℤ◌, true, List, [], ◌∷◌, All, AllPairs, slice_index_or}
+use Rattle.std.specs.Prelude.{◌<◌, ℕ, ℤ, pos, ◌≤ℤ◌, true, List, [], ◌∷◌, All, AllPairs, slice_index_or}
 use Rattle.std.proofs.Common.{arith, zero, suc}
 use Rattle.std.proofs.lemmas.Int.{ints}
 use Rattle.std.proofs.lemmas.List.Elements.{All-cons, All-nil}
@@ -13,7 +13,7 @@ use Rattle.market_model.specs.declared.participants.ReserveOffer.{ReserveOffer}
 use Rattle.market_model.specs.declared.participants.Side.TheVariants.{Sell, Buy}
 use Rattle.market_model.specs.Market.{bare_parts, HasRoom, IsBlock, IsMarket, IsReserve, IsReserveOffer}
 use Rattle.market_model.specs.Stairs.{stair_in}
-use Rattle.market_model.proofs.PlainMarkets.{plain_market}
+use Rattle.market_model.proofs.PlainMarkets.{distinct_by_rise, plain_market}
 
 abbrev bus : Bus
 bus = record { number = 1; pd = pos 60; gs = pos 0 }
@@ -39,9 +39,9 @@ offers = offer_of 0 2 ∷ offer_of 1 5 ∷ []
 abbrev pub needing : ℤ → Parts
 needing need = record (bare_parts (bus ∷ []) units blocks) { reserve = record { listed = true; offers = offers; need = need } }
 
-two_apart : (x y : ℕ) → x ≢ y → AllPairs (λ (a b : ℕ). a ≢ b) (x ∷ y ∷ [])
-two_apart x y h =
-    AllPairs-cons (λ (a b : ℕ). a ≢ b) x (y ∷ []) (All-cons (λ b. x ≢ b) y [] h (All-nil (λ b. x ≢ b))) (λ i j d p q. absurd (Prim.omega (arith, p, q)))
+two_rise : (x y : ℕ) → x < y → AllPairs (λ (a b : ℕ). a < b) (x ∷ y ∷ [])
+two_rise x y h =
+    AllPairs-cons (λ (a b : ℕ). a < b) x (y ∷ []) (All-cons (λ b. x < b) y [] h (All-nil (λ b. x < b))) (λ i j d p q. absurd (Prim.omega (arith, p, q)))
 
 first_room : HasRoom blocks 0 (unit_of 1)
 unfolding stair_in
@@ -69,7 +69,7 @@ energy_is_market = plain_market (bus ∷ []) units blocks (record {
   buses = All-cons IsBus bus [] (record { load = Prim.omega arith; shunt = Prim.omega arith }) (All-nil IsBus);
   bus_numbers = λ i j d p q. absurd (Prim.omega (arith, p, q));
   units = All-cons (IsUnit 1) (unit_of 1) (unit_of 2 ∷ []) (is_unit 1 (Prim.omega arith)) (All-cons (IsUnit 1) (unit_of 2) [] (is_unit 2 (Prim.omega arith)) (All-nil (IsUnit 1)));
-  unit_rows = two_apart 1 2 (λ e. Prim.omega (arith, e));
+  unit_rows = two_rise 1 2 (Prim.omega arith);
   blocks = All-cons (IsBlock 2) (block_of 0 10) (block_of 1 30 ∷ []) (record { unit = Prim.omega arith; quantity = Prim.omega (arith, ints); price = Prim.omega arith })
       (All-cons (IsBlock 2) (block_of 1 30) [] (record { unit = Prim.omega arith; quantity = Prim.omega (arith, ints); price = Prim.omega arith }) (All-nil (IsBlock 2)));
   room = at_place;
@@ -80,7 +80,7 @@ is_reserve need least = record {
   count = Prim.omega arith;
   each = All-cons (IsReserveOffer 2) (offer_of 0 2) (offer_of 1 5 ∷ []) (record { unit = Prim.omega arith; quantity = Prim.omega (arith, ints); price = Prim.omega arith })
       (All-cons (IsReserveOffer 2) (offer_of 1 5) [] (record { unit = Prim.omega arith; quantity = Prim.omega (arith, ints); price = Prim.omega arith }) (All-nil (IsReserveOffer 2)));
-  distinct = two_apart 0 1 (λ e. Prim.omega (arith, e));
+  distinct = distinct_by_rise (0 ∷ 1 ∷ []) (two_rise 0 1 (Prim.omega arith));
   need = least;
   unlisted = λ e. absurd Prim.cc;
 }

@@ -40,10 +40,10 @@ unfolding unit_within
 unit_rows [] = refl
 unit_rows (u ∷ us) = ap (λ rows. u.row ∷ rows) (unit_rows us)
 
-rows-distinct : (network : LiveNetwork) (offered : Offered) → IsNetwork network → AreOffered network offered → AllPairs (λ a b. a ≢ b) (map (λ (u : unit.Unit). u.row) offered.units)
-rows-distinct network offered net given =
+rows-rise : (network : LiveNetwork) (offered : Offered) → IsNetwork network → AreOffered network offered → AllPairs (λ a b. a < b) (map (λ (u : unit.Unit). u.row) offered.units)
+rows-rise network offered net given =
     let rows : map (λ (u : unit.Unit). u.row) offered.units ≡ map (λ (u : NetUnit). u.row) network.units = ap (map (λ (u : unit.Unit). u.row)) given.units_are ∙ unit_rows network.units in
-    subst (AllPairs (λ a b. a ≢ b)) (sym rows) (distinct_by_rise (map (λ (u : NetUnit). u.row) network.units) net.unit_rows.rise)
+    subst (AllPairs (λ a b. a < b)) (sym rows) net.unit_rows.rise
 
 -- outages of a network's units are outages of the units that have offers
 lost-units : (network : LiveNetwork) (offered : Offered) (lost : UnitOutages) → AreOffered network offered → MayLoseUnits network lost → AreUnitOutages (length offered.units) lost.lost lost.pickups
@@ -60,7 +60,7 @@ pool-market network offered net given = plain_market network.buses offered.units
   buses = net.buses;
   bus_numbers = net.distinct;
   units = given.units;
-  unit_rows = rows-distinct network offered net given;
+  unit_rows = rows-rise network offered net given;
   blocks = given.blocks.blocks;
   room = given.room;
 })
@@ -159,7 +159,7 @@ whole-market places network covered limited net may units given =
       buses = net.buses;
       bus_numbers = net.distinct;
       units = given.offered.units;
-      unit_rows = rows-distinct network offered net given.offered;
+      unit_rows = rows-rise network offered net given.offered;
       blocks = given.offered.blocks.blocks;
       room = given.offered.room;
       lines = given.lines.each;

@@ -40,16 +40,16 @@ line_of offsets penalties branch = record {
   base = branch.base;
   post = branch.post;
   base_price = (softness_for penalties branch.row false).price;
-  base_most_excess = (softness_for penalties branch.row false).most_excess;
+  base_excess = (softness_for penalties branch.row false).most_excess;
   post_price = (softness_for penalties branch.row true).price;
-  post_most_excess = (softness_for penalties branch.row true).most_excess;
+  post_excess = (softness_for penalties branch.row true).most_excess;
   offset = unwrap_or (offset_at offsets branch.row) (pos 0);
 }
 
 -- what tables give to a line is as every line of a market has it
 pub record IsTabled (line : Line) : Type 0 where
-  pub base : IsPenalty line.base_price line.base_most_excess
-  pub post : IsPenalty line.post_price line.post_most_excess
+  pub base : IsPenalty line.base_price line.base_excess
+  pub post : IsPenalty line.post_price line.post_excess
   pub offset : IsDatum line.offset
 
 -- ---- factors

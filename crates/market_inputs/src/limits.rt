@@ -40,9 +40,9 @@ fn line_of(branch: &NetBranch, offsets: &Offsets, penalties: &Penalties) -> Line
         base: branch.base,
         post: branch.post,
         base_price: base.price,
-        base_most_excess: base.most_excess,
+        base_excess: base.most_excess,
         post_price: post.price,
-        post_most_excess: post.most_excess,
+        post_excess: post.most_excess,
         offset: offsets.offset(branch.row).unwrap_or(0),
     }
 }

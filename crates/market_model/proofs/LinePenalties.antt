@@ -38,5 +38,5 @@ pub penalties : (m : Parts) → IsMarket m → (r : Row) → IsPenalty (penalty_
 penalties m market r = by (is_outage r.cause)
   where
     by : (post : Bool) → IsPenalty (penalty_of post (line_at m r.line)) (most_excess_of post (line_at m r.line))
-    by true = of_line m (λ l. IsPenalty l.post_price l.post_most_excess) (λ l d lt. (market.lines l d lt).post_penalty) no_cost r.line
-    by false = of_line m (λ l. IsPenalty l.base_price l.base_most_excess) (λ l d lt. (market.lines l d lt).base_penalty) no_cost r.line
+    by true = of_line m (λ l. IsPenalty l.post_price l.post_excess) (λ l d lt. (market.lines l d lt).post_penalty) no_cost r.line
+    by false = of_line m (λ l. IsPenalty l.base_price l.base_excess) (λ l d lt. (market.lines l d lt).base_penalty) no_cost r.line

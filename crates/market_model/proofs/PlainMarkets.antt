@@ -42,7 +42,7 @@ pub record IsPlain (bs : List Bus) (us : List unit.Unit) (ks : List Block) : Typ
   pub buses : All IsBus bs
   pub bus_numbers : AllPairs (λ a b. a ≢ b) (map (λ bus. bus.number) bs)
   pub units : All (IsUnit (length bs)) us
-  pub unit_rows : AllPairs (λ a b. a ≢ b) (map (λ unit. unit.row) us)
+  pub unit_rows : AllPairs (λ a b. a < b) (map (λ unit. unit.row) us)
   pub blocks : All (IsBlock (length us)) ks
   pub room : (place : ℕ) (d : unit.Unit) → place < length us → HasRoom ks place (slice_index_or us place d)
 

@@ -112,7 +112,7 @@ three_buses-market = plain_market three_buses.buses three_buses.units three_buse
   buses = buses;
   bus_numbers = distinct_by_rise (1 ∷ 2 ∷ 3 ∷ []) (AllPairs-from_increasing (1 ∷ 2 ∷ 3 ∷ []) numbers);
   units = units;
-  unit_rows = distinct_by_rise (1 ∷ 2 ∷ []) (AllPairs-from_increasing (1 ∷ 2 ∷ []) rows);
+  unit_rows = AllPairs-from_increasing (1 ∷ 2 ∷ []) rows;
   blocks = blocks;
   room = room;
 })

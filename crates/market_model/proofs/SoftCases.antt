@@ -48,7 +48,7 @@ with_second m second_line = record m { lines = line 1 None None 0 ∷ second_lin
 
 -- a limit of so many MW in the base that gives way
 abbrev base_line : ℕ → ℕ → ℕ → Line
-base_line limit penalty excess = record (line 2 (Some (mw limit)) None 0) { base_price = price penalty; base_most_excess = mw excess }
+base_line limit penalty excess = record (line 2 (Some (mw limit)) None 0) { base_price = price penalty; base_excess = mw excess }
 
 -- with a load of 60 MW at bus 3
 abbrev pub soft : ℕ → ℕ → ℕ → Parts
@@ -156,7 +156,7 @@ turned-surplus = same_fraction (surplus soft_turned (sold 60 0) (down_alone 55 6
 
 -- ---- after an outage: the limit of 45 MW gives way at 5, and that of 40 MW in the base does not
 abbrev soft_after : Parts
-soft_after = with_second after_outage (record (line 2 (Some (mw 40)) (Some (mw 45)) 0) { post_price = price 5; post_most_excess = mw 20 })
+soft_after = with_second after_outage (record (line 2 (Some (mw 40)) (Some (mw 45)) 0) { post_price = price 5; post_excess = mw 20 })
 
 abbrev both_prices : Duals Fraction
 both_prices = energy_duals (whole (price 10)) (record { row = record { branch = 2; outage = 0; unit = 0 }; up = whole (price 30); down = whole (pos 0) } ∷ record { row = record { branch = 2; outage = 1; unit = 0 }; up = whole (price 5); down = whole (pos 0) } ∷ [])

@@ -47,7 +47,7 @@ abbrev pub gives_way : Bool → Line → Bool
 gives_way post line = is_positive (penalty_of post line)
 
 abbrev pub most_excess_of : Bool → Line → ℤ
-most_excess_of post line = if post then line.post_most_excess else line.base_most_excess
+most_excess_of post line = if post then line.post_excess else line.base_excess
 
 -- whether a cause is an outage; limits, penalties and excesses after an outage are the same after each
 abbrev pub is_outage : Cause → Bool

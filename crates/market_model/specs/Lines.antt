@@ -10,9 +10,9 @@ hard_line row base post offset = record {
   base = base;
   post = post;
   base_price = pos 0;
-  base_most_excess = pos 0;
+  base_excess = pos 0;
   post_price = pos 0;
-  post_most_excess = pos 0;
+  post_excess = pos 0;
   offset = offset;
 }
 

@@ -35,8 +35,8 @@ pub record IsLine (line : Line) : Type 0 where
   pub row : 1 ≤ line.row
   pub base : IfSome line.base (λ mw. pos 0 ≤ℤ mw)
   pub post : IfSome line.post (λ mw. pos 0 ≤ℤ mw)
-  pub base_penalty : IsPenalty line.base_price line.base_most_excess
-  pub post_penalty : IsPenalty line.post_price line.post_most_excess
+  pub base_penalty : IsPenalty line.base_price line.base_excess
+  pub post_penalty : IsPenalty line.post_price line.post_excess
   pub offset : IsDatum line.offset
 
 -- a factor of one of so many lines, for one of so many buses or lost lines
@@ -92,7 +92,8 @@ pub record IsMarket (parts : Parts) : Type 0 where
   pub buses : All IsBus parts.buses
   pub bus_numbers : AllPairs (λ a b. a ≢ b) (map (λ bus. bus.number) parts.buses)
   pub units : All (IsUnit (length parts.buses)) parts.units
-  pub unit_rows : AllPairs (λ a b. a ≢ b) (map (λ unit. unit.row) parts.units)
+  -- units stand in the order of their gen rows, so by place and by row are one order
+  pub unit_rows : AllPairs (λ a b. a < b) (map (λ unit. unit.row) parts.units)
   pub blocks : All (IsBlock (length parts.units)) parts.blocks
   pub room : HaveRoom parts.units parts.blocks
   pub lines : All IsLine parts.lines

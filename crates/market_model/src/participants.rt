@@ -41,10 +41,10 @@ pub struct Line {
     pub post: Option<i64>,
     /// The penalty of its limit in the base, and the most by which its flow may exceed that.
     pub base_price: i64,
-    pub base_most_excess: i64,
+    pub base_excess: i64,
     /// The same of its limit after an outage.
     pub post_price: i64,
-    pub post_most_excess: i64,
+    pub post_excess: i64,
     /// What is added to its flow, whatever the buses put in.
     pub offset: i64,
 }
@@ -59,9 +59,9 @@ impl Line {
             base,
             post,
             base_price: 0,
-            base_most_excess: 0,
+            base_excess: 0,
             post_price: 0,
-            post_most_excess: 0,
+            post_excess: 0,
             offset,
         }
     }

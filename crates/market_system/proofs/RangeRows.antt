@@ -63,7 +63,7 @@ big_buses-market = plain_market big_buses.buses big_buses.units big_buses.blocks
   buses = buses;
   bus_numbers = distinct_by_rise (1 ∷ 2 ∷ 3 ∷ []) (AllPairs-from_increasing (1 ∷ 2 ∷ 3 ∷ []) numbers);
   units = units;
-  unit_rows = distinct_by_rise (1 ∷ 2 ∷ 3 ∷ []) (AllPairs-from_increasing (1 ∷ 2 ∷ 3 ∷ []) numbers);
+  unit_rows = AllPairs-from_increasing (1 ∷ 2 ∷ 3 ∷ []) numbers;
   blocks = blocks;
   room = room;
 })

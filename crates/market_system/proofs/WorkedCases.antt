@@ -81,7 +81,7 @@ limit_40-right = right_by shunted limit_40 refl refl refl refl
 
 -- ---- limits on branch 2 that give way at 25
 abbrev giving_way : Parts → ℕ → ℕ → Parts
-giving_way m limit excess = record m { lines = line 1 None None 0 ∷ record (line 2 (Some (mw limit)) None 0) { base_price = price 25; base_most_excess = mw excess } ∷ line 3 None None 0 ∷ [] }
+giving_way m limit excess = record m { lines = line 1 None None 0 ∷ record (line 2 (Some (mw limit)) None 0) { base_price = price 25; base_excess = mw excess } ∷ line 3 None None 0 ∷ [] }
 
 -- limit 40, by up to 10 MW: 5 of these are taken, and the price is paid for the flow
 

@@ -21,6 +21,7 @@ use Rattle.market_model.specs.Dispatch.{places, unit_at, block_at, place_of_bus}
 use Rattle.market_model.specs.Market.{IsMarket}
 use Rattle.market_model.specs.Stairs.{same_side, is_on_stair, stair_in}
 use Rattle.market_model.proofs.ChangeLemmas.{offered-set, on_stair}
+use Rattle.market_model.proofs.PlainMarkets.{distinct_by_rise}
 use Rattle.offer_book.specs.declared.edit_parts.Edit.{Edit}
 use Rattle.offer_book.specs.declared.edit_parts.Edit.TheVariants as edit
 use Rattle.offer_book.specs.declared.edit_parts.EditFault.TheVariants as fault
@@ -97,7 +98,7 @@ module _ (m : Parts) (market : IsMarket m) where
       let long = length-map m.units (λ (x : unit.Unit). x.row) in
       let left : get_or (map (λ (x : unit.Unit). x.row) m.units) u 0 ≡ (unit_at m u).row = get_or-map (λ (x : unit.Unit). x.row) m.units u _ 0 (Prim.omega (arith, below, inside)) in
       let right : get_or (map (λ (x : unit.Unit). x.row) m.units) v 0 ≡ (unit_at m v).row = get_or-map (λ (x : unit.Unit). x.row) m.units v _ 0 inside in
-      market.unit_rows u v 0 below (Prim.omega (arith, long, inside)) (left ∙ e ∙ sym right)
+      distinct_by_rise (map (λ (x : unit.Unit). x.row) m.units) market.unit_rows u v 0 below (Prim.omega (arith, long, inside)) (left ∙ e ∙ sym right)
 
   row_tells : (row : ℤ) (place : ℕ) → place < length m.units → int_eq (pos (unit_at m place).row) row ≡ true → (u : ℕ) → u < length m.units → int_eq (pos (unit_at m u).row) row ≡ (u == place)
   row_tells row place inside is u within = by (eqb_tells u place)
