@@ -345,3 +345,18 @@ bounded_by_nil d h w nil = same_anew d h (bound_added d w) (λ b c. elim (h.spli
       ∙ sym (bound_added-basic d h b w m)
   | inr o ↦ sym (bound_added-other d h b w o)
 ])
+
+-- what a product by an entry of 0 adds is nothing
+pub bounded_by_nothing : (d : Dictionary) → IsDictionary d → (w b : ℕ) → Contains d.basics b → (choice_of d).entry b w ≡ whole (pos 0) → note_of d b ≡ bound_added d w b
+bounded_by_nothing d h w b m nil =
+    ap (with_value (note_of d b))
+    (by_ring ring_ℚ ((note_of d b).value ∷ at_bound (system_in d) (choice_of d) w ∷ []) (at 0) (at 0 ⊕ pnil ⊗ at 1) refl
+    ∙ ap (λ x. (note_of d b).value +ℚ x *ℚ at_bound (system_in d) (choice_of d) w) (sym nil))
+    ∙ sym (bound_added-basic d h b w m)
+
+pub priced_by_nothing : (d : Dictionary) → IsDictionary d → (j w : ℕ) → Contains d.others w → column_entry (choice_of d) j w ≡ whole (pos 0) → note_of d w ≡ price_added d j w
+priced_by_nothing d h j w o nil =
+    ap (with_reduced (note_of d w))
+    (by_ring ring_ℚ ((note_of d w).reduced ∷ (system_in d).price j ∷ []) (at 0) (at 0 ⊕ at 1 ⊗ pnil) refl
+    ∙ ap (λ x. (note_of d w).reduced +ℚ (system_in d).price j *ℚ x) (sym nil))
+    ∙ sym (price_added-other d h w j o)

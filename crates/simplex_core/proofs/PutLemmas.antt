@@ -51,6 +51,22 @@ module _ (d : Dictionary) (h : IsDictionary d) (names : List ℕ) (f : ℕ → N
       rest = p.rest;
     })
 
+    -- a note that is to stay as it is
+    pub putting_same : note_of d (slice_index names k) ≡ f k → IsPutting d names f (k + 1) e
+    putting_same stays = record {
+      notes = p.notes;
+      is = p.is;
+      count = p.count;
+      each = λ j l hj. elim (cases_lt j k) [
+        | inl less ↦ p.each j less hj
+        | inr more ↦
+            let q : j ≡ k = Prim.omega (arith, l, more) in
+            p.later j more hj ∙ ap (λ (i : ℕ). note_of d (slice_index names i)) q ∙ stays ∙ ap f (sym q)
+      ];
+      later = λ j l hj. p.later j (Prim.omega (arith, l)) hj;
+      rest = p.rest;
+    }
+
     pub putting_step : (n : Noted) (e' : Dictionary) → k < length names → e' ≡ with_note e (slice_index names k) n → n ≡ f k → IsPutting d names f (k + 1) e'
     putting_step n e' hk set is_n =
         let x : ℕ = slice_index names k in

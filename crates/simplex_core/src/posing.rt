@@ -76,10 +76,15 @@ fn add_basic_price<N: Exact>(
     ensures cause { IfErr result (IsRefused N.value N.bound (PriceShare dict.old name)) }
 {
     for column in 0..dict.column_count() {
+        let entry = dict.entry(row, column);
+        match entry.sign() {
+            Sign::Zero => continue,
+            Sign::Below | Sign::Above => {}
+        }
         let other = dict.others(column);
         let rank = dict.rank_of(other);
         let note = dict.note_at(rank);
-        let reduced = note.reduced.plus_product(price, dict.entry(row, column))?;
+        let reduced = note.reduced.plus_product(price, entry)?;
         dict.set_note_at(rank, Note { reduced, ..note });
     }
     Ok(())
@@ -160,10 +165,15 @@ fn add_bound<N: Exact>(dict: &mut Dict<N>, column: usize, name: u32) -> Result<(
         Sign::Below | Sign::Above => {}
     }
     for row in 0..dict.row_count() {
+        let entry = dict.entry(row, column);
+        match entry.sign() {
+            Sign::Zero => continue,
+            Sign::Below | Sign::Above => {}
+        }
         let basic = dict.basics(row);
         let rank = dict.rank_of(basic);
         let note = dict.note_at(rank);
-        let value = note.value.plus_product(dict.entry(row, column), bound)?;
+        let value = note.value.plus_product(entry, bound)?;
         dict.set_note_at(rank, Note { value, ..note });
     }
     Ok(())

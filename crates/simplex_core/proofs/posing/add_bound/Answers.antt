@@ -12,9 +12,9 @@ use Rattle.linear_dict.proofs.SplitLemmas.{Contains-at}
 use Rattle.std.proofs.lemmas.Result.{err_from_is_err_and}
 use Rattle.simplex_core.specs.Operations.{BoundShare, adding_bound}
 use Rattle.simplex_core.specs.Posings.{bound_added}
-use Rattle.simplex_core.proofs.Adding.{with_value, bound_added-basic, bound_added-other, bounded_by_nil}
+use Rattle.simplex_core.proofs.Adding.{with_value, bounded_by_nothing, bound_added-basic, bound_added-other, bounded_by_nil}
 use Rattle.simplex_core.proofs.AnewLaws.{entry_read, put_anew}
-use Rattle.simplex_core.proofs.PutLemmas.{putting_start, putting_note, putting_named, putting_step, putting_end}
+use Rattle.simplex_core.proofs.PutLemmas.{putting_start, putting_note, putting_named, putting_same, putting_step, putting_end}
 use Rattle.simplex_core.proofs.StepLemmas.{stand_is}
 use Rattle.simplex_core.proofs.posing.add_bound.Goals as goal
 
@@ -66,13 +66,31 @@ loop-row-preserved g c =
     let hk : k < length d.basics = Prim.omega (arith, c.loop-row-test.true, c.row_count-row-end.ensures) in
     let name : c.basics-basic.result ≡ b = c.basics-basic.ensures ∙ ap (λ (x : Dictionary). slice_index x.basics k) m.is in
     let note : noted value c.note_at-note.result ≡ note_of d b = c.note_at-note.ensures ∙ ap (note_of e) (c.rank_of-rank.ensures.name ∙ name) ∙ putting_note d s d.basics f s.split.first_distinct s.split.first_named k e m hk in
-    let entry : value c.entry.result ≡ (choice_of d).entry b w = c.entry.ensures.entry ∙ entry_read d e m.notes m.is k c.args.column b w refl c.requires.name in
+    let entry : value c.entry-entry.result ≡ (choice_of d).entry b w = c.entry-entry.ensures.entry ∙ entry_read d e m.notes m.is k c.args.column b w refl c.requires.name in
     let stands : value c.bound_on-bound.result ≡ at_bound (system_in d) (choice_of d) w = stand_is value d w c.note-at.result c.bound_on-bound.result c.note-at.ensures c.bound_on-bound.ensures in
     let n : Noted = with_value (noted value c.note_at-note.result) (value c.in_ok-value.value) in
     putting_step d s d.basics f s.split.first_distinct s.split.first_named k e m n c.set_note_at.new.self hk
     (c.set_note_at.ensures ∙ ap (λ (x : ℕ). with_note e x n) (c.rank_of-rank.ensures.name ∙ name))
     (ap₂ with_value note (c.in_ok-value.ensures.exact ∙ ap₂ ◌+ℚ◌ (ap Noted.value note) (ap₂ ◌*ℚ◌ entry stands))
     ∙ sym (bound_added-basic d s b w (Contains-at d.basics k hk)))
+
+-- an entry of 0 changes nothing
+pub loop-row-preserved-in-Zero-sign : goal.loop-row-preserved-in-Zero-sign
+loop-row-preserved-in-Zero-sign g c =
+    let value = g.N.Exact.value in
+    let d : Dictionary = c.args.dict.now in
+    let e : Dictionary = c.loop-row.dict in
+    let s = c.requires.sound in
+    let w : ℕ = c.args.name in
+    let k : ℕ = c.loop-row.row in
+    let b : ℕ = slice_index d.basics k in
+    let f : ℕ → Noted = λ i. bound_added d w (slice_index d.basics i) in
+    let m = c.loop-row.invariant in
+    let hk : k < length d.basics = Prim.omega (arith, c.loop-row-test.true, c.row_count-row-end.ensures) in
+    let entry : value c.entry-entry.result ≡ (choice_of d).entry b w = c.entry-entry.ensures.entry ∙ entry_read d e m.notes m.is k c.args.column b w refl c.requires.name in
+    let nil = sign_of_is (value c.entry-entry.result) Zero (sym c.in-Zero-sign.is ∙ c.sign-in-loop-row.ensures) in
+    putting_same d s d.basics f s.split.first_distinct s.split.first_named k e m
+    (bounded_by_nothing d s w b (Contains-at d.basics k hk) (sym entry ∙ nil))
 
 pub returns-clause-notes : goal.returns-clause-notes
 returns-clause-notes g c =
@@ -102,10 +120,10 @@ returns-in_err-value-clause-cause g c =
     let hk : k < length d.basics = Prim.omega (arith, c.loop-row-test.true, c.row_count-row-end.ensures) in
     let name : c.basics-basic.result ≡ b = c.basics-basic.ensures ∙ ap (λ (x : Dictionary). slice_index x.basics k) m.is in
     let note : noted value c.note_at-note.result ≡ note_of d b = c.note_at-note.ensures ∙ ap (note_of e) (c.rank_of-rank.ensures.name ∙ name) ∙ putting_note d s d.basics f s.split.first_distinct s.split.first_named k e m hk in
-    let entry : value c.entry.result ≡ (choice_of d).entry b w = c.entry.ensures.entry ∙ entry_read d e m.notes m.is k c.args.column b w refl c.requires.name in
+    let entry : value c.entry-entry.result ≡ (choice_of d).entry b w = c.entry-entry.ensures.entry ∙ entry_read d e m.notes m.is k c.args.column b w refl c.requires.name in
     let stands : value c.bound_on-bound.result ≡ at_bound (system_in d) (choice_of d) w = stand_is value d w c.note-at.result c.bound_on-bound.result c.note-at.ensures c.bound_on-bound.ensures in
     let p = err_from_is_err_and c.from_residual.result c.from_residual.ensures.1 in
     rw (p.1, p.2)
-    (refused_share value g.N.Exact.bound (BoundShare d w) c.note_at-note.result.value c.entry.result c.bound_on-bound.result c.in_err-value.field-0.0
+    (refused_share value g.N.Exact.bound (BoundShare d w) c.note_at-note.result.value c.entry-entry.result c.bound_on-bound.result c.in_err-value.field-0.0
     (note_of d b).value ((choice_of d).entry b w) (at_bound (system_in d) (choice_of d) w) c.in_err-value.ensures (ap Noted.value note) entry stands
     (adding_bound b (Contains-at d.basics k hk)))
