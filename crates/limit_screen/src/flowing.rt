@@ -27,7 +27,7 @@ pub fn flows<N: Exact>(market: &Market, dispatch: &[N], out: &mut [N]) -> Result
     put_lost_outputs(market, dispatch, by_outage)
 }
 
-/// The same in a vector of their own.
+/// What `flows` puts, in a vector of its own.
 pub fn flows_made<N: Exact>(
     alloc: Global,
     market: &Market,

@@ -31,7 +31,7 @@ use std::alloc::Global;
 #[derive(Drop)]
 pub struct PricesAndBounds<N> {
     /// In 10^-6 per MWh: of the blocks, the price of a buy, and the opposite of that of a sell; of the offers of reserve, the opposite of
-    /// the price; then, for each soft limit in the order taken, twice the opposite of its penalty.
+    /// the price; then, for each soft limit in the order taken, the opposite of its penalty, for each of its two columns.
     pub prices: List<N>,
     /// Of the same, in 10^-9 MW: what a block or an offer may have accepted, and by how much a limit may be exceeded on either side.
     pub column_bounds: List<Bounds<N>>,

@@ -42,7 +42,7 @@ fn shift_for_unit(parts: &Parts, shift: &[i64], line: usize, unit: usize) -> i64
     shift[line * parts.buses.len() + parts.units.at(unit).bus]
 }
 
-/// Of each unit that is lost, what flows on a line for a taker, in 10^-15.
+/// How much of a lost unit's output flows on a line where the taker of one pickup puts in its share, in 10^-15.
 fn taker_share(parts: &Parts, shift: &[i64], line: usize, pickup: &Pickup) -> i64
     requires market { IsMarket parts.now }
     requires shift { IsTable (length parts.now.lines) (length parts.now.buses) (factor_in parts.now.shift) shift.now }
@@ -54,7 +54,7 @@ fn taker_share(parts: &Parts, shift: &[i64], line: usize, pickup: &Pickup) -> i6
     pickup.share * shift_for_unit(parts, shift, line, pickup.taker)
 }
 
-/// Of each unit that is lost, what flows on a line where the lost unit puts it in, in 10^-15.
+/// How much of a lost unit's output flows on a line where the unit itself puts it in, in 10^-15.
 fn own_share(parts: &Parts, shift: &[i64], line: usize, outage: usize) -> i64
     requires market { IsMarket parts.now }
     requires shift { IsTable (length parts.now.lines) (length parts.now.buses) (factor_in parts.now.shift) shift.now }
