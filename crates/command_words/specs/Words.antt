@@ -1,6 +1,6 @@
 -- The words that the program takes, by the command that `clap` reads them by.
 use Rattle.std.specs.Borrow.{Bor}
-use Rattle.std.specs.Prelude.{◌≡◌, ◌⊎◌, ◌≤◌, ⊤, ℕ, Bool, true, false, List, [], ◌∷◌, codes, is_some, map, pos, Option, Some, unwrap_or, if◌then◌else◌}
+use Rattle.std.specs.Prelude.{◌≡◌, ◌⊎◌, ◌≤◌, ⊤, ℕ, Bool, true, false, List, [], ◌∷◌, codes, is_some, map, pos, All, Option, Some, None, option_and_then, option_map, unwrap_or, if◌then◌else◌}
 use Rattle.std.specs.Option.{option_map_or}
 use Rattle.std.specs.Str.{bytes_eq}
 use Rattle.std.specs.Str.Parse.{IsNumeral, digits_value, without_leading_plus}
@@ -147,21 +147,43 @@ AsksNothing words = refuses words ≡ true
 abbrev pub file_of : Text → List Row → Text
 file_of name rows = unwrap_or (first_of name rows) []
 
--- the rating that a letter stands for
-abbrev pub rating_named : Text → PostRating
-rating_named letter = if bytes_eq letter (codes "a") then post.A else if bytes_eq letter (codes "b") then post.B else post.C
+-- the rating that a letter stands for, where it stands for one
+abbrev pub rating_named : Text → Option PostRating
+rating_named letter =
+    if bytes_eq letter (codes "a") then Some post.A
+    else if bytes_eq letter (codes "b") then Some post.B
+    else if bytes_eq letter (codes "c") then Some post.C
+    else None
 
 -- the rating that its option names, and C where it is not there
 abbrev pub rating_of : List Row → PostRating
-rating_of rows = option_map_or rating_named (first_of (codes "post-rating") rows) post.C
+rating_of rows = unwrap_or (option_and_then rating_named (first_of (codes "post-rating") rows)) post.C
 
--- the number of places that a word stands for
-abbrev pub places_named : Text → FactorPlaces
-places_named word = if bytes_eq word (codes "9") then factor_places.Nine else factor_places.Six
+-- the number of places that a word stands for, where it stands for one
+abbrev pub places_named : Text → Option FactorPlaces
+places_named word =
+    if bytes_eq word (codes "6") then Some factor_places.Six
+    else if bytes_eq word (codes "9") then Some factor_places.Nine
+    else None
 
 -- the number of places that its option tells, and 6 where it is not there
 abbrev pub places_of : List Row → FactorPlaces
-places_of rows = option_map_or places_named (first_of (codes "factor-places") rows) factor_places.Six
+places_of rows = unwrap_or (option_and_then places_named (first_of (codes "factor-places") rows)) factor_places.Six
+
+-- the letter of a rating, and a number of places as a word
+abbrev pub rating_word : PostRating → Text
+rating_word post.A = codes "a"
+rating_word post.B = codes "b"
+rating_word post.C = codes "c"
+
+abbrev pub place_word : FactorPlaces → Text
+place_word factor_places.Six = codes "6"
+place_word factor_places.Nine = codes "9"
+
+-- each letter and each number of places that the command takes stands for what it is the word of
+abbrev pub LawOfChoices : Type 0
+LawOfChoices = All (λ word. option_map rating_word (rating_named word) ≡ Some word) rating_words
+    × All (λ word. option_map place_word (places_named word) ≡ Some word) place_words
 
 -- the command takes the words, which enter this subcommand with these options
 pub record Enters (words : List Text) (name : Text) (rows : List Row) : Type 0 where

@@ -158,7 +158,9 @@ fn named_rating<'a>(matches: &ArgMatches<'a>) -> PostRating
     match named_table(matches, "post-rating") {
         Some("a") => PostRating::A,
         Some("b") => PostRating::B,
-        _ => PostRating::C,
+        Some("c") => PostRating::C,
+        // The command takes no other word.
+        Some(_) | None => PostRating::C,
     }
 }
 
@@ -167,8 +169,9 @@ fn named_places<'a>(matches: &ArgMatches<'a>) -> FactorPlaces
     ensures { result ≡ places_of (rows_of (found_of matches.now)) }
 {
     match named_table(matches, "factor-places") {
+        Some("6") => FactorPlaces::Six,
         Some("9") => FactorPlaces::Nine,
-        _ => FactorPlaces::Six,
+        Some(_) | None => FactorPlaces::Six,
     }
 }
 

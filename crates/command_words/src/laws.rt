@@ -1,0 +1,8 @@
+//! Laws of the words, each the contract of a function that does nothing.
+
+ghost use Rattle.command_words.specs.Words.{LawOfChoices};
+
+/// Each word that an option or a value may have, of those that are listed, means what it says.
+pub fn choices_mean_their_words()
+    ensures { LawOfChoices }
+{}
