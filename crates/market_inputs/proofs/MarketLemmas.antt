@@ -1,6 +1,6 @@
 -- The markets of files keep what every market keeps.
 use Rattle.std.proofs.Common.{◌≡◌, ◌≢◌, ℕ, ℤ, pos, List, [], ◌∷◌, length, map, get_or, refl, sym, subst, ap, ◌∙◌, arith}
-use Rattle.std.specs.Prelude.{unwrap_or, All, AllPairs, Contains, IfSome, Option, Some, None, ◌≤ℤ◌}
+use Rattle.std.specs.Prelude.{◌<◌, unwrap_or, All, AllPairs, Contains, IfSome, Option, Some, None, ◌≤ℤ◌}
 use Rattle.std.proofs.lemmas.Int.{ints}
 use Rattle.std.proofs.lemmas.List.{length-map, get_or-map}
 use Rattle.std.proofs.lemmas.List.Elements.{All-map}
