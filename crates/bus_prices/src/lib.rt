@@ -4,5 +4,5 @@
 mod owning;
 mod pricing;
 
-pub use owning::own_prices;
+pub use owning::{own, own_prices};
 pub use pricing::prices;

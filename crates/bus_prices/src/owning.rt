@@ -52,8 +52,11 @@ fn add_pickup<N: Exact>(market: &Market, row: Row, price: N, out: &mut [N]) -> R
     Ok(())
 }
 
-/// Puts at each unit its own price, where buses have these prices.
-fn own<N: Exact>(
+/// Puts at each live unit its own price, in 10^-6 per MWh, where buses have these prices, one for each bus: what it is paid for a MW. It is
+/// the price of its bus, less what the limits with duals take after its loss. The duals are as an answer has them; the prices may be any.
+/// It takes no memory: an operation in one of these sums, or in the pickup factor of a row that the duals name, may be refused as too
+/// large, and then the places are left as they are by then.
+pub fn own<N: Exact>(
     market: &Market,
     duals: &Duals<N>,
     prices: &[Price<N>],
@@ -77,8 +80,7 @@ fn own<N: Exact>(
     Ok(())
 }
 
-/// The own price of each live unit, in 10^-6 per MWh, where buses have these prices, one for each bus: what it is paid for a MW. It is the
-/// price of its bus, less what the limits with duals take after its loss. The duals are as an answer has them; the prices may be any.
+/// The same in a vector of their own.
 pub fn own_prices<N: Exact>(
     alloc: Global,
     market: &Market,

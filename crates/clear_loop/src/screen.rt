@@ -6,7 +6,7 @@ ghost use Rattle.market_model.specs.Stops.{StopsBy};
 ghost use Rattle.clear_loop.specs.Rounds.{IsLookRefusal, IsScreened};
 
 use exact_fraction::Exact;
-use limit_screen::{flows_made, whole_parts, worst_room, worst_row_by_parts};
+use limit_screen::{flows_made, whole_parts, worst_room_by_uses, worst_row_by_parts};
 use market_dict::Taking;
 use market_model::{Market, Row, Stop};
 use std::alloc::Global;
@@ -41,7 +41,7 @@ pub(crate) fn screened_at<N: Exact>(
     let parts = whole_parts(alloc, market, &by_place)?;
     match worst_row_by_parts(market, &by_place, &parts, taken)? {
         Some(row) => Ok(Screened::Worst(Taking::Limit(row))),
-        None => match worst_room(market, dispatch, reserve)? {
+        None => match worst_room_by_uses(alloc, market, dispatch, reserve)? {
             Some(unit) => Ok(Screened::Worst(Taking::Room(unit))),
             None => Ok(Screened::Within(by_place)),
         },

@@ -4,6 +4,7 @@ pub mod NumberingLemmas
 pub mod CountLemmas
 pub mod ApartLemmas
 mod PickupSteps
+mod WidePickups
 pub mod PlaceLemmas
 pub mod DualLemmas
 pub mod FactorLemmas

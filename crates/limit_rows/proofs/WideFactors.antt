@@ -33,7 +33,7 @@ sum_size : (x y : ℤ) → unsigned_abs (x +ℤ y) ≤ unsigned_abs x + unsigned
 sum_size x y = Prim.omega (arith, ints)
 
 -- what is over a number is too large only where its parts are
-too_large_over : (bound : ℕ) (n : ℤ) (d : ℕ) → 0 < d → unsigned_abs n ≤ bound → d ≤ bound → IsTooLarge bound (over n d) → ⊥
+pub too_large_over : (bound : ℕ) (n : ℤ) (d : ℕ) → 0 < d → unsigned_abs n ≤ bound → d ≤ bound → IsTooLarge bound (over n d) → ⊥
 too_large_over bound n d p num den (inl h) = Prim.omega (arith, (over_within n d p).0, num, h)
 too_large_over bound n d p num den (inr h) = Prim.omega (arith, (over_within n d p).1, den, h)
 

@@ -121,12 +121,13 @@ fn with_taker<N: Exact>(
 }
 
 /// How much of a lost unit's output flows on a line where its takers put it in: each its share. The outage is told by its place among
-/// those of units.
+/// those of units. Numbers of 127 bits refuse none.
 pub fn taker_factor<N: Exact>(market: &Market, line: usize, outage: usize) -> Result<N, Passed<N>>
     requires line { line < length market.now.lines }
     requires outage { outage < length market.now.unit_outages }
     ensures factor { IfOk result (λ factor. N.value factor ≡ taker_factor market.now line outage) }
     ensures cause { IfErr result (λ passed. IsRefusedIn (taker_terms market.now line outage) N.bound (passed_at N.value passed)) }
+    ensures wide { 2 ^ 127 ≤ N.bound + 1 → IfErr result (λ _. ⊥) }
 {
     let mut sum: N = as_number(0);
     for pickup in market.pickups().slice() {
@@ -136,13 +137,15 @@ pub fn taker_factor<N: Exact>(market: &Market, line: usize, outage: usize) -> Re
 }
 
 /// How much of a lost unit's output the flow of a line takes on when others pick it up: what it is where they put it in, less what it was
-/// at its own bus.
+/// at its own bus. Numbers of 127 bits refuse none.
 pub fn pickup_factor<N: Exact>(market: &Market, line: usize, outage: usize) -> Result<N, Passed<N>>
     requires line { line < length market.now.lines }
     requires outage { outage < length market.now.unit_outages }
     ensures factor { IfOk result (λ factor. N.value factor ≡ pickup_factor market.now line outage) }
     ensures cause { IfErr result (λ passed. IsRefusedIn (pickup_terms market.now line outage) N.bound (passed_at N.value passed)) }
+    ensures wide { 2 ^ 127 ≤ N.bound + 1 → IfErr result (λ _. ⊥) }
 {
+    let _lines = market.lines();
     let taken: N = taker_factor(market, line, outage)?;
     less(
         taken,
@@ -168,13 +171,14 @@ fn outage_losing(market: &Market, cause: Cause, unit: usize) -> Option<usize>
 }
 
 /// How much of what the unit at a place puts out counts for the flow of a row: the factor of its bus, and after its own loss that of its
-/// takers.
+/// takers. Numbers of 127 bits refuse none.
 pub fn unit_factor<N: Exact>(market: &Market, row: Row, unit: usize) -> Result<N, Passed<N>>
     requires line { row.line < length market.now.lines }
     requires lost { IsCauseOf market.now row.cause }
     requires unit { unit < length market.now.units }
     ensures factor { IfOk result (λ factor. N.value factor ≡ unit_factor market.now row unit) }
     ensures cause { IfErr result (λ passed. IsRefusedAmong (FactorSum market.now row) N.bound (passed_at N.value passed)) }
+    ensures wide { 2 ^ 127 ≤ N.bound + 1 → IfErr result (λ _. ⊥) }
 {
     match outage_losing(market, row.cause, unit) {
         Some(outage) => taker_factor(market, row.line, outage),

@@ -4,4 +4,5 @@ pub mod PartLemmas
 pub mod ScreenLemmas
 pub mod TakenLemmas
 pub mod RoomLemmas
+mod UseLemmas
 pub mod TestMarkets

@@ -1,11 +1,12 @@
 -- Which room, that a unit's energy and its reserve share, is passed by the most.
 -- Source: own; as violated limits, of rooms that are passed one alone is taken.
-use Rattle.std.specs.Prelude.{◌≡◌, ℕ, ◌<◌, length, Option, Some, None, Contains}
+use Rattle.std.specs.Prelude.{◌≡◌, ℕ, ◌<◌, Bool, List, length, map, Option, Some, None, Contains, if◌then◌else◌}
+use Rattle.std.specs.Option.{option_map}
 use Rattle.fraction_theory.specs.Fraction.{Fraction, ◌-ℚ◌}
 use Rattle.fraction_theory.specs.Order.{◌<ℚ◌, ◌≤ℚ◌}
 use Rattle.market_model.specs.declared.participants.Parts.{Parts}
-use Rattle.market_model.specs.Dispatch.{Dispatch, unit_at}
-use Rattle.market_model.specs.Reserves.{reserve_units, room, room_used, KeepRooms, IsRoomPassed}
+use Rattle.market_model.specs.Dispatch.{Dispatch, places, unit_at}
+use Rattle.market_model.specs.Reserves.{offers_reserve, reserve_units, room, room_used, KeepRooms, IsRoomPassed}
 use Rattle.limit_screen.specs.declared.sharing.RoomOverrun.{RoomOverrun}
 
 -- by how much a unit uses more than its room; at most 0 where it keeps that
@@ -36,3 +37,20 @@ IsWorstRoomNamed m x row = (u : ℕ) × IsWorstRoom m x u × (row ≡ (unit_at m
 abbrev pub IsWorstRoomTo : {N : Type 0} → (N → Fraction) → Parts → Dispatch → ℕ → Option (RoomOverrun N) → Type 0
 IsWorstRoomTo value m x place None = (v : ℕ) → v < place → Contains (reserve_units m) v → room_used m x v ≤ℚ room m v
 IsWorstRoomTo value m x place (Some b) = IsWorstRoomBefore m x place b.unit × (value b.overrun ≡ room_overrun m x b.unit)
+
+-- ---- what units use, as numbers
+-- a sum where it counts, and nothing where it does not
+abbrev pub counted : Bool → Fraction → Option Fraction
+counted counts sum = if counts then Some sum else None
+
+-- by place of so many units: of those that count such a sum, and nothing of the others
+abbrev pub HaveSums : {N : Type 0} → (N → Fraction) → (ℕ → Bool) → (ℕ → Fraction) → ℕ → List (Option N) → Type 0
+HaveSums value counts sum units used = map (option_map value) used ≡ map (λ u. counted (counts u) (sum u)) (places units)
+
+-- what a unit uses of its room, where it offers reserve
+abbrev pub IsUseOf : {N : Type 0} → (N → Fraction) → Parts → Dispatch → ℕ → Option N → Type 0
+IsUseOf value m x u used = option_map value used ≡ counted (offers_reserve m u) (room_used m x u)
+
+-- of the units that offer reserve what each uses of its room
+abbrev pub AreRoomsUsed : {N : Type 0} → (N → Fraction) → Parts → Dispatch → List (Option N) → Type 0
+AreRoomsUsed value m x used = HaveSums value (offers_reserve m) (room_used m x) (length m.units) used

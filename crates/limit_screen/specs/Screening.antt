@@ -1,5 +1,6 @@
 -- Which limit is passed by the most, where so much is carried.
-use Rattle.std.specs.Prelude.{◌≡◌, ℕ, List, Option, Some, None, map, All, Contains}
+use Rattle.std.specs.Prelude.{◌≡◌, ℕ, List, Option, Some, None, filter, All, Contains}
+use Rattle.std.specs.List.{list_any}
 use Rattle.fraction_theory.specs.Fraction.{Fraction, whole}
 use Rattle.fraction_theory.specs.Order.{◌≤ℚ◌}
 use Rattle.market_model.specs.declared.answered.RowId.{RowId}
@@ -7,6 +8,7 @@ use Rattle.market_model.specs.declared.participants.Parts.{Parts}
 use Rattle.market_model.specs.Overrun.{overrun, IsBeyond, IsFirstMost, IsWorst, Keeps}
 use Rattle.market_model.specs.declared.limits.Row.{Row}
 use Rattle.market_model.specs.LimitRows.{Carried, flow_by, row_id, rows}
+use Rattle.limit_rows.specs.Naming.{has_name}
 use Rattle.limit_screen.specs.declared.screening.RowOverrun.{RowOverrun}
 use Rattle.limit_screen.specs.declared.taking.TakenRows.{TakenRows}
 use Rattle.limit_screen.specs.declared.taking.TakenRows.TheVariants.{Rows, Names}
@@ -23,14 +25,14 @@ IsWorstBy m taken c r = (place : ℕ) × IsWorst m taken (flow_by m c) place r
 abbrev pub IsWorstNamed : Parts → List Row → Carried → RowId → Type 0
 IsWorstNamed m taken c name = (r : Row) × IsWorstBy m taken c r × (name ≡ row_id m r)
 
--- the rows that are taken are rows of the market, and these are their names
-abbrev pub AreNamesOf : Parts → List Row → List RowId → Type 0
-AreNamesOf m taken names = ((r : Row) → Contains taken r → Contains (rows m) r) × (names ≡ map (row_id m) taken)
+-- the rows of the market that have one of these names; a name that no row has names none
+abbrev pub rows_named : Parts → List RowId → List Row
+rows_named m names = filter (λ r. list_any (λ name. has_name m name r) names) (rows m)
 
--- they are these, or those of these names
-abbrev pub AreTakenRows : Parts → List Row → TakenRows → Type 0
-AreTakenRows m taken (Rows given) = given.now ≡ taken
-AreTakenRows m taken (Names given) = AreNamesOf m taken given.now
+-- the rows that are taken: these, or those of these names
+abbrev pub taken_rows : Parts → TakenRows → List Row
+taken_rows m (Rows given) = given.now
+taken_rows m (Names given) = rows_named m given.now
 
 -- the worst of some rows with its overrun and a whole number that is not above this, the first of several, or none where all of them keep
 -- what they may be

@@ -8,8 +8,9 @@ mod parts;
 mod screening;
 mod sharing;
 mod taking;
+mod uses;
 
 pub use flowing::{bus_injections, carried_flows, flows, flows_made};
 pub use parts::{WholeParts, whole_parts};
 pub use screening::{beyond, worst, worst_row, worst_row_by_parts};
-pub use sharing::{rooms, worst_room};
+pub use sharing::{rooms, worst_room, worst_room_by_uses};

@@ -14,7 +14,7 @@ ghost use Rattle.market_model.specs.SumTables.{IsFlowRefusal};
 ghost use Rattle.limit_rows.specs.Refusals.{IsAnyFlowRefusal};
 ghost use Rattle.limit_screen.specs.Bounds.{AreWholeParts, IsLeastOf};
 ghost use Rattle.limit_screen.specs.Flows.{carried_at};
-ghost use Rattle.limit_screen.specs.Screening.{AllKeep, AreNamesOf, AreTakenRows, IsWorstBy, IsWorstNamed, IsWorstOf};
+ghost use Rattle.limit_screen.specs.Screening.{AllKeep, IsWorstBy, IsWorstNamed, IsWorstOf, rows_named, taken_rows};
 
 use crate::bounds::{is_within, near_flow};
 use crate::flowing::carried_flows;
@@ -53,7 +53,7 @@ pub fn beyond<N: Exact>(flow: N, limit: N) -> Result<Option<N>, Passed<N>>
 fn keeps_excess<N: Exact>(market: &Market, taken: TakenRows<'_>, row: Row, overrun: N) -> bool
     requires row { Contains (rows market.now) row }
     requires passed { zero <ℚ N.value overrun }
-    ensures { (g : List Row) (f : Fraction) → AreTakenRows market.now g taken.entry → N.value overrun ≡ overrun_of market.now row f → MatchBool result (Keeps market.now g row f) (IsBeyond market.now g row f) }
+    ensures { let g = taken_rows market.now taken.entry in (f : Fraction) → N.value overrun ≡ overrun_of market.now row f → MatchBool result (Keeps market.now g row f) (IsBeyond market.now g row f) }
 {
     let _lines = market.lines();
     match overrun.order(datum(most_excess_at(market, row))) {
@@ -100,7 +100,7 @@ fn with_row<N: Exact>(
 ) -> Result<Option<RowOverrun<N>>, Passed<N>>
     requires flows { length flows.now ≡ length market.now.buses + length market.now.lines + length market.now.unit_outages }
     requires row { Contains (rows market.now) row }
-    ensures worst { (g rs : List Row) → AreTakenRows market.now g taken.entry → IsWorstOf N.value market.now g (flow_by market.now (carried_at market.now (map N.value flows.now))) rs worst
+    ensures worst { let g = taken_rows market.now taken.entry in (rs : List Row) → IsWorstOf N.value market.now g (flow_by market.now (carried_at market.now (map N.value flows.now))) rs worst
         → IfOk result (IsWorstOf N.value market.now g (flow_by market.now (carried_at market.now (map N.value flows.now))) (rs ++ row ∷ [])) }
     ensures cause { IfErr result (λ passed. IsFlowRefusal market.now (carried_at market.now (map N.value flows.now)) row N.bound (passed_at N.value passed)) }
 {
@@ -152,7 +152,7 @@ fn with_row_by_parts<N: Exact>(
     requires flows { length flows.now ≡ length market.now.buses + length market.now.lines + length market.now.unit_outages }
     requires parts { IfSome parts (λ parts. AreWholeParts market.now (carried_at market.now (map N.value flows.now)) parts.now) }
     requires row { Contains (rows market.now) row }
-    ensures worst { (g rs : List Row) → AreTakenRows market.now g taken.entry → IsWorstOf N.value market.now g (flow_by market.now (carried_at market.now (map N.value flows.now))) rs worst
+    ensures worst { let g = taken_rows market.now taken.entry in (rs : List Row) → IsWorstOf N.value market.now g (flow_by market.now (carried_at market.now (map N.value flows.now))) rs worst
         → IfOk result (IsWorstOf N.value market.now g (flow_by market.now (carried_at market.now (map N.value flows.now))) (rs ++ row ∷ [])) }
     ensures cause { IfErr result (λ passed. IsFlowRefusal market.now (carried_at market.now (map N.value flows.now)) row N.bound (passed_at N.value passed)) }
 {
@@ -173,7 +173,7 @@ fn worst_taken<N: Exact>(
 ) -> Result<Option<Row>, Passed<N>>
     requires parts { IfSome parts (λ parts. AreWholeParts market.now (carried_at market.now (map N.value flows.now)) parts.now) }
     requires flows { length flows.now ≡ length market.now.buses + length market.now.lines + length market.now.unit_outages }
-    ensures worst { (g : List Row) → AreTakenRows market.now g taken.entry → IfOk result (λ worst. MatchOption worst (AllKeep market.now g (carried_at market.now (map N.value flows.now)))
+    ensures worst { let g = taken_rows market.now taken.entry in IfOk result (λ worst. MatchOption worst (AllKeep market.now g (carried_at market.now (map N.value flows.now)))
         (IsWorstBy market.now g (carried_at market.now (map N.value flows.now)))) }
     ensures cause { IfErr result (λ passed. IsAnyFlowRefusal market.now (carried_at market.now (map N.value flows.now)) N.bound (passed_at N.value passed)) }
 {
@@ -217,15 +217,14 @@ pub fn worst_row_by_parts<N: Exact>(
     worst_taken(market, flows, Some(parts), TakenRows::Rows(taken))
 }
 
-/// The same by names.
+/// The same by names. A name that no row of the market has takes none.
 pub fn worst<N: Exact>(
     market: &Market,
     flows: &[N],
     taken: &[RowId],
 ) -> Result<Option<RowId>, Passed<N>>
     requires flows { length flows.now ≡ length market.now.buses + length market.now.lines + length market.now.unit_outages }
-    requires taken { (g : List Row) × AreNamesOf market.now g taken.now }
-    ensures worst { (g : List Row) → AreNamesOf market.now g taken.now → IfOk result (λ worst. MatchOption worst (AllKeep market.now g (carried_at market.now (map N.value flows.now)))
+    ensures worst { let g = rows_named market.now taken.now in IfOk result (λ worst. MatchOption worst (AllKeep market.now g (carried_at market.now (map N.value flows.now)))
         (IsWorstNamed market.now g (carried_at market.now (map N.value flows.now)))) }
     ensures cause { IfErr result (λ passed. IsAnyFlowRefusal market.now (carried_at market.now (map N.value flows.now)) N.bound (passed_at N.value passed)) }
 {

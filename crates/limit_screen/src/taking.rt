@@ -1,9 +1,8 @@
 //! Rows that are taken.
 
-ghost use Rattle.std.specs.Prelude.{◌↔◌, IsTrue, List, Contains};
-ghost use Rattle.market_model.specs.declared.limits.Row.{Row};
+ghost use Rattle.std.specs.Prelude.{◌↔◌, IsTrue, Contains};
 ghost use Rattle.market_model.specs.LimitRows.{rows};
-ghost use Rattle.limit_screen.specs.Screening.{AreTakenRows};
+ghost use Rattle.limit_screen.specs.Screening.{taken_rows};
 
 use limit_rows::name_at;
 use market_model::{Market, Row, RowId};
@@ -18,7 +17,7 @@ pub(crate) enum TakenRows<'a> {
 /// Whether a row of the market is one of them.
 pub(crate) fn is_taken(market: &Market, taken: TakenRows<'_>, row: Row) -> bool
     requires { Contains (rows market.now) row }
-    ensures { (g : List Row) → AreTakenRows market.now g taken.entry → IsTrue result ↔ Contains g row }
+    ensures { IsTrue result ↔ Contains (taken_rows market.now taken.entry) row }
 {
     let _lines = market.lines();
     match taken {

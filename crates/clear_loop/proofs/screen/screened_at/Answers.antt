@@ -8,6 +8,7 @@ use Rattle.market_model.specs.LimitRows.{carried}
 use Rattle.market_model.specs.Dispatch.{dispatch_with}
 use Rattle.market_model.specs.Valued.{passed_at}
 use Rattle.market_model.specs.PutIn.{dispatch_of}
+use Rattle.market_model.specs.SumTables.{IsRefusedAmong, RoomSum}
 use Rattle.market_model.proofs.StopLemmas.{on_passed_weaker}
 use Rattle.limit_screen.specs.Flows.{carried_at, flows_at, IsFlowsRefusal}
 use Rattle.limit_screen.specs.Rooms.{AllKeepRooms, IsWorstRoom}
@@ -77,6 +78,15 @@ none_broken g c =
     let taken = c.args.taken.now in
     all_kept m c.lines-lines.ensures.market taken x (map value c.deref-2.result.now) (flows_are g (goal.at.In-None g c).After-deref-2)
     (subst (λ (o : Option Row). MatchOption o (AllKeep m taken f) (IsWorstBy m taken f)) c.in-None.is c.in_ok-row.ensures.worst)
+
+pub returns-in_err-unit-in-None-clause-cause : goal.returns-in_err-unit-in-None-clause-cause
+returns-in_err-unit-in-None-clause-cause g c =
+    let value = g.N.Exact.value in
+    let m = c.args.market.now in
+    let x = dispatch_with (map value c.args.dispatch.now) (map value c.args.reserve.now) in
+    let given : c.from_residual-in_err-unit-in-None.result ≡ Err c.in_err-unit-in-None.field-0.0 = search rules in
+    rw given
+    (on_passed_weaker c.in_err-unit-in-None.field-0.0 (λ p. IsRefusedAmong (RoomSum m x) g.N.Exact.bound (passed_at value p)) _ (λ p refused. inr (inr refused)) c.in_err-unit-in-None.ensures.cause)
 
 pub returns-in-Some-2-clause-screened : goal.returns-in-Some-2-clause-screened
 returns-in-Some-2-clause-screened g c =

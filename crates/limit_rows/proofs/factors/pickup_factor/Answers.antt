@@ -6,6 +6,7 @@ use Rattle.market_model.specs.Dispatch.{unit_at}
 use Rattle.market_model.specs.LimitRows.{lost_unit, shift_factor, taker_terms}
 use Rattle.market_model.specs.Valued.{passed_at}
 use Rattle.limit_rows.proofs.PickupSteps.{less_own, less_refused, refused_in_front}
+use Rattle.limit_rows.proofs.WidePickups.{pickup_fits}
 use Rattle.limit_rows.proofs.factors.pickup_factor.Goals as goal
 
 pub returns-in_err-taken-clause-cause : goal.returns-in_err-taken-clause-cause
@@ -28,3 +29,7 @@ returns-clause-cause g c =
     let own = c.shift_for_unit.ensures ∙ ap (λ (u : ℕ). shift_factor m c.args.line (unit_at m u).bus) c.lost_unit.ensures.is in
     IfErr-weaker c.less.result _ _
     (λ e why. less_refused m c.args.line c.args.outage _ _ c.in_ok-taken.ensures.factor own g.N.Exact.bound (passed_at g.N.Exact.value e) why) c.less.ensures.cause
+
+pub returns-clause-wide : goal.returns-clause-wide
+returns-clause-wide g c = λ wide.
+    IfErr-weaker c.less.result _ _ (λ p why. pickup_fits g.N.Exact.bound wide (passed_at g.N.Exact.value p) c.args.market.now c.lines-lines.ensures.market c.args.line c.args.outage why) (returns-clause-cause g c)

@@ -1,6 +1,7 @@
 use Rattle.std.proofs.Common.{rules, Err, ◌≡◌, ◌∙◌, List, map, ap, subst, get_or, pos, refl}
 use Rattle.std.specs.Prelude.{◌==◌, filter}
 use Rattle.std.proofs.lemmas.List.{take_all}
+use Rattle.std.proofs.lemmas.Result.{IfErr-weaker}
 use Rattle.fraction_theory.specs.Sums.{total}
 use Rattle.market_model.specs.declared.participants.Pickup.{Pickup}
 use Rattle.market_model.specs.LimitRows.{share_value, shift_factor, taker_term, taker_factor as factor_of_takers}
@@ -9,6 +10,7 @@ use Rattle.market_model.specs.NamedSums.{IsRefusedIn}
 use Rattle.market_model.specs.Valued.{passed_at}
 use Rattle.market_model.proofs.ChangeLemmas.{same_default}
 use Rattle.limit_rows.proofs.PickupSteps.{no_factor, passing_refused, tested_more}
+use Rattle.limit_rows.proofs.WidePickups.{takers_fit}
 use Rattle.limit_rows.proofs.factors.taker_factor.Goals as goal
 
 -- what stands where there is no record
@@ -48,3 +50,8 @@ returns-in_err-sum-clause-cause g c =
     (same_default ps c.loop-pickup.pickup-index nothing p c.loop-pickup-test.true)
     (share_value p) (shift_factor m c.args.line (unit_at m p.taker).bus) (g.N.Exact.value c.loop-pickup.sum) g.N.Exact.bound (passed_at g.N.Exact.value c.in_err-sum.field-0.0)
     c.in_err-sum.ensures.belongs refl c.loop-pickup.invariant c.in_err-sum.ensures.cause))
+
+pub returns-in_err-sum-clause-wide : goal.returns-in_err-sum-clause-wide
+returns-in_err-sum-clause-wide g c = λ wide.
+    IfErr-weaker c.from_residual.result _ _
+    (λ p why. takers_fit g.N.Exact.bound wide (passed_at g.N.Exact.value p) c.args.market.now c.pickups.ensures.market c.args.line c.args.outage why) (returns-in_err-sum-clause-cause g c)

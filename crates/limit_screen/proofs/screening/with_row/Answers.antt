@@ -8,6 +8,7 @@ use Rattle.market_model.specs.LimitRows.{Carried, flow_by}
 use Rattle.market_model.specs.SumTables.{IsFlowRefusal}
 use Rattle.market_model.specs.Valued.{passed_at}
 use Rattle.limit_screen.specs.Flows.{carried_at}
+use Rattle.limit_screen.specs.Screening.{taken_rows}
 use Rattle.market_model.proofs.RowMembers.{at_places}
 use Rattle.limit_screen.proofs.ScreenLemmas.{kept, keeps_limit}
 use Rattle.limit_screen.proofs.screening.with_row.Given.{Over}
@@ -51,24 +52,27 @@ is_overrun g c =
     (past.0, past.1 ∙ ap₂ (λ f l. abs_ℚ f -ℚ l) (c.in_ok-flow.ensures.flow ∙ ap (λ (f : Carried). flow_by m f r) c.carried_flows.ensures.is) (c.datum.ensures ∙ ap whole known ∙ c.limit_at.ensures.limit))
 
 pub returns-then-keeps_excess-clause-worst : goal.returns-then-keeps_excess-clause-worst
-returns-then-keeps_excess-clause-worst g c = λ taken rs are before.
+returns-then-keeps_excess-clause-worst g c = λ rs before.
     let m = c.args.market.now in
+    let taken = taken_rows m c.args.taken in
     let r = c.args.row in
     let f = flow_by m (carried_at m (map g.N.Exact.value c.args.flows.now)) in
     let past = is_overrun g (goal.at.returns-then-keeps_excess-clause-worst g c).After-keeps_excess in
-    kept g.N.Exact.value m taken f rs r c.args.worst before (c.if-keeps_excess.ensures taken (f r) are past.1)
+    kept g.N.Exact.value m taken f rs r c.args.worst before (c.if-keeps_excess.ensures (f r) past.1)
 
 pub returns-else-keeps_excess-clause-worst : goal.returns-else-keeps_excess-clause-worst
-returns-else-keeps_excess-clause-worst g c = λ taken rs are before.
+returns-else-keeps_excess-clause-worst g c = λ rs before.
     let m = c.args.market.now in
+    let taken = taken_rows m c.args.taken in
     let r = c.args.row in
     let f = flow_by m (carried_at m (map g.N.Exact.value c.args.flows.now)) in
     let past = is_overrun g (goal.at.returns-else-keeps_excess-clause-worst g c).After-keeps_excess in
-    c.worse.ensures m taken f rs before (c.if-keeps_excess.ensures taken (f r) are past.1) past.1
+    c.worse.ensures m taken f rs before (c.if-keeps_excess.ensures (f r) past.1) past.1
 
 pub returns-in-None-clause-worst : goal.returns-in-None-clause-worst
-returns-in-None-clause-worst g c = λ taken rs are before.
+returns-in-None-clause-worst g c = λ rs before.
     let m = c.args.market.now in
+    let taken = taken_rows m c.args.taken in
     let r = c.args.row in
     let f = carried_at m (map g.N.Exact.value c.args.flows.now) in
     let known : to_z w64 (of_z w64 c.limit_at.result) ≡ c.limit_at.result = to_z-of_z w64 c.limit_at.result (record { sfits = c.limit_at.type_inv }) in

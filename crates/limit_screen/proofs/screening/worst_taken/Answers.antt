@@ -3,7 +3,7 @@ use Rattle.market_model.specs.LimitRows.{flow_by}
 use Rattle.market_model.specs.declared.limits.Row.{Row}
 use Rattle.limit_rows.proofs.WalkLemmas.{all_taken, taken_listed}
 use Rattle.limit_screen.specs.Flows.{carried_at}
-use Rattle.limit_screen.specs.Screening.{IsWorstOf}
+use Rattle.limit_screen.specs.Screening.{IsWorstOf, taken_rows}
 use Rattle.limit_screen.proofs.ScreenLemmas.{all_keep_by}
 use Rattle.limit_screen.proofs.screening.worst_taken.Goals as goal
 
@@ -12,7 +12,7 @@ with_row_by_parts-requires-clause-row g c =
     taken_listed c.args.market.now _ _ _ c.loop-row.yielded (c.into_iter-row-iterator.ensures.into_iter_gives ∙ c.rows-row-items.ensures.rows) c.loop-row.yielded_by c.next.result c.in-Some.row c.in-Some.is c.next.ensures.steps
 
 pub loop-row-preserved : goal.loop-row-preserved
-loop-row-preserved g c = λ taken are. c.in_ok-worst.ensures.worst taken c.loop-row.yielded are (c.loop-row.invariant taken are)
+loop-row-preserved g c = c.in_ok-worst.ensures.worst c.loop-row.yielded c.loop-row.invariant
 
 pub returns-in_err-worst-clause-cause : goal.returns-in_err-worst-clause-cause
 returns-in_err-worst-clause-cause g c =
@@ -22,17 +22,19 @@ returns-in_err-worst-clause-cause g c =
     rw given (c.in-Some.row, listed, c.in_err-worst.ensures.cause)
 
 pub returns-in-Some-worst-clause-worst : goal.returns-in-Some-worst-clause-worst
-returns-in-Some-worst-clause-worst g c = λ taken are.
+returns-in-Some-worst-clause-worst g c =
     let m = c.args.market.now in
+    let taken = taken_rows m c.args.taken in
     let f = carried_at m (map g.N.Exact.value c.args.flows.now) in
     let all = all_taken m _ _ _ c.loop-row.yielded (c.into_iter-row-iterator.ensures.into_iter_gives ∙ c.rows-row-items.ensures.rows) c.loop-row.yielded_by c.next.result c.in-None.is c.next.ensures.steps in
-    let some = rw c.in-Some-worst.is at c.loop-row.invariant taken are in
+    let some = rw c.in-Some-worst.is at c.loop-row.invariant in
     (subst (λ (rs : List Row). IsWorstOf g.N.Exact.value m taken (flow_by m f) rs (Some c.in-Some-worst.broken)) all some).0
 
 pub returns-in-None-worst-clause-worst : goal.returns-in-None-worst-clause-worst
-returns-in-None-worst-clause-worst g c = λ taken are.
+returns-in-None-worst-clause-worst g c =
     let m = c.args.market.now in
+    let taken = taken_rows m c.args.taken in
     let f = carried_at m (map g.N.Exact.value c.args.flows.now) in
     let all = all_taken m _ _ _ c.loop-row.yielded (c.into_iter-row-iterator.ensures.into_iter_gives ∙ c.rows-row-items.ensures.rows) c.loop-row.yielded_by c.next.result c.in-None.is c.next.ensures.steps in
-    let none = rw c.in-None-worst.is at c.loop-row.invariant taken are in
+    let none = rw c.in-None-worst.is at c.loop-row.invariant in
     all_keep_by m taken f (subst (λ (rs : List Row). IsWorstOf g.N.Exact.value m taken (flow_by m f) rs None) all none)
