@@ -80,7 +80,7 @@ pub fn own<N: Exact>(
     Ok(())
 }
 
-/// The same in a vector of their own.
+/// What `own` puts, in a vector of its own.
 pub fn own_prices<N: Exact>(
     alloc: Global,
     market: &Market,
