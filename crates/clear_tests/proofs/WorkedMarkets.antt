@@ -1,23 +1,19 @@
--- The market of the tests is one, and the limit of its branch 2 in the base is a row of it.
-use Rattle.std.specs.Prelude.{◌≡◌, ℕ, ◌<◌, ◌≤◌, ℤ, pos, List, [], ◌∷◌, Contains, Some, None, slice_index_or, refl}
-use Rattle.std.proofs.Common.{zero, suc, arith, inl, inr, subst}
+-- The market of the tests is one.
+use Rattle.std.specs.Prelude.{ℕ, ◌<◌, ◌≤◌, ℤ, pos, [], ◌∷◌, Some, None, slice_index_or}
+use Rattle.std.proofs.Common.{zero, suc, arith}
 use Rattle.std.proofs.lemmas.Int.{ints}
-use Rattle.std.proofs.lemmas.List.Elements.{All-cons, All-nil, Contains-push_cases}
+use Rattle.std.proofs.lemmas.List.Elements.{All-cons, All-nil}
 use Rattle.market_data.specs.Participants.{IsBus, IsUnit}
 use Rattle.market_data.specs.declared.participants.Unit as unit
 use Rattle.market_model.proofs.PlainMarkets.{is_no_reserve, no_unit_outages}
-use Rattle.market_model.specs.declared.limits.Cause.TheVariants.{Base}
-use Rattle.market_model.specs.declared.limits.Row.{Row}
 use Rattle.market_model.specs.declared.participants.Line.{Line}
 use Rattle.market_model.specs.declared.participants.Parts.{Parts}
 use Rattle.market_model.specs.declared.participants.Side.TheVariants.{Sell, Buy}
-use Rattle.market_model.specs.LimitRows.{rows}
 use Rattle.market_model.specs.Lines.{hard_line, IsPenalty}
 use Rattle.market_model.specs.Market.{IsMarket, IsBlock, IsLine, HasRoom}
 use Rattle.market_model.specs.Stairs.{stair_in}
 use Rattle.market_model.proofs.LinePenalties.{hard_is_line, no_cost}
 use Rattle.limit_rows.proofs.TestMarkets.{losses, one_is_market, shifts}
-use Rattle.limit_screen.specs.Screening.{AreNamesOf}
 use Rattle.clear_tests.specs.Worked.{block_of, blocks, bus_of, participants, unit_of}
 
 abbrev line_free : ℕ → Line
@@ -92,20 +88,3 @@ worked_is_market price excess penalty = record {
     rows_rise (suc i) zero d p q = absurd (Prim.omega (arith, p))
     rows_rise (suc i) (suc zero) d p q = absurd (Prim.omega (arith, p))
     rows_rise (suc i) (suc (suc j)) d p q = absurd (Prim.omega (arith, q))
-
--- the limit of branch 2 in the base
-abbrev pub base_row : Row
-base_row = record { line = 1; cause = Base }
-
-pub base_is_named : (price excess : ℤ) → AreNamesOf (worked price excess) (base_row ∷ []) (record { branch = 2; outage = 0; unit = 0 } ∷ [])
-unfolding rows
-base_is_named price excess = (among, refl)
-  where
-    stands : Contains (rows (worked price excess)) base_row
-    stands = (0, Prim.omega arith, refl)
-
-    among : (r : Row) → Contains (base_row ∷ []) r → Contains (rows (worked price excess)) r
-    among r k = elim (Contains-push_cases [] base_row r k) [
-      | inl n ↦ absurd (Prim.omega (arith, n.1))
-      | inr e ↦ subst (Contains (rows (worked price excess))) e stands
-    ]

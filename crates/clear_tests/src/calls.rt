@@ -1,13 +1,11 @@
 //! Calls that a clear does not make in this form: the prices of duals, the worst limit by its name, and a settlement that makes its
 //! flows. In the market bus prices are 10, 30 and 40, and the rent is all of the surplus.
 
-ghost use Rattle.std.specs.Prelude.{◌≤ℤ◌, pos, List, [], ◌∷◌, IfOk};
+ghost use Rattle.std.specs.Prelude.{◌≤ℤ◌, pos, IfOk};
 ghost use Rattle.clear_loop.specs.Keeping.{FitsFrame};
-ghost use Rattle.limit_screen.specs.Screening.{AreNamesOf};
 ghost use Rattle.market_model.specs.Fitting.{FitsMarket};
 ghost use Rattle.market_model.specs.RightAnswers.{IsRight};
 ghost use Rattle.market_model.specs.Valued.{answer_at};
-ghost use Rattle.market_model.specs.declared.limits.Row.{Row};
 
 use crate::worked::{are, are_prices, has_taken, is_answer, limit, limited, soft};
 use bus_prices::prices;
@@ -28,6 +26,13 @@ const MONEY_ONE: i64 = MW_ONE * PRICE_ONE;
 /// The limit of branch 2 in the base.
 const IN_THE_BASE: RowId = RowId {
     branch: 2,
+    outage: 0,
+    unit: 0,
+};
+
+/// A name that no limit of the market has.
+const OF_NO_ROW: RowId = RowId {
+    branch: 4,
     outage: 0,
     unit: 0,
 };
@@ -145,9 +150,7 @@ fn worst_at<N: Exact + Debug>(
     taken: &[RowId],
     first: N,
     second: N,
-) -> Result<Option<RowId>, Fail>
-    requires { (g : List Row) × AreNamesOf market.now g taken.now }
-{
+) -> Result<Option<RowId>, Fail> {
     let mut dispatch = zeros(alloc, market.blocks().len())?;
     if dispatch.len() != 2 {
         return Ok(None);
@@ -160,13 +163,20 @@ fn worst_at<N: Exact + Debug>(
     Ok(worst(market, &by_place, taken)?)
 }
 
-/// With 60 MW of the first unit branch 2 carries 45, and with 50 it carries 40.
+/// With 60 MW of the first unit branch 2 carries 45, and with 50 it carries 40. That a name is taken that no limit has changes nothing.
 fn are_worst<N: Exact + Debug>(alloc: Global, market: &Market) -> Result<bool, Fail> {
     let none = N::of_parts(0, 1);
     let ten = N::of_parts(10 * MW_ONE, 1);
     let broken = worst_at(alloc, market, &[], N::of_parts(60 * MW_ONE, 1), none)?;
+    let stranger = worst_at(
+        alloc,
+        market,
+        &[OF_NO_ROW],
+        N::of_parts(60 * MW_ONE, 1),
+        none,
+    )?;
     let held = worst_at(alloc, market, &[], N::of_parts(50 * MW_ONE, 1), ten)?;
-    Ok(broken == Some(IN_THE_BASE) && held == None)
+    Ok(broken == Some(IN_THE_BASE) && stranger == broken && held == None)
 }
 
 fn worst_limits<N: Exact + Debug>(alloc: Global) -> Result<bool, Fail> {
@@ -179,9 +189,7 @@ fn worst_limits<N: Exact + Debug>(alloc: Global) -> Result<bool, Fail> {
 fn worst_where_soft<N: Exact + Debug>(
     alloc: Global,
     market: &Market,
-) -> Result<(Option<RowId>, Option<RowId>), Fail>
-    requires { (g : List Row) × AreNamesOf market.now g (record { branch = 2; outage = 0; unit = 0 } ∷ []) }
-{
+) -> Result<(Option<RowId>, Option<RowId>), Fail> {
     let all = N::of_parts(60 * MW_ONE, 1);
     let none = N::of_parts(0, 1);
     let taken = worst_at(alloc, market, &[IN_THE_BASE], all, none)?;

@@ -2,10 +2,8 @@
 //! branch 2 with a limit of 40 in the base and one after the loss of branch 1, all of whose flow goes over to it, that is far off. The
 //! limit in the base may give way.
 
-ghost use Rattle.std.specs.Prelude.{◌≡◌, pos, List, [], ◌∷◌, None, Some, IfOk};
-ghost use Rattle.limit_screen.specs.Screening.{AreNamesOf};
+ghost use Rattle.std.specs.Prelude.{◌≡◌, pos, [], ◌∷◌, None, Some, IfOk};
 ghost use Rattle.market_model.specs.Lines.{hard_line, IsPenalty};
-ghost use Rattle.market_model.specs.declared.limits.Row.{Row};
 ghost use Rattle.offer_book.specs.Edits.{number_of};
 ghost use Rattle.clear_tests.specs.Worked.{participants};
 
@@ -164,7 +162,6 @@ fn participants(alloc: Global) -> Result<Parts, Memory>
 /// The market with these branches.
 pub(crate) fn soft(alloc: Global, price: i64, excess: i64) -> Result<Market, Memory>
     requires { IsPenalty price excess }
-    ensures { IfOk result (λ market. (g : List Row) × AreNamesOf market g (record { branch = 2; outage = 0; unit = 0 } ∷ [])) }
 {
     let lines = lines(alloc, price, excess)?;
     let outages = listed(alloc, &[1])?;

@@ -8,9 +8,6 @@ pub flows-requires-clause-out : goal.flows-requires-clause-out
 flows-requires-clause-out g c =
     omega (arith, c.deref_mut.ensures.len, c.in_ok-by_place.ensures.count, c.len-3.ensures, c.len-4.ensures, c.len-5.ensures, ap length c.buses.ensures.list, ap length c.lines.ensures.list, ap length c.unit_outages.ensures.list)
 
-pub worst-requires-clause-flows : goal.worst-requires-clause-flows
-worst-requires-clause-flows g c =
+pub worst-requires : goal.worst-requires
+worst-requires g c =
     omega (arith, c.deref-2.ensures.len, c.deref_mut.ensures.len, c.in_ok-flows.ensures.count, c.in_ok-by_place.ensures.count, c.len-3.ensures, c.len-4.ensures, c.len-5.ensures, ap length c.buses.ensures.list, ap length c.lines.ensures.list, ap length c.unit_outages.ensures.list)
-
-pub worst-requires-clause-taken : goal.worst-requires-clause-taken
-worst-requires-clause-taken g c = c.requires
