@@ -18,6 +18,8 @@ use Rattle.market_system.specs.Growth.{Growth}
 use Rattle.market_system.specs.Outcomes.{IsClear, IsDecided}
 use Rattle.market_system.specs.WorkingPairs.{NoPairPasses}
 use Rattle.market_system.proofs.Completeness.{law_of_completeness}
+use Rattle.market_dict.specs.Takings.{limits_of}
+use Rattle.market_dict.specs.declared.taking.Taking.{Taking}
 use Rattle.clear_loop.specs.Keeping.{cold}
 use Rattle.offer_book.specs.Edits.{step_of}
 use Rattle.edit_table.specs.EditTable.{IsStep}
@@ -99,8 +101,8 @@ module _ (m : Parts) (o q : Outcome Fraction) where
       let here : q ≡ o = cc same in
       subst (IsDecided m) here (law_of_completeness m before bound q market none is.right)
 
-are_decided : (bound : ℕ) (m : Parts) (before after : List Row) (steps : List Step) (outcomes : List (StepOutcome Fraction)) → IsMarket m → All IsStep steps
-    → NoPairPassesIn m before steps bound → IsReplay bound m before steps outcomes after → AreDecided m steps outcomes
+are_decided : (bound : ℕ) (m : Parts) (before after : List Taking) (steps : List Step) (outcomes : List (StepOutcome Fraction)) → IsMarket m → All IsStep steps
+    → NoPairPassesIn m (limits_of before) steps bound → IsReplay bound m before steps outcomes after → AreDecided m steps outcomes
 are_decided bound m before after [] [] market data_ok none replay k o is = cc is
 are_decided bound m before after [] (p ∷ outcomes) market data_ok none replay k o is = absurd replay
 are_decided bound m before after (s ∷ steps) [] market data_ok none replay k o is = absurd replay
@@ -109,15 +111,15 @@ are_decided bound m before after (edit.Edit e ∷ steps) (step.Accepted ∷ outc
 are_decided bound m before after (edit.Edit e ∷ steps) (step.Refused f ∷ outcomes) market data_ok none replay zero o is = cc is
 are_decided bound m before after (edit.Edit e ∷ steps) (step.Accepted ∷ outcomes) market data_ok none replay (suc k) o is =
     are_decided bound (step_of m e) replay.0 after steps outcomes (steps_market m (edit.Edit e ∷ []) market (All-take IsStep 1 (edit.Edit e ∷ steps) data_ok)) (All-tail IsStep (edit.Edit e) steps data_ok)
-    (subst (λ (g : List Row). NoPairPassesIn (step_of m e) g steps bound) (sym replay.1.1) none) replay.2 k o is
+    (subst (λ (g : List Taking). NoPairPassesIn (step_of m e) (limits_of g) steps bound) (sym replay.1.1) none) replay.2 k o is
 are_decided bound m before after (edit.Edit e ∷ steps) (step.Refused f ∷ outcomes) market data_ok none replay (suc k) o is =
     are_decided bound (step_of m e) replay.0 after steps outcomes (steps_market m (edit.Edit e ∷ []) market (All-take IsStep 1 (edit.Edit e ∷ steps) data_ok)) (All-tail IsStep (edit.Edit e) steps data_ok)
-    (subst (λ (g : List Row). NoPairPassesIn (step_of m e) g steps bound) (sym replay.1.1) none) replay.2 k o is
+    (subst (λ (g : List Taking). NoPairPassesIn (step_of m e) (limits_of g) steps bound) (sym replay.1.1) none) replay.2 k o is
 are_decided bound m before after (edit.Clear ∷ steps) (step.Accepted ∷ outcomes) market data_ok none replay k o is = absurd replay.1
 are_decided bound m before after (edit.Clear ∷ steps) (step.Refused f ∷ outcomes) market data_ok none replay k o is = absurd replay.1
-are_decided bound m before after (edit.Clear ∷ steps) (step.Clear q ∷ outcomes) market data_ok none replay zero o is = decided_first m o q bound before replay.0 market none.0 replay.1 is
+are_decided bound m before after (edit.Clear ∷ steps) (step.Clear q ∷ outcomes) market data_ok none replay zero o is = decided_first m o q bound (limits_of before) (limits_of replay.0) market none.0 replay.1.0 is
 are_decided bound m before after (edit.Clear ∷ steps) (step.Clear q ∷ outcomes) market data_ok none replay (suc k) o is =
-    are_decided bound m replay.0 after steps outcomes market (All-tail IsStep edit.Clear steps data_ok) (none.1 replay.0 (left_grown bound m before replay.0 q none.0 replay.1)) replay.2 k o is
+    are_decided bound m replay.0 after steps outcomes market (All-tail IsStep edit.Clear steps data_ok) (none.1 (limits_of replay.0) (left_grown bound m (limits_of before) (limits_of replay.0) q none.0 replay.1.0)) replay.2 k o is
 
 -- ---- a replay as it is told
 module _ {N : Type 0} (value : N → Fraction) (bound : ℕ) (fits : (x : N) → (unsigned_abs (value x).num ≤ bound) × ((value x).den ≤ bound)) where
@@ -138,17 +140,17 @@ module _ {N : Type 0} (value : N → Fraction) (bound : ℕ) (fits : (x : N) →
 
   pub replays_to : (m : Parts) (steps : List Step) (start now : SessionState) (outcomes : List (StepOutcome N)) (t : Telling) → start ≡ record { market = m; kept = cold }
       → IsMarket m → All IsStep steps
-      → IsReplay bound start.market start.kept.taken.rows steps (map (step_outcome_at value) outcomes) now.kept.taken.rows
+      → IsReplay bound start.market start.kept.taken.takings steps (map (step_outcome_at value) outcomes) now.kept.taken.takings
       → TellsSteps bound m steps (map (step_outcome_at value) outcomes) t → ReplaysTo bound m steps t
   replays_to m steps start now outcomes t is market data_ok replay told =
-      let right : IsReplay bound m [] steps (map (step_outcome_at value) outcomes) now.kept.taken.rows =
-      subst (λ (s : SessionState). IsReplay bound s.market s.kept.taken.rows steps (map (step_outcome_at value) outcomes) now.kept.taken.rows) is replay in
+      let right : IsReplay bound m [] steps (map (step_outcome_at value) outcomes) now.kept.taken.takings =
+      subst (λ (s : SessionState). IsReplay bound s.market s.kept.taken.takings steps (map (step_outcome_at value) outcomes) now.kept.taken.takings) is replay in
       record {
         outcomes = map (step_outcome_at value) outcomes;
-        taken = now.kept.taken.rows;
+        taken = now.kept.taken.takings;
         right = right;
         sides = all_within outcomes;
         markets = λ k. steps_market m (take k steps) market (All-take IsStep k steps data_ok);
-        decided = λ none. are_decided bound m [] now.kept.taken.rows steps (map (step_outcome_at value) outcomes) market data_ok none right;
+        decided = λ none. are_decided bound m [] now.kept.taken.takings steps (map (step_outcome_at value) outcomes) market data_ok none right;
         told = told;
       }

@@ -12,6 +12,8 @@ use Rattle.market_model.specs.declared.participants.Parts.{Parts}
 use Rattle.market_model.specs.Frame.{SameFrame}
 use Rattle.market_model.specs.Market.{IsMarket}
 use Rattle.market_system.specs.Outcomes.{IsRightOutcome}
+use Rattle.market_dict.specs.Takings.{limits_of}
+use Rattle.market_dict.specs.declared.taking.Taking.{Taking}
 use Rattle.cert_format.specs.declared.certificate.Cert.{Cert}
 use Rattle.cert_format.specs.Certificates.{NumbersFit, RowsAreDistinct, cert_against, cert_of, cert_of_outcome, most_part}
 use Rattle.cert_format.specs.Grammar.{cert_read}
@@ -102,7 +104,7 @@ clear_first bound m taken steps prior q o right (inl (is, all)) =
     inr (record { front = []; rest = steps; steps_are = refl; last = all; taken = taken; right = subst (IsRightOutcome bound m taken) same right })
 clear_first bound m taken steps prior q o right (inr h) = inr (behind bound m edit.Clear steps o h)
 
-last_of : (bound : ℕ) (m : Parts) (before after : List Row) (steps : List Step) (outcomes : List (StepOutcome Fraction)) (prior : Option (Outcome Fraction)) (o : Outcome Fraction)
+last_of : (bound : ℕ) (m : Parts) (before after : List Taking) (steps : List Step) (outcomes : List (StepOutcome Fraction)) (prior : Option (Outcome Fraction)) (o : Outcome Fraction)
     → IsReplay bound m before steps outcomes after → last_clear prior outcomes ≡ Some o → LastOr bound m steps prior o
 last_of bound m before after [] [] prior o replay is = inl (sym (last_none prior) ∙ is, All-nil IsEdit)
 last_of bound m before after [] (p ∷ outcomes) prior o replay is = absurd replay
@@ -115,7 +117,7 @@ last_of bound m before after (edit.Edit e ∷ steps) (step.Refused f ∷ outcome
 last_of bound m before after (edit.Clear ∷ steps) (step.Accepted ∷ outcomes) prior o replay is = absurd replay.1
 last_of bound m before after (edit.Clear ∷ steps) (step.Refused f ∷ outcomes) prior o replay is = absurd replay.1
 last_of bound m before after (edit.Clear ∷ steps) (step.Clear q ∷ outcomes) prior o replay is =
-    clear_first bound m before steps prior q o replay.1.right (last_of bound m replay.0 after steps outcomes (Some q) o replay.2 (sym (last_first prior (step.Clear q) outcomes) ∙ is))
+    clear_first bound m (limits_of before) steps prior q o replay.1.0.right (last_of bound m replay.0 after steps outcomes (Some q) o replay.2 (sym (last_first prior (step.Clear q) outcomes) ∙ is))
 
 module _ (r : MarketSteps) (t : Telling) (text : List ℕ) (replays : ReplaysTo most_part r.market r.steps t) where
   -- the certificate of an outcome of a market, and its text: edits change neither how many places factors have nor whether reserve is listed

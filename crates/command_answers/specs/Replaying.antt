@@ -8,6 +8,7 @@ use Rattle.market_model.specs.Market.{IsMarket}
 use Rattle.market_system.specs.Growth.{Growth}
 use Rattle.market_system.specs.Outcomes.{IsDecided}
 use Rattle.market_system.specs.WorkingPairs.{NoPairPasses}
+use Rattle.market_dict.specs.declared.taking.Taking.{Taking}
 use Rattle.cert_format.specs.Certificates.{NumbersFit, cert_of_outcome, most_part}
 use Rattle.cert_format.specs.Written.{certificate_of}
 use Rattle.offer_book.specs.Edits.{step_of}
@@ -80,11 +81,11 @@ pub record TellsSteps (bound : ℕ) (m : Parts) (steps : List Step) (outcomes : 
   pub certificate_fits : IfSome (option_and_then (cert_of_outcome m.factor_places m.reserve.listed) (last_clear None outcomes)) (NumbersFit bound)
 
 -- What is told is that of right outcomes, one for each step: those of edits as the market stands then, and those of clears of the market
--- as it is edited by then, with no limits taken before the first; each of these is a market. Each clear is decided, where no working pair
--- passes the bound at any. The certificate is that of the last clear, and its numbers are within their bounds.
+-- as it is edited by then, with no limits and no rooms taken before the first; each of these is a market. Each clear is decided, where no
+-- working pair passes the bound at any. The certificate is that of the last clear, and its numbers are within their bounds.
 pub record ReplaysTo (bound : ℕ) (m : Parts) (steps : List Step) (t : Telling) : Type 0 where
   pub outcomes : List (StepOutcome Fraction)
-  pub taken : List Row
+  pub taken : List Taking
   pub right : IsReplay bound m [] steps outcomes taken
   pub sides : All (AreStepSidesWithin bound) outcomes
   pub markets : (k : ℕ) → IsMarket (edited_by m (take k steps))

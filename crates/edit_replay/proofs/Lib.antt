@@ -1,3 +1,4 @@
 pub mod FrameLemmas
+pub mod KeptLemmas
 pub mod ReplayLemmas
 pub mod ReplayLawProofs

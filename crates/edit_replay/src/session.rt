@@ -7,11 +7,12 @@ ghost use Rattle.market_model.specs.Fitting.{FitsOutcome};
 ghost use Rattle.market_model.specs.Frame.{SameFrame};
 ghost use Rattle.market_model.specs.Valued.{outcome_at};
 ghost use Rattle.market_system.specs.Outcomes.{IsClear};
+ghost use Rattle.market_dict.specs.Takings.{limits_of};
 ghost use Rattle.offer_book.specs.Edits.{answer, judge, number_of, step_of};
 ghost use Rattle.edit_table.specs.EditTable.{IsStep};
 ghost use Rattle.clear_loop.specs.Clearing.{KeepsAfter, TakesAfter};
 ghost use Rattle.clear_loop.specs.Keeping.{FitsFrame, cold};
-ghost use Rattle.edit_replay.specs.Replays.{FitsStep, IsEditedPart, IsReplay, IsReply, edited_by, stepped, step_outcome_at};
+ghost use Rattle.edit_replay.specs.Replays.{FitsStep, IsEditedPart, IsReplay, IsReply, KeepsStep, KeepsSteps, edited_by, stepped, step_outcome_at};
 
 use crate::step_outcome::{Outcomes, StepOutcome, replied};
 use clear_loop::{Clearer, outcome};
@@ -22,8 +23,8 @@ use offer_book::{Edit, EditFault, edit};
 use std::alloc::Global;
 use std::marker::Model;
 
-/// A market with what clears of it leave for the next one. Each clear starts from the limits that the one before it took, whatever edits
-/// came between.
+/// A market with what clears of it leave for the next one. Each clear starts from the limits and rooms that the one before it took, whatever
+/// edits came between.
 #[derive(Drop)]
 pub struct Session<N: Exact> {
     market: Market,
@@ -42,7 +43,7 @@ impl<N: Exact> Model for Session<N> {
 }
 
 impl<N: Exact> Session<N> {
-    /// Nothing is kept yet, so the first clear starts without limits.
+    /// Nothing is kept yet, so the first clear starts without limits and rooms.
     pub fn new(market: Market) -> Session<N>
         ensures { result ≡ record { market = market; kept = cold } }
     {
@@ -77,9 +78,10 @@ impl<N: Exact> Session<N> {
 
     /// Clears the market as it is now, from the limits and rooms that the clear before took. After an answer, and where nothing is feasible,
     /// those taken are kept; where numbers became too large, or memory was refused, nothing is, and the next clear starts without any.
+    #[tactic(auto, using(crate::proofs::KeptLemmas::comes_by_limits))]
     pub fn clear(&mut self, alloc: Global) -> Result<Outcome<N>, Memory>
         ensures market { self.new.market ≡ self.old.market }
-        ensures clear { IfOk result (λ outcome. IsClear N.bound self.old.market self.old.kept.taken.rows (outcome_at N.value outcome) self.new.kept.taken.rows) }
+        ensures clear { IfOk result (λ outcome. IsClear N.bound self.old.market (limits_of self.old.kept.taken.takings) (outcome_at N.value outcome) (limits_of self.new.kept.taken.takings)) }
         ensures fits { IfOk result (FitsOutcome self.old.market) }
         ensures takings { IfOk result (λ outcome. TakesAfter self.old.market self.old.kept.taken.takings outcome self.new.kept.taken.takings) }
         ensures kept { IfOk result (λ outcome. KeepsAfter outcome self.new.kept) }
@@ -89,11 +91,13 @@ impl<N: Exact> Session<N> {
     }
 
     /// Does one step.
+    #[tactic(auto, using(crate::proofs::KeptLemmas::takes_at))]
     fn step(&mut self, alloc: Global, step: &Step) -> Result<StepOutcome<N>, Memory>
         requires { IsStep step.now }
-        ensures reply { IfOk result (λ outcome. IsReply N.bound self.old.market self.old.kept.taken.rows step.now (step_outcome_at N.value outcome) self.new.kept.taken.rows) }
+        ensures reply { IfOk result (λ outcome. IsReply N.bound self.old.market self.old.kept.taken.takings step.now (step_outcome_at N.value outcome) self.new.kept.taken.takings) }
         ensures market { IfOk result (λ _. self.new.market ≡ stepped self.old.market step.now) }
         ensures fits { IfOk result (FitsStep self.old.market) }
+        ensures kept { IfOk result (λ outcome. KeepsStep self.old.kept outcome self.new.kept) }
         ensures memory { IfErr result (λ _. self.new.market ≡ self.old.market) }
     {
         match step {
@@ -105,9 +109,10 @@ impl<N: Exact> Session<N> {
     /// Does steps in their order, as long as there is memory.
     fn all_steps(&mut self, alloc: Global, steps: &Steps) -> Result<Outcomes<N>, Memory>
         requires { All IsStep steps.now }
-        ensures replay { IfOk result (λ outcomes. IsReplay N.bound self.old.market self.old.kept.taken.rows steps.now (map (step_outcome_at N.value) outcomes) self.new.kept.taken.rows) }
+        ensures replay { IfOk result (λ outcomes. IsReplay N.bound self.old.market self.old.kept.taken.takings steps.now (map (step_outcome_at N.value) outcomes) self.new.kept.taken.takings) }
         ensures market { IfOk result (λ _. self.new.market ≡ edited_by self.old.market steps.now) }
         ensures fits { IfOk result (λ outcomes. (m : Parts) → SameFrame self.old.market m → All (FitsStep m) outcomes) }
+        ensures kept { IfOk result (λ outcomes. KeepsSteps self.old.kept outcomes self.new.kept) }
         ensures memory { IfErr result (λ _. IsEditedPart self.old.market steps.now self.new.market) }
     {
         let mut outcomes = List::new(alloc);
@@ -127,15 +132,16 @@ impl<N: Exact> Session<N> {
 
     /// Does steps in their order. A refused edit ends nothing, nor does a clear in which nothing is feasible or numbers become too large.
     /// Where memory is refused, the session holds the market after the first of the steps, up to some place, and the next clear starts
-    /// without limits.
+    /// without limits and rooms.
     pub fn replay(&mut self, alloc: Global, steps: &Steps) -> Result<Outcomes<N>, Memory>
         requires { All IsStep steps.now }
-        ensures replay { IfOk result (λ outcomes. IsReplay N.bound self.old.market self.old.kept.taken.rows steps.now (map (step_outcome_at N.value) outcomes) self.new.kept.taken.rows) }
+        ensures replay { IfOk result (λ outcomes. IsReplay N.bound self.old.market self.old.kept.taken.takings steps.now (map (step_outcome_at N.value) outcomes) self.new.kept.taken.takings) }
         ensures count { IfOk result (λ outcomes. length outcomes ≡ length steps.now) }
         ensures market { IfOk result (λ _. self.new.market ≡ edited_by self.old.market steps.now) }
         ensures frame { SameFrame self.old.market self.new.market }
         // An answer fits the market that it is of, and every other one of the session's frame.
         ensures fits { IfOk result (λ outcomes. (m : Parts) → SameFrame self.old.market m → All (FitsStep m) outcomes) }
+        ensures kept { IfOk result (λ outcomes. KeepsSteps self.old.kept outcomes self.new.kept) }
         ensures memory { IfErr result (λ _. IsEditedPart self.old.market steps.now self.new.market) }
         ensures dropped { IfErr result (λ _. self.new.kept ≡ cold) }
     {

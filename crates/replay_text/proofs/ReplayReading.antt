@@ -4,7 +4,7 @@ use Rattle.std.proofs.Common.{arith, ap, sym, ◌∙◌, append_assoc}
 use Rattle.std.proofs.lemmas.List.{append_cancel_left}
 use Rattle.fraction_theory.specs.Fraction.{Fraction}
 use Rattle.market_model.specs.declared.participants.Parts.{Parts}
-use Rattle.market_model.specs.declared.limits.Row.{Row}
+use Rattle.market_dict.specs.declared.taking.Taking.{Taking}
 use Rattle.offer_book.specs.declared.edit_parts.EditFault.{EditFault}
 use Rattle.edit_table.specs.declared.Step.{Step}
 use Rattle.edit_table.specs.declared.Step.TheVariants as step
@@ -81,15 +81,15 @@ replays_read_apart m [] (o ∷ outcomes) others none l e = absurd none
 replays_read_apart m (s ∷ steps) outcomes others k l e = steps_apart 1 m (s ∷ steps) outcomes others k l e
 
 -- ---- right outcomes fit
-reply_fits : (bound : ℕ) (m : Parts) (before after : List Row) (s : Step) (o : StepOutcome Fraction) → IsReply bound m before s o after → StepOutcomeFits m o
+reply_fits : (bound : ℕ) (m : Parts) (before after : List Taking) (s : Step) (o : StepOutcome Fraction) → IsReply bound m before s o after → StepOutcomeFits m o
 reply_fits bound m before after (step.Edit e) reply.Accepted is = tt
 reply_fits bound m before after (step.Edit e) (reply.Refused f) is = tt
 reply_fits bound m before after (step.Edit e) (reply.Clear o) none = absurd none
 reply_fits bound m before after step.Clear reply.Accepted none = absurd none
 reply_fits bound m before after step.Clear (reply.Refused f) none = absurd none
-reply_fits bound m before after step.Clear (reply.Clear o) is = outcome_fits _ m o is.right
+reply_fits bound m before after step.Clear (reply.Clear o) is = outcome_fits _ m o is.0.right
 
-pub replay_fits : (bound : ℕ) (m : Parts) (before after : List Row) (steps : List Step) (os : List (StepOutcome Fraction)) → IsReplay bound m before steps os after → OutcomesFit m steps os
+pub replay_fits : (bound : ℕ) (m : Parts) (before after : List Taking) (steps : List Step) (os : List (StepOutcome Fraction)) → IsReplay bound m before steps os after → OutcomesFit m steps os
 replay_fits bound m before after [] [] replay = tt
 replay_fits bound m before after [] (o ∷ os) none = absurd none
 replay_fits bound m before after (s ∷ steps) [] none = absurd none

@@ -5,7 +5,7 @@ use Rattle.market_model.specs.declared.answered.Outcome.{Outcome}
 use Rattle.market_model.specs.declared.participants.Parts.{Parts}
 use Rattle.market_model.specs.Changes.{with_need}
 use Rattle.market_model.specs.Frame.{SameFrame}
-use Rattle.market_model.specs.declared.limits.Row.{Row}
+use Rattle.market_dict.specs.declared.taking.Taking.{Taking}
 use Rattle.edit_table.specs.declared.Step.{Step}
 use Rattle.edit_replay.specs.declared.step_outcome.StepOutcome.{StepOutcome}
 use Rattle.edit_replay.specs.declared.step_outcome.StepOutcome.TheVariants as reply
@@ -39,8 +39,8 @@ ReplaysReadApart = (m : Parts) (steps : List Step) (outcomes others : List (Step
     → OutcomesFit m steps outcomes → OutcomesFit m steps others
     → replayed m steps outcomes ≡ replayed m steps others → outcomes ≡ others
 
--- two replays of the same steps of one market, whatever rows they begin and end with, came to the same where they have one text
+-- two replays of the same steps of one market, whatever limits and rooms they begin and end with, came to the same where they have one text
 abbrev pub ReplaysApart : Type 0
-ReplaysApart = (bound : ℕ) (m : Parts) (before after former latter : List Row) (steps : List Step) (outcomes others : List (StepOutcome Fraction))
+ReplaysApart = (bound : ℕ) (m : Parts) (before after former latter : List Taking) (steps : List Step) (outcomes others : List (StepOutcome Fraction))
     → IsReplay bound m before steps outcomes after → IsReplay bound m former steps others latter
     → replayed m steps outcomes ≡ replayed m steps others → outcomes ≡ others

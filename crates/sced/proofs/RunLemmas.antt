@@ -12,6 +12,8 @@ use Rattle.market_model.specs.declared.limits.Row.{Row}
 use Rattle.market_model.specs.declared.participants.Parts.{Parts}
 use Rattle.market_model.specs.Market.{IsMarket}
 use Rattle.market_system.specs.Outcomes.{IsClear, IsRightOutcome}
+use Rattle.market_dict.specs.Takings.{limits_of}
+use Rattle.market_dict.specs.declared.taking.Taking.{Taking}
 use Rattle.offer_book.specs.Edits.{judge, answer}
 use Rattle.offer_book.specs.declared.edit_parts.Edit.{Edit}
 use Rattle.offer_book.specs.declared.edit_parts.EditFault.{EditFault}
@@ -80,23 +82,23 @@ printed words files text s p = by (p.runs.told (not-silent s p.ended))
     by a = ended a.telling a.written (subst (λ f. AnswersTo f words a.telling a.written) p.files_are a.right) a.ends
 
 -- ---- one step of a replay
--- a clear among the steps, with the rows that it begins and ends with
-pub record IsClearAt (bound : ℕ) (m : Parts) (before : List Row) (steps : List Step) (outcomes : List (StepOutcome Fraction)) (k : ℕ) (o : Outcome Fraction) : Type 0 where
-  pub taken : List Row
+-- a clear among the steps, with the limits and rooms that it begins and ends with
+pub record IsClearAt (bound : ℕ) (m : Parts) (before : List Taking) (steps : List Step) (outcomes : List (StepOutcome Fraction)) (k : ℕ) (o : Outcome Fraction) : Type 0 where
+  pub taken : List Taking
   pub replay : IsReplay bound m before (take k steps) (take k outcomes) taken
-  pub after : List Row
-  pub clear : IsClear bound (edited_by m (take k steps)) taken o after
+  pub after : List Taking
+  pub clear : IsClear bound (edited_by m (take k steps)) (limits_of taken) o (limits_of after)
 
 module _ (bound : ℕ) where
-  clear-here : (m : Parts) (before between : List Row) (s : Step) (x : StepOutcome Fraction) (o : Outcome Fraction) → IsReply bound m before s x between → Some x ≡ Some (reply.Clear o) → IsClear bound m before o between
+  clear-here : (m : Parts) (before between : List Taking) (s : Step) (x : StepOutcome Fraction) (o : Outcome Fraction) → IsReply bound m before s x between → Some x ≡ Some (reply.Clear o) → IsClear bound m (limits_of before) o (limits_of between)
   clear-here m before between (step.Edit e) reply.Accepted o is same = cc same
   clear-here m before between (step.Edit e) (reply.Refused f) o is same = cc same
   clear-here m before between (step.Edit e) (reply.Clear q) o none same = absurd none
   clear-here m before between step.Clear reply.Accepted o none same = absurd none
   clear-here m before between step.Clear (reply.Refused f) o none same = absurd none
-  clear-here m before between step.Clear (reply.Clear q) o is same = let here : q ≡ o = cc same in subst (λ (y : Outcome Fraction). IsClear bound m before y between) here is
+  clear-here m before between step.Clear (reply.Clear q) o is same = let here : q ≡ o = cc same in subst (λ (y : Outcome Fraction). IsClear bound m (limits_of before) y (limits_of between)) here is.0
 
-  pub clear-at : (m : Parts) (before after : List Row) (steps : List Step) (outcomes : List (StepOutcome Fraction)) (k : ℕ) (o : Outcome Fraction)
+  pub clear-at : (m : Parts) (before after : List Taking) (steps : List Step) (outcomes : List (StepOutcome Fraction)) (k : ℕ) (o : Outcome Fraction)
       → IsReplay bound m before steps outcomes after → slice_get outcomes k ≡ Some (reply.Clear o) → IsClearAt bound m before steps outcomes k o
   clear-at m before after [] [] k o replay is = cc is
   clear-at m before after [] (x ∷ outcomes) k o none is = absurd none
@@ -107,7 +109,7 @@ module _ (bound : ℕ) where
       record { taken = rest.taken; replay = (replay.0, replay.1, rest.replay); after = rest.after; clear = rest.clear }
 
   -- each edit among the steps comes to what it is judged to
-  edit-here : (m : Parts) (before between : List Row) (s : Step) (e : Edit) (x : StepOutcome Fraction) → IsReply bound m before s x between → Some s ≡ Some (step.Edit e) → x ≡ outcome_of_edit m e
+  edit-here : (m : Parts) (before between : List Taking) (s : Step) (e : Edit) (x : StepOutcome Fraction) → IsReply bound m before s x between → Some s ≡ Some (step.Edit e) → x ≡ outcome_of_edit m e
   edit-here m before between (step.Edit d) e reply.Accepted is same =
       let here : d ≡ e = cc same in ap (λ (j : Option EditFault). reply_of {N = Fraction} (answer j)) (sym is.0) ∙ ap (outcome_of_edit m) here
   edit-here m before between (step.Edit d) e (reply.Refused f) is same =
@@ -115,7 +117,7 @@ module _ (bound : ℕ) where
   edit-here m before between (step.Edit d) e (reply.Clear o) none same = absurd none
   edit-here m before between step.Clear e x is same = cc same
 
-  pub edit-at : (m : Parts) (before after : List Row) (steps : List Step) (outcomes : List (StepOutcome Fraction)) (k : ℕ) (e : Edit)
+  pub edit-at : (m : Parts) (before after : List Taking) (steps : List Step) (outcomes : List (StepOutcome Fraction)) (k : ℕ) (e : Edit)
       → IsReplay bound m before steps outcomes after → slice_get steps k ≡ Some (step.Edit e) → slice_get outcomes k ≡ Some (outcome_of_edit (edited_by m (take k steps)) e)
   edit-at m before after [] outcomes k e replay is = cc is
   edit-at m before after (s ∷ steps) [] k e none is = absurd none
@@ -123,13 +125,13 @@ module _ (bound : ℕ) where
   edit-at m before after (s ∷ steps) (x ∷ outcomes) (suc k) e replay is = edit-at (stepped m s) replay.0 after steps outcomes k e replay.2 is
 
   -- each clear among the steps has an outcome
-  cleared-here : (m : Parts) (before between : List Row) (s : Step) (x : StepOutcome Fraction) → IsReply bound m before s x between → Some s ≡ Some step.Clear → (o : Outcome Fraction) × (Some x ≡ Some (reply.Clear o))
+  cleared-here : (m : Parts) (before between : List Taking) (s : Step) (x : StepOutcome Fraction) → IsReply bound m before s x between → Some s ≡ Some step.Clear → (o : Outcome Fraction) × (Some x ≡ Some (reply.Clear o))
   cleared-here m before between (step.Edit e) x is same = cc same
   cleared-here m before between step.Clear reply.Accepted none same = absurd none
   cleared-here m before between step.Clear (reply.Refused f) none same = absurd none
   cleared-here m before between step.Clear (reply.Clear o) is same = (o, refl)
 
-  pub cleared-at : (m : Parts) (before after : List Row) (steps : List Step) (outcomes : List (StepOutcome Fraction)) (k : ℕ)
+  pub cleared-at : (m : Parts) (before after : List Taking) (steps : List Step) (outcomes : List (StepOutcome Fraction)) (k : ℕ)
       → IsReplay bound m before steps outcomes after → slice_get steps k ≡ Some step.Clear → (o : Outcome Fraction) × (slice_get outcomes k ≡ Some (reply.Clear o))
   cleared-at m before after [] outcomes k replay is = cc is
   cleared-at m before after (s ∷ steps) [] k none is = absurd none
@@ -137,7 +139,7 @@ module _ (bound : ℕ) where
   cleared-at m before after (s ∷ steps) (x ∷ outcomes) (suc k) replay is = cleared-at (stepped m s) replay.0 after steps outcomes k replay.2 is
 
   -- a refused outcome is that of an edit which is judged so
-  refused-here : (m : Parts) (before between : List Row) (s : Step) (x : StepOutcome Fraction) (f : EditFault) → IsReply bound m before s x between → Some x ≡ Some (reply.Refused f) → (e : Edit) × (Some s ≡ Some (step.Edit e)) × (judge m e ≡ Some f)
+  refused-here : (m : Parts) (before between : List Taking) (s : Step) (x : StepOutcome Fraction) (f : EditFault) → IsReply bound m before s x between → Some x ≡ Some (reply.Refused f) → (e : Edit) × (Some s ≡ Some (step.Edit e)) × (judge m e ≡ Some f)
   refused-here m before between (step.Edit e) reply.Accepted f is same = cc same
   refused-here m before between (step.Edit e) (reply.Refused g) f is same = let here : g ≡ f = cc same in (e, refl, is.0 ∙ ap Some here)
   refused-here m before between (step.Edit e) (reply.Clear o) f none same = absurd none
@@ -145,7 +147,7 @@ module _ (bound : ℕ) where
   refused-here m before between step.Clear (reply.Refused g) f none same = absurd none
   refused-here m before between step.Clear (reply.Clear o) f is same = cc same
 
-  pub refused-at : (m : Parts) (before after : List Row) (steps : List Step) (outcomes : List (StepOutcome Fraction)) (k : ℕ) (f : EditFault)
+  pub refused-at : (m : Parts) (before after : List Taking) (steps : List Step) (outcomes : List (StepOutcome Fraction)) (k : ℕ) (f : EditFault)
       → IsReplay bound m before steps outcomes after → slice_get outcomes k ≡ Some (reply.Refused f) → (e : Edit) × (slice_get steps k ≡ Some (step.Edit e)) × (judge (edited_by m (take k steps)) e ≡ Some f)
   refused-at m before after [] [] k f replay is = cc is
   refused-at m before after [] (x ∷ outcomes) k f none is = absurd none
@@ -207,9 +209,9 @@ module _ (words : List (List ℕ)) (files : Files) (text : List ℕ) (m : Parts)
       let here = clear-at most_part start [] replays.taken steps outcomes k o right at in
       record {
         market = subst IsMarket (sym edited) (replays.markets k);
-        taken = here.taken;
+        taken = limits_of here.taken;
         begins = in_replay start steps outcomes k here.taken asks fits text_is edited here.replay;
-        right = subst (λ (n : Parts). IsRightOutcome most_part n here.taken o) (sym edited) here.clear.right;
+        right = subst (λ (n : Parts). IsRightOutcome most_part n (limits_of here.taken) o) (sym edited) here.clear.right;
         sides = sides-at most_part outcomes k o (subst (All (AreStepSidesWithin most_part)) same replays.sides) at;
       }
 

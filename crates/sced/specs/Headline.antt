@@ -28,6 +28,8 @@ use Rattle.market_model.specs.Settlement.{rent}
 use Rattle.market_model.specs.Valued.{total_at}
 use Rattle.market_system.specs.Outcomes.{IsDecided}
 use Rattle.market_system.specs.WorkingPairs.{AllNumbersFit, IsRangeOf, NoPairPasses}
+use Rattle.market_dict.specs.Takings.{limits_of}
+use Rattle.market_dict.specs.declared.taking.Taking.{Taking}
 use Rattle.net_case.specs.Networks.{LiveNetwork}
 use Rattle.factor_tables.specs.declared.by_pair.Column.TheVariants as column
 use Rattle.factor_tables.specs.Factors.{FactorRecords}
@@ -135,12 +137,12 @@ pub data Reports (words : List (List ℕ)) (files : Files) (text : List ℕ) (m 
       → OutcomesFit start steps outcomes → text ≡ replayed start steps outcomes → slice_get outcomes k ≡ Some (reply.Clear o)
       → m ≡ edited_by start (take k steps) → Reports words files text m o k
 
--- the rows with which the clear at that place begins: none, or in a replay those with which the clears before it ended
+-- the rows with which the clear at that place begins: none, or in a replay the limits among what the clears before it ended with
 pub data BeginsWith (words : List (List ℕ)) (files : Files) (text : List ℕ) (m : Parts) : ℕ → List Row → Type 0 where
   in_clear : AsksMarket files words m → BeginsWith words files text m 0 []
-  in_replay : (start : Parts) (steps : List Step) (outcomes : List (StepOutcome Fraction)) (k : ℕ) (taken : List Row) → AsksSteps files words start steps
+  in_replay : (start : Parts) (steps : List Step) (outcomes : List (StepOutcome Fraction)) (k : ℕ) (taken : List Taking) → AsksSteps files words start steps
       → OutcomesFit start steps outcomes → text ≡ replayed start steps outcomes → m ≡ edited_by start (take k steps)
-      → IsReplay most_part start [] (take k steps) (take k outcomes) taken → BeginsWith words files text m k taken
+      → IsReplay most_part start [] (take k steps) (take k outcomes) taken → BeginsWith words files text m k (limits_of taken)
 
 -- ---- cleared
 -- within the offers of energy and of reserve, in balance, within every limit of the base and after every listed outage, up to its excess, whose

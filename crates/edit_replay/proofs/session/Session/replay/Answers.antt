@@ -9,7 +9,7 @@ pub returns-in-Ok-clause-count : goal.returns-in-Ok-clause-count
 returns-in-Ok-clause-count g c =
     let value = g.N.Exact.value in
     sym (length-map c.in-Ok.outcomes (step_outcome_at value))
-    ∙ replay_count g.N.Exact.bound c.args.self.now.market c.args.self.now.kept.taken.rows c.all_steps.new.self.kept.taken.rows c.args.steps.now (map (step_outcome_at value) c.in-Ok.outcomes) c.in-Ok.ensures.replay
+    ∙ replay_count g.N.Exact.bound c.args.self.now.market c.args.self.now.kept.taken.takings c.all_steps.new.self.kept.taken.takings c.args.steps.now (map (step_outcome_at value) c.in-Ok.outcomes) c.in-Ok.ensures.replay
 
 pub returns-in-Ok-clause-frame : goal.returns-in-Ok-clause-frame
 returns-in-Ok-clause-frame g c = rw c.in-Ok.ensures.market (steps_frame c.args.self.now.market c.args.steps.now)
