@@ -2,3 +2,4 @@ mod Lists
 mod Names
 pub mod ShiftTables
 pub mod LossTables
+pub mod Lengths

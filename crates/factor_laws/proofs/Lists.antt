@@ -1,5 +1,5 @@
 -- What stands with an item in a list beside, and where none passes a test.
-use Rattle.std.proofs.Common.{◌≡◌, ◌∙◌, ◌<◌, ℕ, ℤ, List, [], ◌∷◌, ◌++◌, length, map, cond, sym, ap, subst, refl, arith, inl, inr, Option, Some, None, Bool, true, false}
+use Rattle.std.proofs.Common.{◌≡◌, ◌∙◌, ℤ, List, [], ◌∷◌, cond, sym, ap, subst, refl, arith, inl, inr, Some, None, Bool, true, false}
 use Rattle.std.specs.Prelude.{Contains, is_some}
 use Rattle.std.specs.List.{AllZip, find, flat_map}
 use Rattle.std.specs.Map.{lookup}

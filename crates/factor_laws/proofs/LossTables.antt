@@ -1,14 +1,12 @@
 -- Tables of outage factors that are made.
-use Rattle.std.proofs.Common.{◌≡◌, ◌≢◌, ◌∙◌, ◌<◌, ◌≤◌, ◌++◌, ◌∷◌, [], ℕ, ℤ, pos, List, length, map, sym, ap, subst, refl, arith, inl, inr, Some, None, true, false, Ok}
+use Rattle.std.proofs.Common.{◌≡◌, ◌≢◌, ◌∙◌, ◌∷◌, [], ℕ, ℤ, List, length, map, sym, ap, subst, arith, inl, inr, Some, None, false, Ok}
 use Rattle.std.specs.Prelude.{All, AllPairs, Contains}
-use Rattle.std.specs.List.{AllZip, flat_map}
+use Rattle.std.specs.List.{flat_map}
 use Rattle.std.proofs.lemmas.List.Elements.{All-contains, Contains-append_cases, Contains-append_left, Contains-push}
-use Rattle.fraction_theory.specs.Fraction.{Fraction}
 use Rattle.market_data.specs.declared.scales.FactorPlaces.{FactorPlaces}
 use Rattle.net_case.specs.Networks.{IsNetBranch, LiveNetwork}
 use Rattle.net_case.specs.declared.live_parts.NetBranch.{NetBranch}
 use Rattle.net_paths.specs.Detours.{IsBranchOf, others}
-use Rattle.net_paths.specs.Loops.{AreLoops, kept}
 use Rattle.net_paths.specs.declared.loops_of_tree.Member.{Member}
 use Rattle.outage_list.specs.Listing.{AreOutages, IsOutage}
 use Rattle.dc_network.specs.DcNetworks.{IsOutageFactor}

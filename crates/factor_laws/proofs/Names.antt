@@ -1,5 +1,5 @@
 -- What the pairs of made tables name: live branches and buses of a network.
-use Rattle.std.proofs.Common.{◌≡◌, ◌≢◌, ◌∙◌, ◌<◌, ◌≤◌, ℕ, ℤ, pos, List, length, get_or, map, sym, ap, subst, refl, arith, inl, inr, Option, Some, None, true}
+use Rattle.std.proofs.Common.{◌≡◌, ◌≢◌, ◌∙◌, ◌<◌, ◌≤◌, ℕ, ℤ, pos, List, length, get_or, map, sym, ap, subst, arith, inl, inr, Option, Some, true}
 use Rattle.std.specs.Prelude.{AllPairs, Contains, ◌&&◌, is_some, unsigned_abs, ◌*ℤ◌}
 use Rattle.std.specs.Int.Signed.{le_z}
 use Rattle.std.proofs.lemmas.Bool.{cases_lt}
@@ -26,7 +26,7 @@ use Rattle.dc_network.proofs.Carried.{law_of_one_factor}
 use Rattle.dc_network.proofs.Connection.{Contains-map}
 use Rattle.factor_tables.specs.declared.by_pair.Column.TheVariants as column
 use Rattle.factor_tables.specs.declared.made.MadeFactor.{MadeFactor}
-use Rattle.factor_tables.specs.Rules.{is_live_branch, is_live_bus, is_row}
+use Rattle.factor_tables.specs.Rules.{is_live_branch, is_row}
 use Rattle.factor_tables.proofs.MadeLemmas.{entry-size}
 use Rattle.factor_text.specs.Laws.{NamesWhatIsLive}
 use Rattle.factor_maker.proofs.Sizes.{units_small}

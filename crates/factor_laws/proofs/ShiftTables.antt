@@ -1,16 +1,14 @@
 -- Tables of shift factors that are made.
-use Rattle.std.proofs.Common.{◌≡◌, ◌≢◌, ◌∙◌, ◌<◌, ◌≤◌, ℕ, ℤ, pos, List, length, map, sym, ap, subst, refl, arith, inl, inr, None, true, false, Ok}
+use Rattle.std.proofs.Common.{◌≡◌, ◌≢◌, ◌∙◌, ◌<◌, ℕ, ℤ, List, length, map, sym, ap, subst, inl, inr, None, false, Ok}
 use Rattle.std.specs.Prelude.{All, Contains}
 use Rattle.std.specs.List.{flat_map}
 use Rattle.std.proofs.lemmas.List.Elements.{All-contains}
-use Rattle.fraction_theory.specs.Fraction.{Fraction}
 use Rattle.market_data.specs.declared.scales.FactorPlaces.{FactorPlaces}
 use Rattle.net_case.specs.Networks.{LiveNetwork}
 use Rattle.net_case.specs.declared.live_parts.NetBranch.{NetBranch}
 use Rattle.net_paths.specs.Connection.{bus_number}
 use Rattle.net_paths.specs.declared.loops_of_tree.Member.{Member}
-use Rattle.network_theory.specs.Carrying.{IsCarried}
-use Rattle.dc_network.specs.DcNetworks.{IsShiftFactor, dc_branch, dc_network}
+use Rattle.dc_network.specs.DcNetworks.{IsShiftFactor}
 use Rattle.dc_network.specs.Laws.{IsSound}
 use Rattle.dc_network.specs.Rounding.{AreExplained, AreRounded, IsRounded, rounded_column}
 use Rattle.dc_network.proofs.Connection.{Contains-from_map, Contains-map}

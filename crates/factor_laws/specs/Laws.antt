@@ -1,5 +1,6 @@
--- What is true of tables of factors that are made of a network: their texts are read over it as the same tables, and rounding explains what they miss.
-use Rattle.std.specs.Prelude.{◌≡◌, ℕ, ℤ, List, Option, None, Ok}
+-- What is true of tables of factors that are made of a network: their texts are read over it as the same tables and are not long, and rounding explains what
+-- they miss.
+use Rattle.std.specs.Prelude.{◌≡◌, ℕ, ◌+◌, ◌*◌, ◌≤◌, ℤ, List, length, None, Ok}
 use Rattle.market_data.specs.declared.scales.FactorPlaces.{FactorPlaces}
 use Rattle.net_case.specs.Networks.{LiveNetwork}
 use Rattle.outage_list.specs.Listing.{AreOutages}
@@ -10,7 +11,8 @@ use Rattle.factor_residuals.specs.Residuals.{IsBusResidual, IsLoopResidual, IsOu
 use Rattle.factor_residuals.specs.declared.spots.Residual.{Residual}
 use Rattle.dc_network.specs.Laws.{IsSound}
 use Rattle.factor_maker.specs.Made.{IsMadeLoss, IsMadeShift}
-use Rattle.factor_text.specs.Laws.{IsTableOver}
+use Rattle.factor_maker.specs.Stops.{loss_count, shift_count}
+use Rattle.factor_text.specs.Laws.{IsTableOver, most_line}
 use Rattle.factor_text.specs.Texts.{factor_table_text}
 
 -- ---- read back
@@ -23,6 +25,17 @@ ShiftTablesAreReadBack = (network : LiveNetwork) (xs : List ℤ) (places : Facto
 abbrev pub LossTablesAreReadBack : Type 0
 LossTablesAreReadBack = (network : LiveNetwork) (xs : List ℤ) (outages : List ℕ) (places : FactorPlaces) (loss : FactorRecords) → IsSound network xs None → AreOutages network outages
     → IsMadeLoss network xs outages places loss → IsTableOver column.Outage network loss × (loss_of network (factor_table_text column.Outage loss.entries) places ≡ Ok loss)
+
+-- ---- how long a text is
+-- The text of a shift table that is made has a header and a line for each live branch and live bus, none longer than most_line.
+abbrev pub ShiftTablesAreShort : Type 0
+ShiftTablesAreShort = (network : LiveNetwork) (xs : List ℤ) (places : FactorPlaces) (shift : FactorRecords) → IsSound network xs None → IsMadeShift network xs places shift
+    → length (factor_table_text column.Bus shift.entries) ≤ most_line * (1 + shift_count network)
+
+-- That of an outage table has at most one for each live branch and listed outage.
+abbrev pub LossTablesAreShort : Type 0
+LossTablesAreShort = (network : LiveNetwork) (xs : List ℤ) (outages : List ℕ) (places : FactorPlaces) (loss : FactorRecords) → IsSound network xs None → AreOutages network outages
+    → IsMadeLoss network xs outages places loss → length (factor_table_text column.Outage loss.entries) ≤ most_line * (1 + loss_count network outages)
 
 -- ---- within rounding
 -- no residual is beyond its bound

@@ -3,3 +3,4 @@ mod TextsDerived
 pub mod RecordsRead
 pub mod MadeTables
 mod WritingLemmas
+pub mod Lengths

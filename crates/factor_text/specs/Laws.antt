@@ -1,5 +1,5 @@
--- Which tables of factors obey the rules of a network, and that their texts are read back.
-use Rattle.std.specs.Prelude.{◌≡◌, ◌≢◌, ◌≤◌, ℤ, pos, ◌*ℤ◌, Bool, true, List, All, unsigned_abs, Ok}
+-- Which tables of factors obey the rules of a network, that their texts are read back, and how long these are.
+use Rattle.std.specs.Prelude.{◌≡◌, ◌≢◌, ℕ, ◌+◌, ◌*◌, ◌≤◌, ℤ, pos, ◌*ℤ◌, Bool, true, List, All, length, unsigned_abs, Ok}
 use Rattle.market_data.specs.Scales.{most_factor, place_step}
 use Rattle.market_data.specs.declared.scales.FactorPlaces.{FactorPlaces}
 use Rattle.net_case.specs.Networks.{IsNetwork, LiveNetwork, has_bus}
@@ -41,6 +41,15 @@ pub record IsTableOver (kind : Column) (network : LiveNetwork) (table : FactorRe
 -- what is written of such a table is read back as the table
 abbrev pub TablesAreReadBack : Type 0
 TablesAreReadBack = (kind : Column) (network : LiveNetwork) (table : FactorRecords) → IsNetwork network → IsTableOver kind network table → table_of kind network (factor_table_text kind table.entries) table.places ≡ Ok table
+
+-- ---- how long a text is
+-- the most bytes of a line: a row of 4 digits, a bus's number of 10, a factor of a sign, 4 digits, a point and 9 places, two commas and a line feed
+abbrev pub most_line : ℕ
+most_line = 32
+
+-- the text of such a table has no longer line, be it the header or that of a record
+abbrev pub TablesAreShort : Type 0
+TablesAreShort = (kind : Column) (network : LiveNetwork) (table : FactorRecords) → IsNetwork network → IsTableOver kind network table → length (factor_table_text kind table.entries) ≤ most_line * (1 + length table.entries)
 
 -- ---- tables that are made
 -- a pair names a branch row of the case and a bus or another branch row, both live
