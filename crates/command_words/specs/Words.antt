@@ -180,7 +180,7 @@ abbrev pub place_word : FactorPlaces → Text
 place_word factor_places.Six = codes "6"
 place_word factor_places.Nine = codes "9"
 
--- each letter and each number of places that the command takes stands for what it is the word of
+-- each letter and each number of places that the command takes stands for that of which it is the word
 abbrev pub LawOfChoices : Type 0
 LawOfChoices = All (λ word. option_map rating_word (rating_named word) ≡ Some word) rating_words
     × All (λ word. option_map place_word (places_named word) ≡ Some word) place_words

@@ -2,7 +2,7 @@
 
 ghost use Rattle.command_words.specs.Words.{LawOfChoices};
 
-/// Each word that an option or a value may have, of those that are listed, means what it says.
+/// Each letter of a rating and each number of places, of those that are listed, means what it says.
 pub fn choices_mean_their_words()
     ensures { LawOfChoices }
 {}

@@ -12,7 +12,7 @@ use Rattle.factor_residuals.specs.declared.spots.Residual.{Residual}
 use Rattle.dc_network.specs.Laws.{IsSound}
 use Rattle.factor_maker.specs.Made.{IsMadeLoss, IsMadeShift}
 use Rattle.factor_maker.specs.Stops.{loss_count, shift_count}
-use Rattle.factor_text.specs.Laws.{IsTableOver, most_line}
+use Rattle.factor_text.specs.Laws.{IsTableOver, most_table_line}
 use Rattle.factor_text.specs.Texts.{factor_table_text}
 
 -- ---- read back
@@ -27,15 +27,15 @@ LossTablesAreReadBack = (network : LiveNetwork) (xs : List ℤ) (outages : List 
     → IsMadeLoss network xs outages places loss → IsTableOver column.Outage network loss × (loss_of network (factor_table_text column.Outage loss.entries) places ≡ Ok loss)
 
 -- ---- how long a text is
--- The text of a shift table that is made has a header and a line for each live branch and live bus, none longer than most_line.
+-- The text of a shift table that is made has at most most_table_line bytes for the header and for each live branch and live bus.
 abbrev pub ShiftTablesAreShort : Type 0
 ShiftTablesAreShort = (network : LiveNetwork) (xs : List ℤ) (places : FactorPlaces) (shift : FactorRecords) → IsSound network xs None → IsMadeShift network xs places shift
-    → length (factor_table_text column.Bus shift.entries) ≤ most_line * (1 + shift_count network)
+    → length (factor_table_text column.Bus shift.entries) ≤ most_table_line * (1 + shift_count network)
 
 -- That of an outage table has at most one for each live branch and listed outage.
 abbrev pub LossTablesAreShort : Type 0
 LossTablesAreShort = (network : LiveNetwork) (xs : List ℤ) (outages : List ℕ) (places : FactorPlaces) (loss : FactorRecords) → IsSound network xs None → AreOutages network outages
-    → IsMadeLoss network xs outages places loss → length (factor_table_text column.Outage loss.entries) ≤ most_line * (1 + loss_count network outages)
+    → IsMadeLoss network xs outages places loss → length (factor_table_text column.Outage loss.entries) ≤ most_table_line * (1 + loss_count network outages)
 
 -- ---- within rounding
 -- no residual is beyond its bound

@@ -44,12 +44,12 @@ TablesAreReadBack = (kind : Column) (network : LiveNetwork) (table : FactorRecor
 
 -- ---- how long a text is
 -- the most bytes of a line: a row of 4 digits, a bus's number of 10, a factor of a sign, 4 digits, a point and 9 places, two commas and a line feed
-abbrev pub most_line : ℕ
-most_line = 32
+abbrev pub most_table_line : ℕ
+most_table_line = 32
 
--- the text of such a table has no longer line, be it the header or that of a record
+-- the text of such a table has at most so many for the header and for each record
 abbrev pub TablesAreShort : Type 0
-TablesAreShort = (kind : Column) (network : LiveNetwork) (table : FactorRecords) → IsNetwork network → IsTableOver kind network table → length (factor_table_text kind table.entries) ≤ most_line * (1 + length table.entries)
+TablesAreShort = (kind : Column) (network : LiveNetwork) (table : FactorRecords) → IsNetwork network → IsTableOver kind network table → length (factor_table_text kind table.entries) ≤ most_table_line * (1 + length table.entries)
 
 -- ---- tables that are made
 -- a pair names a branch row of the case and a bus or another branch row, both live

@@ -1,4 +1,4 @@
--- What the bytes of files stand for is one thing: what a command works on or one first fault, whatever the bytes.
+-- The bytes of files stand for one thing at most: what a command works on, or one first fault.
 use Rattle.std.specs.Prelude.{◌≡◌, Result}
 use Rattle.refusal_text.specs.declared.refusals.Refusal.{Refusal}
 

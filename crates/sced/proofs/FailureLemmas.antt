@@ -19,7 +19,7 @@ use Rattle.command_answers.specs.declared.status.Status.TheVariants as status
 use Rattle.command_files.specs.OnlyReads.{IsSilent}
 use Rattle.command_files.specs.Reading.{HaveGridTexts, HaveTexts, IsTableFile, source_of}
 use Rattle.command_files.specs.Standing.{AreCheckFiles, AreClearFiles, AreFactorFiles, ArePoolFiles, AreReplayFiles, AreRightsFiles, AreVerifyFiles}
-use Rattle.sced.specs.Headline.{LawOfAnswered, LawOfCauses, LawOfCutShort, LawOfMissing}
+use Rattle.sced.specs.Headline.{LawOfAnswered, LawOfCauses, LawOfCutShort, LawOfMissing, LeavesBeginning}
 use Rattle.sced.specs.Runs.{Ends, HasText, Outside}
 use Rattle.sced.specs.Runs as ending
 use Rattle.sced.specs.Told.{Answers, AnswersTo, checked, cleared, entitled, factored, made, migrated, pooled, refused, replayed, verified}
@@ -99,22 +99,24 @@ pub law_of_cut_short : LawOfCutShort
 law_of_cut_short words before after s runs = record {
   silent = runs.silent;
   unwritten = runs.cut;
-  begun = λ earlier now is was has. begun earlier now is was has (runs.told (loud is));
-  left = λ files later is was has. (let a = runs.told (loud is) in (a, left-as words before after a.written files later was has (a.failed is)));
+  left = λ is. leaves is (runs.told (loud is));
 }
   where
     loud : s ≡ status.WriteFailed → ¬ (IsSilent s)
     loud is (inl read) = let wrong : status.WriteFailed ≡ status.ReadFailed = sym is ∙ read in cc wrong
     loud is (inr memory) = let wrong : status.WriteFailed ≡ status.Memory = sym is ∙ memory in cc wrong
 
-    begun : (earlier now : List ℕ) → s ≡ status.WriteFailed → before.taken ≡ Some earlier → after.taken ≡ Some now → (a : Answers words before after s) → (right : Answers words before after s) × (k : ℕ) × (now ≡ earlier ++ take k right.telling.text)
-    begun earlier now is was has a = by a.ends
+    begun : s ≡ status.WriteFailed → (a : Answers words before after s) → (earlier now : List ℕ) → before.taken ≡ Some earlier → after.taken ≡ Some now → (k : ℕ) × (now ≡ earlier ++ take k a.telling.text)
+    begun is a earlier now was has = by a.ends
       where
-        by : Ends a.telling a.written before.files after.files before.taken after.taken s → (right : Answers words before after s) × (k : ℕ) × (now ≡ earlier ++ take k right.telling.text)
+        by : Ends a.telling a.written before.files after.files before.taken after.taken s → (k : ℕ) × (now ≡ earlier ++ take k a.telling.text)
         by (ending.told kept took right) =
             let here : Took (s ≡ status.WriteFailed) a.telling.text (Some earlier) (Some now) = subst₂ (Took (s ≡ status.WriteFailed) a.telling.text) was has took in
-            let cut = here.cut is in (a, cut.0, cut.1)
-        by (ending.unwritten kept none failed) = let same : now ≡ earlier = cc (none, was, has) in (a, 0, same ∙ sym (append-nil earlier))
+            let cut = here.cut is in (cut.0, cut.1)
+        by (ending.unwritten kept none failed) = let same : now ≡ earlier = cc (none, was, has) in (0, same ∙ sym (append-nil earlier))
+
+    leaves : s ≡ status.WriteFailed → Answers words before after s → LeavesBeginning words before after s
+    leaves is a = record { right = a; begun = begun is a; written = λ files later was has. left-as words before after a.written files later was has (a.failed is) }
 
 -- ---- missing
 -- a file is there

@@ -17,14 +17,14 @@ use Rattle.sced.proofs.EndLemmas.{ends-from, keeps-from}
 module _ (asked wider : List ℕ → Type 0) (within : (file : List ℕ) → asked file → wider file) (w : List (List ℕ × List ℕ)) (before between after : Outside) (same : SameFiles before.files between.files)
     (writes : Still before.failed_writes between.failed_writes) (taken : between.taken ≡ before.taken) (puts : between.failed_puts ≡ before.failed_puts) where
   fails-from : FailsAt asked w between after → FailsAt wider w before after
-  fails-from (at_write file is rose none kept) =
-      at_write file (within file is) (subst (λ k. Rose k (after.failed_writes file)) (writes file) rose) (none ∙ taken) (keeps-from (Unit {0}) w before.files between.files after.files same kept)
+  fails-from (at_write file is rose none unput kept) =
+      at_write file (within file is) (subst (λ k. Rose k (after.failed_writes file)) (writes file) rose) (none ∙ taken) (unput ∙ puts) (keeps-from (Unit {0}) w before.files between.files after.files same kept)
   fails-from (at_put still rose kept) = at_put (λ n. still n ∙ writes n) (subst (λ k. Rose k after.failed_puts) puts rose) (keeps-from ⊥ w before.files between.files after.files same kept)
 
 -- a write of a file that was asked for is counted, or a put
 failed-cause : (asked : List ℕ → Type 0) (w : List (List ℕ × List ℕ)) (before after : Outside) → FailsAt asked w before after
     → ((file : List ℕ) × asked file × Rose (before.failed_writes file) (after.failed_writes file)) ⊎ Rose before.failed_puts after.failed_puts
-failed-cause asked w before after (at_write file is rose none kept) = inl (file, is, rose)
+failed-cause asked w before after (at_write file is rose none unput kept) = inl (file, is, rose)
 failed-cause asked w before after (at_put still rose kept) = inr rose
 
 -- ---- the promise

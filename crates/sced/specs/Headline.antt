@@ -176,7 +176,7 @@ LawOfCleared = (words : List (List ℕ)) (files : Files) (text : List ℕ) (s : 
 
 -- ---- surplus
 -- Where the fixed offset of each row that has a printed price above 0, of its upper or its lower limit, is within these limits, loads pay no less than
--- units are paid for energy: the printed surplus is not negative.
+-- units are paid for energy: the surplus that a pool, a clear or a replay prints is not negative.
 abbrev pub LawOfSurplus : Type 0
 LawOfSurplus = (words : List (List ℕ)) (files : Files) (text : List ℕ) (s : Status) (m : Parts) (a : Answer Fraction) (place : ℕ)
     → Prints words files text s → Reports words files text m (Cleared a) place → HasOffsetsWithin m a.duals → zero ≤ℚ a.money.surplus
@@ -441,40 +441,43 @@ LawOfCauses = (words : List (List ℕ)) (before after : Outside) (s : Status) �
 
 -- ---- cut short
 -- the files once one of these bytes is written, and once each of these is, one after another
-abbrev pub with_file : Files → List ℕ × List ℕ → Files
-with_file files file = λ name. if bytes_eq name file.0 then Some file.1 else files name
+abbrev pub file_with : Files → List ℕ × List ℕ → Files
+file_with files file = λ name. if bytes_eq name file.0 then Some file.1 else files name
 
-abbrev pub with_files : Files → List (List ℕ × List ℕ) → Files
-with_files files [] = files
-with_files files (file ∷ rest) = with_files (with_file files file) rest
+abbrev pub files_with : Files → List (List ℕ × List ℕ) → Files
+files_with files [] = files
+files_with files (file ∷ rest) = files_with (file_with files file) rest
 
 -- The write of one of these files failed: it has what it had, or a beginning of its bytes. Those before it are whole, and every other is as it was.
-pub record StopsAt (written : List (List ℕ × List ℕ)) (files later : Files) : Type 0 where
+pub record IsCutAt (written : List (List ℕ × List ℕ)) (files later : Files) : Type 0 where
   pub whole : List (List ℕ × List ℕ)
   pub name : List ℕ
   pub bytes : List ℕ
   pub untouched : List (List ℕ × List ℕ)
   pub stands : written ≡ whole ++ (name, bytes) ∷ untouched
-  pub cut : (later name ≡ with_files files whole name) ⊎ ((k : ℕ) × (later name ≡ Some (take k bytes)))
-  pub others : (n : List ℕ) → n ≢ name → later n ≡ with_files files whole n
+  pub cut : (later name ≡ files_with files whole name) ⊎ ((k : ℕ) × (later name ≡ Some (take k bytes)))
+  pub others : (n : List ℕ) → n ≢ name → later n ≡ files_with files whole n
 
--- What is left where a write or a put failed. A failed write is counted of a file that the words name for writing, nothing is put, and the files are
--- written up to one. Or only a failed put is counted: all files are whole, and every other is as it was.
+-- What is left where a write or a put failed. A failed write is counted of a file that the words name for writing, nothing is put and no put failed, and
+-- the files are written up to one. Or only a failed put is counted: all files are whole, and every other is as it was.
 pub data IsLeft (words : List (List ℕ)) (written : List (List ℕ × List ℕ)) (before after : Outside) (files later : Files) : Type 0 where
   left_by_write : (file : List ℕ) → NamesToWrite words file → Rose (before.failed_writes file) (after.failed_writes file) → after.taken ≡ before.taken
-      → StopsAt written files later → IsLeft words written before after files later
-  left_by_put : Still before.failed_writes after.failed_writes → Rose before.failed_puts after.failed_puts → ((n : List ℕ) → later n ≡ with_files files written n)
+      → after.failed_puts ≡ before.failed_puts → IsCutAt written files later → IsLeft words written before after files later
+  left_by_put : Still before.failed_writes after.failed_writes → Rose before.failed_puts after.failed_puts → ((n : List ℕ) → later n ≡ files_with files written n)
       → IsLeft words written before after files later
 
+-- Of one answer that was right: a beginning of its text is put, or nothing, and its files are written as far as the run came.
+pub record LeavesBeginning (words : List (List ℕ)) (before after : Outside) (s : Status) : Type 0 where
+  pub right : Answers words before after s
+  pub begun : (earlier now : List ℕ) → before.taken ≡ Some earlier → after.taken ≡ Some now → (k : ℕ) × (now ≡ earlier ++ take k right.telling.text)
+  pub written : (files later : Files) → before.files ≡ Some files → after.files ≡ Some later → IsLeft words right.written before after files later
+
 -- Where a read failed or memory was refused, nothing is put and every file is as it was. Where a failed write is counted, nothing is put. Where
--- a write or a put failed, what is put is a beginning of what is right to tell, or nothing, and files are written as far as it came.
+-- a write or a put failed, there is a beginning of what is right to tell and to write.
 pub record IsCutShort (words : List (List ℕ)) (before after : Outside) (s : Status) : Type 0 where
   pub silent : IsSilent s → LeavesAll before after
   pub unwritten : ¬ (Still before.failed_writes after.failed_writes) → after.taken ≡ before.taken
-  pub begun : (earlier now : List ℕ) → s ≡ status.WriteFailed → before.taken ≡ Some earlier → after.taken ≡ Some now
-      → (right : Answers words before after s) × (k : ℕ) × (now ≡ earlier ++ take k right.telling.text)
-  pub left : (files later : Files) → s ≡ status.WriteFailed → before.files ≡ Some files → after.files ≡ Some later
-      → (right : Answers words before after s) × IsLeft words right.written before after files later
+  pub left : s ≡ status.WriteFailed → LeavesBeginning words before after s
 
 abbrev pub LawOfCutShort : Type 0
 LawOfCutShort = (words : List (List ℕ)) (before after : Outside) (s : Status) → Runs words before after s → IsCutShort words before after s

@@ -66,5 +66,5 @@ pub record Answers (words : List (List ℕ)) (before after : Outside) (s : Statu
   pub written : List (List ℕ × List ℕ)
   pub right : AnswersTo before.files words telling written
   pub ends : Ends telling written before.files after.files before.taken after.taken s
-  -- where a write or a put failed, that which failed is counted
+  -- where a write or a put failed, a failure of one that was asked for is counted
   pub failed : s ≡ status.WriteFailed → FailsAt (NamesToWrite words) written before after

@@ -26,7 +26,7 @@ pub fn cleared()
     reserve_is_paid_for_the_need();
 }
 
-/// The surplus that is printed is not negative, where the fixed offset of each row that has a printed price above 0 is within its limits.
+/// The surplus that a pool, a clear or a replay prints is not negative, where the fixed offset of each row that has a printed price above 0 is within its limits.
 pub fn surplus()
     ensures { LawOfSurplus }
 {

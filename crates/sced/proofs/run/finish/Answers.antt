@@ -18,4 +18,4 @@ returns-in-Ok-clause-failed g c =
 
 pub returns-in-Err-clause-failed : goal.returns-in-Err-clause-failed
 returns-in-Err-clause-failed g c =
-    λ is. let (file, named, rose) = c.in-Err.ensures.writes.cause refl in at_write file named rose refl (keeps-surely _ (written_by c.args.work.now) _ _ refl c.in-Err.ensures.kept)
+    λ is. let (file, named, rose) = c.in-Err.ensures.writes.cause refl in at_write file named rose refl refl (keeps-surely _ (written_by c.args.work.now) _ _ refl c.in-Err.ensures.kept)
