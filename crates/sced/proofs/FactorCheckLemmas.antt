@@ -26,7 +26,6 @@ use Rattle.market_inputs.specs.Steps.{Onward, Then}
 use Rattle.market_inputs.specs.Tables.{AreOutagesIn, AreTables, loss_in, outage_numbers_in, shift_in}
 use Rattle.market_inputs.specs.declared.checking.Inputs.{Inputs}
 use Rattle.market_inputs.specs.declared.making.FactorInputs.{FactorInputs}
-use Rattle.market_inputs.specs.declared.tables.Tables.{Tables}
 use Rattle.market_inputs.proofs.FileLemmas.{sized-short}
 use Rattle.market_inputs.proofs.OnceLemmas.{factor-inputs-once}
 use Rattle.market_tables.specs.Tables.{GridTexts}
@@ -240,13 +239,12 @@ check-inputs places texts inputs shift loss work is-shift is-loss =
     let back = sym (ap (λ (i : FactorInputs). i.network) whole) in
     let of-shift = subst (λ (net : LiveNetwork). shift_in places net (sized (refusal.TooLong input.Ptdf) texts.ptdf) ≡ Ok shift) back is-shift in
     let of-loss = subst (λ (net : LiveNetwork). loss_in places net (sized (refusal.TooLong input.Lodf) texts.lodf) ≡ Ok loss) back is-loss in
-    let tables : Tables = record { shift = shift; loss = loss; outages = listed } in
-    let are : AreTables places network (sized_grid texts) (Ok tables) =
+    let are : AreTables places network (sized_grid texts) (Ok (record { shift = shift; loss = loss; outages = listed })) =
     record { made = Ok shift; is = of-shift; rest = record { made = Ok loss; is = of-loss; rest = record { made = Ok listed; is = o; rest = refl } } } in
     subst (λ (i : FactorInputs). AreInputs places (sized_grid texts) (Ok (with_tables i shift loss))) whole (record {
       made = Ok matrices;
       is = m;
-      rest = record { made = Ok network; is = n; rest = record { made = Ok reactances; is = x; rest = record { made = Ok tables; is = are; rest = refl } } };
+      rest = record { made = Ok network; is = n; rest = record { made = Ok reactances; is = x; rest = record { made = Ok (record { shift = shift; loss = loss; outages = listed }); is = are; rest = refl } } };
     })
 
 module _ (names : FactorNames) (inputs : FactorInputs) (files later : Files) (t : Telling) (kept : KeepsWrites ⊥ (named_outputs (tabled names.ptdf_out names.lodf_out) t.outputs) (Some files) (Some later))
