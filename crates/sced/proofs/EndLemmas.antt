@@ -21,7 +21,7 @@ surely failed name bytes (Some f) None bad wrote = elim wrote [ ]
 surely failed name bytes (Some f) (Some h) bad wrote = record { done = λ not. absurd (not tt); cut = λ _. wrote.cut bad; others = wrote.others }
 
 -- and so was one of files that are written one after another
-keeps-surely : (failed : Type 0) (w : List (List ℕ × List ℕ)) (before now : Option Files) → failed → KeepsWrites failed w before now → KeepsWrites (Unit {0}) w before now
+pub keeps-surely : (failed : Type 0) (w : List (List ℕ × List ℕ)) (before now : Option Files) → failed → KeepsWrites failed w before now → KeepsWrites (Unit {0}) w before now
 keeps-surely failed [] before now bad (fine, same) = absurd (fine bad)
 keeps-surely failed ((name, bytes) ∷ rest) before now bad (inl (_, wrote)) = inl (tt, surely failed name bytes before now bad wrote)
 keeps-surely failed ((name, bytes) ∷ rest) before now bad (inr (between, wrote, kept)) = inr (between, wrote, keeps-surely failed rest between now bad kept)
@@ -31,7 +31,7 @@ pub ends-cut : (failed : Type 0) (t : Telling) (w : List (List ℕ × List ℕ))
 ends-cut failed t w before now taken bad kept = unwritten (keeps-surely failed w before now bad kept) refl refl
 
 -- files of which no write failed are all written
-keeps-all : (failed : Type 0) (w : List (List ℕ × List ℕ)) (before now : Option Files) → ¬ failed → KeepsWrites failed w before now → KeepsWrites ⊥ w before now
+pub keeps-all : (failed : Type 0) (w : List (List ℕ × List ℕ)) (before now : Option Files) → ¬ failed → KeepsWrites failed w before now → KeepsWrites ⊥ w before now
 keeps-all failed [] before now fine (good, same) = (λ never. never, same)
 keeps-all failed ((name, bytes) ∷ rest) before now fine (inl (bad, wrote)) = absurd (fine bad)
 keeps-all failed ((name, bytes) ∷ rest) before now fine (inr (between, wrote, kept)) = inr (between, wrote, keeps-all failed rest between now fine kept)
@@ -60,7 +60,7 @@ wrote-from failed name bytes (Some e) (Some f) (Some h) same wrote = record {
   others = λ n apart. wrote.others n apart ∙ same n;
 }
 
-keeps-from : (failed : Type 0) (w : List (List ℕ × List ℕ)) (a b c : Option Files) → SameFiles a b → KeepsWrites failed w b c → KeepsWrites failed w a c
+pub keeps-from : (failed : Type 0) (w : List (List ℕ × List ℕ)) (a b c : Option Files) → SameFiles a b → KeepsWrites failed w b c → KeepsWrites failed w a c
 keeps-from failed [] a b c same (fine, kept) = (fine, same_then a b c same kept)
 keeps-from failed ((name, bytes) ∷ rest) a b c same (inl (bad, wrote)) = inl (bad, wrote-from failed name bytes a b c same wrote)
 keeps-from failed ((name, bytes) ∷ rest) a b c same (inr (between, wrote, kept)) = inr (between, wrote-from ⊥ name bytes a b between same wrote, kept)

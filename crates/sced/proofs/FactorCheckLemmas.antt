@@ -1,5 +1,5 @@
 -- A check of tables that were made says that all is within what rounding explains.
-use Rattle.std.specs.Prelude.{◌≡◌, ℕ, ℤ, Bool, true, false, nat_lt, if◌then◌else◌, List, [], length, is_some, Option, Some, None, Result, Ok, Err}
+use Rattle.std.specs.Prelude.{◌≡◌, ℕ, ◌+◌, ◌*◌, ◌≤◌, ℤ, Bool, true, false, nat_lt, if◌then◌else◌, List, [], length, is_some, Option, Some, None, Result, Ok, Err}
 use Rattle.std.specs.Option.{option_map_or}
 use Rattle.std.proofs.Common.{arith, inl, inr, refl, sym, subst, ap, ◌∙◌}
 use Rattle.std.proofs.lemmas.List.{append-nil}
@@ -9,8 +9,9 @@ use Rattle.outside_store.specs.Files.{Files}
 use Rattle.record_reading.specs.Records.{Record, first_ragged}
 use Rattle.record_reading.specs.Gathering.{gather}
 use Rattle.record_reading.specs.Steps.{and_then, or_as}
-use Rattle.factor_laws.specs.Laws.{LossTablesAreExplained, LossTablesAreReadBack, ShiftTablesAreExplained}
+use Rattle.factor_laws.specs.Laws.{LossTablesAreExplained, LossTablesAreReadBack, LossTablesAreShort, ShiftTablesAreExplained, ShiftTablesAreShort}
 use Rattle.factor_maker.specs.Made.{IsMadeLoss}
+use Rattle.factor_maker.specs.Stops.{loss_count, shift_count}
 use Rattle.factor_tables.specs.declared.by_pair.Column.TheVariants as column
 use Rattle.factor_tables.specs.declared.table_fault.TableFault.{TableFault}
 use Rattle.factor_tables.specs.Factors.{FactorRecords}
@@ -22,9 +23,10 @@ use Rattle.market_inputs.specs.Checking.{AreInputs, inputs_of}
 use Rattle.market_inputs.specs.Files.{most_file, sized, sized_grid}
 use Rattle.market_inputs.specs.Making.{AreFactorInputs, AreFitToMake}
 use Rattle.market_inputs.specs.Steps.{Onward, Then}
-use Rattle.market_inputs.specs.Tables.{AreOutagesIn, loss_in, outage_numbers_in, shift_in}
+use Rattle.market_inputs.specs.Tables.{AreOutagesIn, AreTables, loss_in, outage_numbers_in, shift_in}
 use Rattle.market_inputs.specs.declared.checking.Inputs.{Inputs}
 use Rattle.market_inputs.specs.declared.making.FactorInputs.{FactorInputs}
+use Rattle.market_inputs.proofs.FileLemmas.{sized-short}
 use Rattle.market_inputs.proofs.OnceLemmas.{factor-inputs-once}
 use Rattle.market_tables.specs.Tables.{GridTexts}
 use Rattle.net_case.specs.Networks.{LiveNetwork}
@@ -42,6 +44,7 @@ use Rattle.command_answers.specs.declared.status.Status.{Status}
 use Rattle.command_answers.specs.declared.status.Status.TheVariants as status
 use Rattle.command_files.specs.Reading.{IsTableFile, in_file, source_of}
 use Rattle.command_files.specs.Standing.{AreCheckFiles, AreFactorFiles}
+use Rattle.sced.specs.Asked.{AsksToCheck}
 use Rattle.sced.specs.Headline.{AreFilesApart, HaveTables, IsFactored, LawOfFactorCheck, LawOfFactors, check_of, made_tables, passed_tables, refused_tables}
 use Rattle.sced.specs.Runs.{KeepsWrites}
 use Rattle.sced.specs.Told.{named_outputs}
@@ -131,6 +134,10 @@ module _ (names : FactorNames) (files later : Files) (t : Telling) (kept : Keeps
   table-stays (Some file) header text read is = sym (stays file (read file refl)) ∙ is
   table-stays None header text read is = is
 
+  table-kept : (o : Option (List ℕ)) (header : Record) (text : List ℕ) → ((file : List ℕ) → o ≡ Some file → IsFactorFile names file) → IsTableFile files (source_of header o) text → IsTableFile later (source_of header o) text
+  table-kept (Some file) header text read is = stays file (read file refl) ∙ is
+  table-kept None header text read is = is
+
 -- ---- within rounding
 module _ (shift_explained : ShiftTablesAreExplained) (loss_explained : LossTablesAreExplained) (names : FactorNames) (inputs : FactorInputs) (fit : AreFitToMake inputs) (tables : MadeTables) (loss : FactorRecords)
     (wanted : Bool) (are : AreMadeTables inputs wanted names.places tables) (is-loss : IsLossTable inputs names.places loss) where
@@ -208,6 +215,100 @@ alone-tables inputs places shift is = record { shift = record { few = is.few; po
 none-there : (inputs : FactorInputs) (places : FactorPlaces) (shift : FactorRecords) → IsShiftTable inputs places shift → IsLossTable (alone inputs) places (no_factors places)
 none-there inputs places shift is = record { few = omega arith; positive = is.positive; made = none-made inputs.network inputs.reactances places }
 
+-- ---- what was made is read
+few-fit : (count text : ℕ) → count ≤ 1000000 → text ≤ 32 * (1 + count) → text ≤ 33554432
+few-fit count text few long = omega (arith, few, long)
+
+table-in : (too_long : Refusal) (which : TableFault → Refusal) (read : List ℕ → Result FactorRecords TableFault) (text : List ℕ) (table : FactorRecords) → length text ≤ most_file → read text ≡ Ok table
+    → and_then (sized too_long text) (λ bytes. or_as which (read bytes)) ≡ Ok table
+table-in too_long which read text table few is = ap (λ s. and_then s (λ bytes. or_as which (read bytes))) (sized-short too_long text few) ∙ ap (or_as which) is
+
+-- what tables were made of, with two tables
+abbrev with_tables : FactorInputs → FactorRecords → FactorRecords → Inputs
+with_tables inputs shift loss = record { network = inputs.network; reactances = inputs.reactances; shift = shift; loss = loss; outages = inputs.outages }
+
+check-inputs : (places : FactorPlaces) (texts : GridTexts) (inputs : FactorInputs) (shift loss : FactorRecords) → AreFactorInputs texts.case texts.contingencies (Ok inputs)
+    → shift_in places inputs.network (sized (refusal.TooLong input.Ptdf) texts.ptdf) ≡ Ok shift → loss_in places inputs.network (sized (refusal.TooLong input.Lodf) texts.lodf) ≡ Ok loss
+    → AreInputs places (sized_grid texts) (Ok (with_tables inputs shift loss))
+check-inputs places texts inputs shift loss work is-shift is-loss =
+    let (matrices, m, in-case) = then-made _ _ inputs work in
+    let (network, n, in-network) = then-made _ _ inputs in-case in
+    let (reactances, x, in-reactances) = then-made _ _ inputs in-network in
+    let (listed, o, all) = then-made _ _ inputs in-reactances in
+    let whole = one-made _ inputs all in
+    let back = sym (ap (λ (i : FactorInputs). i.network) whole) in
+    let of-shift = subst (λ (net : LiveNetwork). shift_in places net (sized (refusal.TooLong input.Ptdf) texts.ptdf) ≡ Ok shift) back is-shift in
+    let of-loss = subst (λ (net : LiveNetwork). loss_in places net (sized (refusal.TooLong input.Lodf) texts.lodf) ≡ Ok loss) back is-loss in
+    let are : AreTables places network (sized_grid texts) (Ok (record { shift = shift; loss = loss; outages = listed })) =
+    record { made = Ok shift; is = of-shift; rest = record { made = Ok loss; is = of-loss; rest = record { made = Ok listed; is = o; rest = refl } } } in
+    subst (λ (i : FactorInputs). AreInputs places (sized_grid texts) (Ok (with_tables i shift loss))) whole (record {
+      made = Ok matrices;
+      is = m;
+      rest = record { made = Ok network; is = n; rest = record { made = Ok reactances; is = x; rest = record { made = Ok (record { shift = shift; loss = loss; outages = listed }); is = are; rest = refl } } };
+    })
+
+module _ (names : FactorNames) (inputs : FactorInputs) (files later : Files) (t : Telling) (kept : KeepsWrites ⊥ (named_outputs (tabled names.ptdf_out names.lodf_out) t.outputs) (Some files) (Some later))
+    (apart : AreFilesApart names) (stand : AreFactorFiles files names (Ok inputs)) (loss_back : LossTablesAreReadBack) (shift_short : ShiftTablesAreShort) (loss_short : LossTablesAreShort) (fit : AreFitToMake inputs)
+    (tables : MadeTables) (have : HaveTables names inputs.network tables later) (are : AreMadeTables inputs (is_some names.lodf_out) names.places tables) where
+  abbrev shift_text : List ℕ
+  shift_text = factor_table_text column.Bus tables.shift.entries
+
+  case-kept : later names.case ≡ Some stand.case
+  case-kept = stays names files later t kept apart names.case (inl refl) ∙ stand.case_is
+
+  shift-there : shift_in names.places inputs.network (sized (refusal.TooLong input.Ptdf) shift_text) ≡ Ok tables.shift
+  shift-there =
+      let long = shift_short inputs.network inputs.reactances names.places tables.shift (sound inputs fit are.shift.positive) are.shift.made in
+      table-in (refusal.TooLong input.Ptdf) (refusal.Table input.Ptdf) (λ bytes. shift_of inputs.network bytes names.places) shift_text tables.shift
+      (few-fit (shift_count inputs.network) (length shift_text) are.shift.few long) have.shift_read
+
+  -- both tables, with the outages
+  accepted-both : (file : List ℕ) → names.lodf_out ≡ Some file → (checked : Inputs) × AreCheckFiles later (check_of names) (Ok checked)
+  accepted-both file named =
+      let (loss, there, is-loss) = loss-there inputs names.places file names.lodf_out tables.loss named are.loss in
+      let text = factor_table_text column.Outage loss.entries in
+      let long = loss_short inputs.network inputs.reactances inputs.outages names.places loss (sound inputs fit is-loss.positive) fit.outages is-loss.made in
+      let loss-in = table-in (refusal.TooLong input.Lodf) (refusal.Table input.Lodf) (λ bytes. loss_of inputs.network bytes names.places) text loss
+      (few-fit (loss_count inputs.network inputs.outages) (length text) is-loss.few long) (have.loss_read loss there) in
+      let texts : GridTexts = record { case = stand.case; ptdf = shift_text; lodf = text; contingencies = stand.outages } in
+      let outages = table-kept names files later t kept apart names.contingencies outage_header stand.outages (λ name is. inr is) stand.outages_are in (
+        with_tables inputs tables.shift loss,
+        record {
+          texts = texts;
+          have = record {
+            case = case-kept;
+            ptdf = have.shift apart.outputs;
+            lodf = subst (λ o. IsTableFile later (source_of loss_header o) text) (sym named) (have.loss file loss named there);
+            contingencies = subst (λ o. IsTableFile later (source_of outage_header (option_map_or (λ _. names.contingencies) o None)) stand.outages) (sym named) outages;
+          };
+          inputs = check-inputs names.places texts inputs tables.shift loss stand.work shift-there loss-in;
+        },
+      )
+
+  -- and that of shift factors alone, without outages
+  accepted-alone : names.lodf_out ≡ None → (checked : Inputs) × AreCheckFiles later (check_of names) (Ok checked)
+  accepted-alone named =
+      let back = (loss_back inputs.network inputs.reactances [] names.places (no_factors names.places) (sound inputs fit are.shift.positive) (none-listed inputs.network) (none-made inputs.network inputs.reactances names.places)).1 in
+      let loss-in = table-in (refusal.TooLong input.Lodf) (refusal.Table input.Lodf) (λ bytes. loss_of inputs.network bytes names.places) (header_line loss_header) (no_factors names.places)
+      (omega arith) (subst (λ text. loss_of inputs.network text names.places ≡ Ok (no_factors names.places)) no-text back) in
+      let texts : GridTexts = record { case = stand.case; ptdf = shift_text; lodf = header_line loss_header; contingencies = header_line outage_header } in (
+        with_tables (alone inputs) tables.shift (no_factors names.places),
+        record {
+          texts = texts;
+          have = record {
+            case = case-kept;
+            ptdf = have.shift apart.outputs;
+            lodf = subst (λ o. IsTableFile later (source_of loss_header o) (header_line loss_header)) (sym named) refl;
+            contingencies = subst (λ o. IsTableFile later (source_of outage_header (option_map_or (λ _. names.contingencies) o None)) (header_line outage_header)) (sym named) refl;
+          };
+          inputs = check-inputs names.places texts (alone inputs) tables.shift (no_factors names.places) (alone-work stand.case stand.outages inputs stand.work) shift-there loss-in;
+        },
+      )
+
+  accepted : (o : Option (List ℕ)) → names.lodf_out ≡ o → (checked : Inputs) × AreCheckFiles later (check_of names) (Ok checked)
+  accepted (Some file) named = accepted-both file named
+  accepted None named = accepted-alone named
+
 -- ---- what is read again
 module _ (names : FactorNames) (inputs : FactorInputs) (checked : Inputs) (files later : Files) (t : Telling) (kept : KeepsWrites ⊥ (named_outputs (tabled names.ptdf_out names.lodf_out) t.outputs) (Some files) (Some later))
     (apart : AreFilesApart names) (stand : AreFactorFiles files names (Ok inputs)) (again : AreCheckFiles later (check_of names) (Ok checked)) where
@@ -282,14 +383,17 @@ tables-of names inputs files later text _ done (made_tables tables are is have) 
 tables-of names inputs files later text _ done (refused_tables fault stops is same) = let wrong : status.Refused ≡ status.Done = done in cc wrong
 tables-of names inputs files later text _ done (passed_tables p stops sides is same) = let wrong : status.Range ≡ status.Done = done in cc wrong
 
-pub law_of_factor_check : LawOfFactors → ShiftTablesAreExplained → LossTablesAreExplained → LossTablesAreReadBack → LawOfFactorCheck
-law_of_factor_check law_of_factors shift_explained loss_explained loss_back words again files later text answer s t inputs checked run now asks done apart verify check same_names =
+pub law_of_factor_check : LawOfFactors → ShiftTablesAreExplained → LossTablesAreExplained → LossTablesAreReadBack → ShiftTablesAreShort → LossTablesAreShort → LawOfFactorCheck
+law_of_factor_check law_of_factors shift_explained loss_explained loss_back shift_short loss_short words again files later text answer s t inputs run now asks done apart verify check =
     let p = printed words files text s run in
     let q = printed again later answer t verify in
     let tells = factors-told files words p.telling p.written (Ok inputs) p.answers asks in
-    let stand : AreCheckFiles later (check_of asks.names) (Ok checked) = subst (λ n. AreCheckFiles later n (Ok checked)) same_names check.stand in
-    let (r, residuals, is) = check-told later again q.telling q.written (Ok checked) q.answers check in
+    let kept = factors-kept words files later text s run now asks.names asks.asks in
     let (tables, are, have) = tables-of asks.names inputs files later text s done (law_of_factors words files later text s inputs run now asks) in
-    sym q.status_is ∙ ap (λ (x : Telling). x.status) is
-    ∙ within asks.names inputs checked files later p.telling (factors-kept words files later text s run now asks.names asks.asks) apart asks.stand stand shift_explained loss_explained loss_back tells.0 tables have r residuals
-    asks.names.lodf_out refl are
+    let (checked, stand) = accepted asks.names inputs files later p.telling kept apart asks.stand loss_back shift_short loss_short tells.0 tables have are asks.names.lodf_out refl in
+    let asks-check : AsksToCheck later again (Ok checked) = record { names = check_of asks.names; asks = check; stand = stand } in
+    let (r, residuals, is) = check-told later again q.telling q.written (Ok checked) q.answers asks-check in (
+      (checked, asks-check),
+      sym q.status_is ∙ ap (λ (x : Telling). x.status) is
+          ∙ within asks.names inputs checked files later p.telling kept apart asks.stand stand shift_explained loss_explained loss_back tells.0 tables have r residuals asks.names.lodf_out refl are,
+    )

@@ -24,6 +24,7 @@ use Rattle.sced.specs.Runs.{Ends, HasText, Outside}
 use Rattle.sced.specs.Runs as ending
 use Rattle.sced.specs.Told.{Answers, AnswersTo, checked, cleared, entitled, factored, made, migrated, pooled, refused, replayed, verified}
 use Rattle.sced.proofs.AskedLemmas.{no-other, not-refused}
+use Rattle.sced.proofs.LeftLemmas.{left-as}
 
 pub silent-or : (s : Status) → IsSilent s ⊎ ¬ (IsSilent s)
 silent-or s = by s
@@ -99,6 +100,7 @@ law_of_cut_short words before after s runs = record {
   silent = runs.silent;
   unwritten = runs.cut;
   begun = λ earlier now is was has. begun earlier now is was has (runs.told (loud is));
+  left = λ files later is was has. (let a = runs.told (loud is) in (a, left-as words before after a.written files later was has (a.failed is)));
 }
   where
     loud : s ≡ status.WriteFailed → ¬ (IsSilent s)

@@ -2,6 +2,7 @@
 use Rattle.std.specs.Prelude.{◌≡◌, ◌≢◌, ◌⊎◌, ℕ, Bool, true, false, if◌then◌else◌, List, [], ◌∷◌, ◌++◌, Option, Some, None, Ok, Err, Result, codes, is_some, length, map, nat_lt, option_and_then, option_map, unwrap_or}
 use Rattle.std.proofs.Common.{inl, inr, refl, sym, subst, ap, ◌∙◌}
 use Rattle.fraction_theory.specs.Fraction.{Fraction, ◌+ℚ◌}
+use Rattle.fraction_theory.specs.Order.{◌≤ℚ◌}
 use Rattle.fraction_theory.specs.Sums.{sum_by}
 use Rattle.exact_fraction.specs.declared.Passed.{Passed}
 use Rattle.outside_store.specs.Files.{Files, SameFiles}
@@ -12,7 +13,8 @@ use Rattle.market_model.specs.declared.answered.ReservePay.{ReservePay}
 use Rattle.market_model.specs.declared.participants.Parts.{Parts}
 use Rattle.market_model.specs.declared.participants.TransmissionRight.{TransmissionRight}
 use Rattle.rights_test.specs.declared.right_parts.Fit.TheVariants as fit
-use Rattle.market_model.specs.Laws.{LawOfTheReserve}
+use Rattle.market_model.specs.Dispatch.{zero}
+use Rattle.market_model.specs.Laws.{LawOfItsSign, LawOfTheReserve}
 use Rattle.market_model.specs.Market.{IsMarket}
 use Rattle.market_model.specs.Reserves.{offer_places}
 use Rattle.market_model.specs.RightAnswers.{IsRight, dispatch_in}
@@ -76,7 +78,7 @@ use Rattle.command_answers.specs.Verifying.{TellsVerdict, VerifiesTo, judged, pa
 use Rattle.command_answers.specs.declared.status.Status.{Status}
 use Rattle.command_answers.specs.declared.status.Status.TheVariants as status
 use Rattle.sced.specs.Asked.{AsksForFactors, AsksSteps, AsksVerdict, as_clear, as_pool}
-use Rattle.sced.specs.Headline.{HasCertificate, IsAsked, HasGreatestWelfare, IsFirstRefusal, IsRingText, IsPriced, IsReplayText, IsReported, IsVerdict, LawOfAsked, LawOfCertificate, LawOfCheck, LawOfCleared, LawOfComplete, LawOfFaults, LawOfInfeasible, LawOfLastCertificate, LawOfMake, LawOfOutside, LawOfRange, LawOfReplay, LawOfRoundTrip, LawOfVerify, RefusesEdit, RefusesFactors, cleared_ring, for_check, for_clear, for_factors, for_holders, for_migration, for_nothing, for_rights, for_ring, for_steps, for_tables, for_verdict, no, passes, range_ring, to_check, to_clear, to_migrate, to_replay, to_verify, with_fault, yes}
+use Rattle.sced.specs.Headline.{HasCertificate, IsAsked, HasGreatestWelfare, IsFirstRefusal, IsRingText, IsPriced, IsReplayText, IsReported, IsVerdict, LawOfAsked, LawOfCertificate, LawOfCheck, LawOfCleared, LawOfComplete, LawOfFaults, LawOfInfeasible, LawOfLastCertificate, LawOfMake, LawOfOutside, LawOfRange, LawOfReplay, LawOfRoundTrip, LawOfSurplus, LawOfVerify, RefusesEdit, RefusesFactors, cleared_ring, for_check, for_clear, for_factors, for_holders, for_migration, for_nothing, for_rights, for_ring, for_steps, for_tables, for_verdict, no, passes, range_ring, to_check, to_clear, to_migrate, to_replay, to_verify, with_fault, yes}
 use Rattle.sced.specs.Runs.{KeepsWrites, Outside}
 use Rattle.sced.specs.Runs as ending
 use Rattle.sced.specs.Told.{Answers, AnswersTo, checked, cleared, entitled, factored, made, migrated, named_bytes, named_outputs, pooled, refused, replayed, verified}
@@ -121,6 +123,12 @@ pub law_of_cleared : LawOfTheReserve → LawOfCleared
 law_of_cleared law_of_reserve words files text s m a place prints reports =
     let is = reported words files text s m (outcome.Cleared a) place _ (printed words files text s prints) reports in
     right-best law_of_reserve m a is.market is.right
+
+pub law_of_surplus : LawOfItsSign → LawOfSurplus
+unfolding surplus
+law_of_surplus law_of_its_sign words files text s m a place prints reports within =
+    let is = reported words files text s m (outcome.Cleared a) place _ (printed words files text s prints) reports in
+    subst (λ (x : Fraction). zero ≤ℚ x) (sym (ap (λ (b : Answer Fraction). b.money.surplus) is.right.made)) (law_of_its_sign m a.duals (dispatch_in a) is.market is.right.feasible is.right.supported within)
 
 pub law_of_infeasible : LawOfInfeasible
 law_of_infeasible words files text s m f place prints reports =

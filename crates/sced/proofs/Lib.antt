@@ -5,6 +5,7 @@ mod FactorCheckLemmas
 mod FactorLemmas
 mod FailureLemmas
 mod HeadlineLemmas
+mod LeftLemmas
 mod PromiseLemmas
 mod RightsLemmas
 mod RunLemmas

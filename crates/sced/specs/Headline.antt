@@ -1,13 +1,14 @@
 -- The promise of a run in the words of its users: laws of every run of the program, each from what `run` promises alone.
 -- Wood and Wollenberg, Power Generation, Operation and Control: dispatch within limits of the base and after outages. Schweppe and others, Spot
 -- Pricing of Electricity: prices and the surplus. Farkas: why no dispatch qualifies.
-use Rattle.std.specs.Prelude.{◌≡◌, ◌≢◌, ◌⊎◌, ℕ, List, [], ◌++◌, take, codes, is_some, slice_get, Option, Some, None, option_and_then, Ok, Err}
+use Rattle.std.specs.Prelude.{◌≡◌, ◌≢◌, ◌⊎◌, ℕ, List, [], ◌∷◌, ◌++◌, take, codes, is_some, slice_get, Option, Some, None, option_and_then, Ok, Err, if◌then◌else◌}
 use Rattle.std.specs.Option.{option_map_or}
+use Rattle.std.specs.Str.{bytes_eq}
 use Rattle.fraction_theory.specs.Fraction.{Fraction, ◌*ℚ◌}
 use Rattle.fraction_theory.specs.Order.{◌≤ℚ◌}
 use Rattle.fraction_theory.specs.Sums.{sum_by}
 use Rattle.exact_fraction.specs.declared.Passed.{Passed}
-use Rattle.outside_store.specs.Causes.{Still}
+use Rattle.outside_store.specs.Causes.{Rose, Still}
 use Rattle.outside_store.specs.Files.{Files, SameFiles}
 use Rattle.market_model.specs.declared.answered.Answer.{Answer}
 use Rattle.market_model.specs.declared.answered.Farkas.{Farkas}
@@ -19,6 +20,7 @@ use Rattle.market_model.specs.declared.participants.Parts.{Parts}
 use Rattle.market_model.specs.declared.participants.TransmissionRight.{TransmissionRight}
 use Rattle.market_model.specs.Dispatch.{Dispatch, IsDispatch, balance, places, zero}
 use Rattle.market_model.specs.Infeasibility.{IsFarkas}
+use Rattle.market_model.specs.Laws.{HasOffsetsWithin}
 use Rattle.market_model.specs.LimitRows.{flow, most_flow, rows}
 use Rattle.market_model.specs.Optimality.{AreWithin, Feasible, ProperDuals, Supports, bus_price, welfare}
 use Rattle.market_model.specs.Reserves.{reserve, reserve_need, reserve_units, KeepRooms}
@@ -61,7 +63,7 @@ use Rattle.refusal_text.specs.declared.refusals.FactorFault.{FactorFault}
 use Rattle.refusal_text.specs.declared.refusals.FactorFault.TheVariants as factor_fault
 use Rattle.refusal_text.specs.declared.refusals.Refusal.{Refusal}
 use Rattle.refusal_text.specs.declared.refusals.Refusal.TheVariants as refusal
-use Rattle.command_words.specs.Words.{AsksClear, AsksMake, AsksNothing, AsksReplay, CheckNames, FactorNames, IsFactorFile, IsFactorTable, MarketNames, NamesFile, NamesToWrite}
+use Rattle.command_words.specs.Words.{AsksCheck, AsksClear, AsksMake, AsksNothing, AsksReplay, CheckNames, FactorNames, IsFactorFile, IsFactorTable, MarketNames, NamesFile, NamesToWrite}
 use Rattle.residual_text.specs.ResidualLines.{residuals_text}
 use Rattle.market_inputs.specs.declared.checking.Inputs.{Inputs}
 use Rattle.market_inputs.specs.declared.making.FactorInputs.{FactorInputs}
@@ -169,6 +171,13 @@ pub record IsPriced (m : Parts) (a : Answer Fraction) : Type 0 where
 abbrev pub LawOfCleared : Type 0
 LawOfCleared = (words : List (List ℕ)) (files : Files) (text : List ℕ) (s : Status) (m : Parts) (a : Answer Fraction) (place : ℕ)
     → Prints words files text s → Reports words files text m (Cleared a) place → HasGreatestWelfare m (dispatch_in a) × IsPriced m a
+
+-- ---- surplus
+-- Where the fixed offset of each row that has a printed price above 0, of its upper or its lower limit, is within these limits, loads pay no less than
+-- units are paid for energy: the printed surplus is not negative.
+abbrev pub LawOfSurplus : Type 0
+LawOfSurplus = (words : List (List ℕ)) (files : Files) (text : List ℕ) (s : Status) (m : Parts) (a : Answer Fraction) (place : ℕ)
+    → Prints words files text s → Reports words files text m (Cleared a) place → HasOffsetsWithin m a.duals → zero ≤ℚ a.money.surplus
 
 -- ---- infeasible
 -- where infeasible is printed no dispatch qualifies, and the printed duals, which name rows of the market, show it with the printed bound
@@ -359,11 +368,13 @@ check_of names = record {
   places = names.places;
 }
 
--- of the tables that were made, with the case and the outages of which they were, `check` says that all is within what rounding explains
+-- Words that ask `check` for the tables that were made, with the case and the outages of which they were, find no fault in these files, and are told
+-- that all is within what rounding explains.
 abbrev pub LawOfFactorCheck : Type 0
-LawOfFactorCheck = (words again : List (List ℕ)) (files later : Files) (text answer : List ℕ) (s t : Status) (inputs : FactorInputs) (checked : Inputs)
+LawOfFactorCheck = (words again : List (List ℕ)) (files later : Files) (text answer : List ℕ) (s t : Status) (inputs : FactorInputs)
     → (run : Prints words files text s) → run.after.files ≡ Some later → (asks : AsksForFactors files words (Ok inputs)) → s ≡ status.Done → AreFilesApart asks.names
-    → Prints again later answer t → (check : AsksToCheck later again (Ok checked)) → check.names ≡ check_of asks.names → t ≡ status.Done
+    → Prints again later answer t → AsksCheck again (check_of asks.names)
+    → ((checked : Inputs) × AsksToCheck later again (Ok checked)) × (t ≡ status.Done)
 
 -- ---- faults
 -- an edit among the steps that the words ask for is refused
@@ -427,13 +438,41 @@ LawOfCauses = (words : List (List ℕ)) (before after : Outside) (s : Status) �
     → CountsReads words before after s × CountsWrites words before after s
 
 -- ---- cut short
+-- the files once one of these bytes is written, and once each of these is, one after another
+abbrev pub with_file : Files → List ℕ × List ℕ → Files
+with_file files file = λ name. if bytes_eq name file.0 then Some file.1 else files name
+
+abbrev pub with_files : Files → List (List ℕ × List ℕ) → Files
+with_files files [] = files
+with_files files (file ∷ rest) = with_files (with_file files file) rest
+
+-- The write of one of these files failed: it has what it had, or a beginning of its bytes. Those before it are whole, and every other is as it was.
+pub record StopsAt (written : List (List ℕ × List ℕ)) (files later : Files) : Type 0 where
+  pub whole : List (List ℕ × List ℕ)
+  pub name : List ℕ
+  pub bytes : List ℕ
+  pub untouched : List (List ℕ × List ℕ)
+  pub stands : written ≡ whole ++ (name, bytes) ∷ untouched
+  pub cut : (later name ≡ with_files files whole name) ⊎ ((k : ℕ) × (later name ≡ Some (take k bytes)))
+  pub others : (n : List ℕ) → n ≢ name → later n ≡ with_files files whole n
+
+-- What is left where a write or a put failed. A failed write is counted of a file that the words name for writing, nothing is put, and the files are
+-- written up to one. Or only a failed put is counted: all files are whole, and every other is as it was.
+pub data IsLeft (words : List (List ℕ)) (written : List (List ℕ × List ℕ)) (before after : Outside) (files later : Files) : Type 0 where
+  left_by_write : (file : List ℕ) → NamesToWrite words file → Rose (before.failed_writes file) (after.failed_writes file) → after.taken ≡ before.taken
+      → StopsAt written files later → IsLeft words written before after files later
+  left_by_put : Still before.failed_writes after.failed_writes → Rose before.failed_puts after.failed_puts → ((n : List ℕ) → later n ≡ with_files files written n)
+      → IsLeft words written before after files later
+
 -- Where a read failed or memory was refused, nothing is put and every file is as it was. Where a failed write is counted, nothing is put. Where
--- a write or a put failed, what is put is a beginning of what is right to tell, or nothing.
+-- a write or a put failed, what is put is a beginning of what is right to tell, or nothing, and files are written as far as it came.
 pub record IsCutShort (words : List (List ℕ)) (before after : Outside) (s : Status) : Type 0 where
   pub silent : IsSilent s → LeavesAll before after
   pub unwritten : ¬ (Still before.failed_writes after.failed_writes) → after.taken ≡ before.taken
   pub begun : (earlier now : List ℕ) → s ≡ status.WriteFailed → before.taken ≡ Some earlier → after.taken ≡ Some now
       → (right : Answers words before after s) × (k : ℕ) × (now ≡ earlier ++ take k right.telling.text)
+  pub left : (files later : Files) → s ≡ status.WriteFailed → before.files ≡ Some files → after.files ≡ Some later
+      → (right : Answers words before after s) × IsLeft words right.written before after files later
 
 abbrev pub LawOfCutShort : Type 0
 LawOfCutShort = (words : List (List ℕ)) (before after : Outside) (s : Status) → Runs words before after s → IsCutShort words before after s

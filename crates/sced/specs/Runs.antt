@@ -69,6 +69,14 @@ pub data Ends (t : Telling) (written : List (List ℕ × List ℕ)) (before now 
       → Ends t written before now had has s
   unwritten : KeepsWrites (Unit {0}) written before now → has ≡ had → s ≡ status.WriteFailed → Ends t written before now had has s
 
+-- What a run counts and leaves that ends for a failed write or put. A write of a file that was asked for failed, nothing is put, and the files are
+-- written up to one whose write failed. Or no write failed, and a put did: all files are written.
+pub data FailsAt (asked : List ℕ → Type 0) (written : List (List ℕ × List ℕ)) (before after : Outside) : Type 0 where
+  at_write : (file : List ℕ) → asked file → Rose (before.failed_writes file) (after.failed_writes file) → after.taken ≡ before.taken
+      → KeepsWrites (Unit {0}) written before.files after.files → FailsAt asked written before after
+  at_put : Still before.failed_writes after.failed_writes → Rose before.failed_puts after.failed_puts → KeepsWrites ⊥ written before.files after.files
+      → FailsAt asked written before after
+
 -- a failed write of a file that was asked for is counted
 abbrev pub FailedFor : {S : Type 0} → Ghosts S → S → S → (List ℕ → Type 0) → Type 0
 FailedFor store old new asked = (file : List ℕ) × asked file × Rose (store.failed_writes old file) (store.failed_writes new file)

@@ -1,7 +1,7 @@
 -- What is right to tell of the words of a run and of the files that they name.
 use Rattle.std.specs.Prelude.{◌≡◌, ◌⊎◌, ℕ, List, [], ◌∷◌, Option, Some, None}
 use Rattle.outside_store.specs.Files.{Files}
-use Rattle.command_words.specs.Words.{AsksCheck, AsksClear, AsksFactors, AsksMake, AsksMigrate, AsksNothing, AsksPool, AsksReplay, AsksRights, AsksVerify, CheckNames, FactorNames, MarketNames}
+use Rattle.command_words.specs.Words.{AsksCheck, AsksClear, AsksFactors, AsksMake, AsksMigrate, AsksNothing, AsksPool, AsksReplay, AsksRights, AsksVerify, CheckNames, FactorNames, MarketNames, NamesToWrite}
 use Rattle.command_answers.specs.Checking.{TellsCheck}
 use Rattle.command_answers.specs.Clearing.{TellsClear}
 use Rattle.command_answers.specs.Making.{MakesTo}
@@ -14,7 +14,7 @@ use Rattle.command_answers.specs.declared.told.Outputs.{Outputs}
 use Rattle.command_answers.specs.declared.status.Status.{Status}
 use Rattle.command_answers.specs.declared.status.Status.TheVariants as status
 use Rattle.command_files.specs.Standing.{AreCheckFiles, AreClearFiles, AreFactorFiles, ArePoolFiles, AreReplayFiles, AreRightsFiles, AreVerifyFiles, IsMigratedFile, OfFiles, TellsFactorsOf}
-use Rattle.sced.specs.Runs.{Ends, Outside}
+use Rattle.sced.specs.Runs.{Ends, FailsAt, Outside}
 use Rattle.sced.specs.declared.run.Work.{Work}
 use Rattle.cert_format.specs.Certificates.{most_part}
 
@@ -66,3 +66,5 @@ pub record Answers (words : List (List ℕ)) (before after : Outside) (s : Statu
   pub written : List (List ℕ × List ℕ)
   pub right : AnswersTo before.files words telling written
   pub ends : Ends telling written before.files after.files before.taken after.taken s
+  -- where a write or a put failed, that which failed is counted
+  pub failed : s ≡ status.WriteFailed → FailsAt (NamesToWrite words) written before after

@@ -1,13 +1,13 @@
 //! What every run of the program means for those who read what it prints: laws that follow from what `run` promises, each the contract of a
 //! function that does nothing.
 
-ghost use Rattle.sced.specs.Headline.{LawOfAnswered, LawOfAsked, LawOfCauses, LawOfCertificate, LawOfCheck, LawOfCleared, LawOfComplete, LawOfCutShort, LawOfFactorCheck, LawOfFactors, LawOfFaults, LawOfInfeasible, LawOfLastCertificate, LawOfMake, LawOfMigrate, LawOfMissing, LawOfOutside, LawOfRange, LawOfReplay, LawOfRights, LawOfRoundTrip, LawOfVerify};
+ghost use Rattle.sced.specs.Headline.{LawOfAnswered, LawOfAsked, LawOfCauses, LawOfCertificate, LawOfCheck, LawOfCleared, LawOfComplete, LawOfCutShort, LawOfFactorCheck, LawOfFactors, LawOfFaults, LawOfInfeasible, LawOfLastCertificate, LawOfMake, LawOfMigrate, LawOfMissing, LawOfOutside, LawOfRange, LawOfReplay, LawOfRights, LawOfRoundTrip, LawOfSurplus, LawOfVerify};
 
 use factor_laws::laws::{
-    loss_tables_are_explained, loss_tables_are_read_back, shift_tables_are_explained,
-    shift_tables_are_read_back,
+    loss_tables_are_explained, loss_tables_are_read_back, loss_tables_are_short,
+    shift_tables_are_explained, shift_tables_are_read_back, shift_tables_are_short,
 };
-use market_model::laws::reserve_is_paid_for_the_need;
+use market_model::laws::{reserve_is_paid_for_the_need, surplus_is_not_negative};
 use rights_test::laws::payments_are_covered;
 
 /// A run that puts a text was asked for nothing that the program does, for work on what the files stand for, for a ring, or on files with
@@ -24,6 +24,13 @@ pub fn cleared()
     ensures { LawOfCleared }
 {
     reserve_is_paid_for_the_need();
+}
+
+/// The surplus that is printed is not negative, where the fixed offset of each row that has a printed price above 0 is within its limits.
+pub fn surplus()
+    ensures { LawOfSurplus }
+{
+    surplus_is_not_negative();
 }
 
 /// Where infeasible is printed no dispatch qualifies, and the printed duals show it with the printed bound.
@@ -97,7 +104,8 @@ pub fn factors()
     loss_tables_are_read_back();
 }
 
-/// `check` says of the tables that were made, with the case and the outages of which they were, that all is within what rounding explains.
+/// `check` reads the tables that were made, with the case and the outages of which they were, and says that all is within what rounding
+/// explains.
 pub fn factor_check()
     ensures { LawOfFactorCheck }
 {
@@ -105,6 +113,8 @@ pub fn factor_check()
     shift_tables_are_explained();
     loss_tables_are_explained();
     loss_tables_are_read_back();
+    shift_tables_are_short();
+    loss_tables_are_short();
 }
 
 /// The first fault of the files is told exactly where there is one, and no file is touched then; its status comes else only for an edit
@@ -135,7 +145,9 @@ pub fn causes()
     ensures { LawOfCauses }
 {}
 
-/// What a run leaves that ended for a failed call or for want of memory: nothing, or a beginning of what is right to tell.
+/// What a run leaves that ended for a failed call or for want of memory: nothing, or a beginning of what is right to tell. Where a write
+/// failed, that file is as it was or has a beginning of its bytes, those before it are whole, and every other is as it was; where only the
+/// put failed, all are whole.
 pub fn cut_short()
     ensures { LawOfCutShort }
 {}

@@ -1,12 +1,12 @@
 //! From words and files to the files that are written and the text that is put.
 
 ghost use Rattle.std.specs.Prelude.{◌≡◌, ◌⊎◌, ℕ, List, [], map, option_map, string_bytes, vec_items, Some, Ok, Err, IfOk, IsErr, MatchResult};
-ghost use Rattle.outside_store.specs.Causes.{Rose, Still};
+ghost use Rattle.outside_store.specs.Causes.{Still};
 ghost use Rattle.outside_store.specs.Sinks.{Took, CountFault};
 ghost use Rattle.command_answers.specs.Tellings.{map_outputs, telling_of};
 ghost use Rattle.command_words.specs.Words.{NamesFile, NamesToWrite};
 ghost use Rattle.sced.specs.Promise.{Runs};
-ghost use Rattle.sced.specs.Runs.{Ends, FailedFor, HasText, KeepsWrites, TellsUsage, WritesFor, outside_of};
+ghost use Rattle.sced.specs.Runs.{Ends, FailsAt, HasText, KeepsWrites, TellsUsage, WritesFor, outside_of};
 ghost use Rattle.command_files.specs.OnlyReads.{IsSilent, OnlyReads};
 ghost use Rattle.sced.specs.Told.{AnswersTo, IsOutputFile, named_bytes, names_for, written_by};
 
@@ -140,7 +140,7 @@ fn finish<S: Store, K: Sink>(store: &mut S, out: &mut K, work: &Work<'_>) -> Sta
     ensures ends { Ends (telling_of work.now.told) (written_by work.now) (S.files store.old) (S.files store.new) (K.taken out.old) (K.taken out.new) result }
     ensures cut { ¬ (Still (S.failed_writes store.old) (S.failed_writes store.new)) → K.taken out.new ≡ K.taken out.old }
     ensures reads { Still (S.failed_reads store.old) (S.failed_reads store.new) }
-    ensures failed { result ≡ Status.WriteFailed → FailedFor S.Store store.old store.new (IsOutputFile (names_for work.now)) ⊎ Rose (K.faults out.old) (K.faults out.new) }
+    ensures failed { result ≡ Status.WriteFailed → FailsAt (IsOutputFile (names_for work.now)) (written_by work.now) (outside_of S.Store K.Sink store.old out.old) (outside_of S.Store K.Sink store.new out.new) }
     ensures still { ¬ (result ≡ Status.WriteFailed) → Still (S.failed_writes store.old) (S.failed_writes store.new) × (K.faults out.new ≡ K.faults out.old) }
 {
     match keep(store, work) {
