@@ -1,4 +1,4 @@
--- What the bytes of files stand for is one thing: one market or one first fault, whatever the bytes.
+-- What the bytes of files stand for is one thing: what a command works on or one first fault, whatever the bytes.
 use Rattle.std.specs.Prelude.{◌≡◌, Result}
 use Rattle.refusal_text.specs.declared.refusals.Refusal.{Refusal}
 
