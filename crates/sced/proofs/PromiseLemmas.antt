@@ -8,7 +8,7 @@ use Rattle.command_answers.specs.Tellings.{Telling}
 use Rattle.command_answers.specs.declared.status.Status.{Status}
 use Rattle.command_answers.specs.declared.status.Status.TheVariants as status
 use Rattle.sced.specs.Promise.{Runs}
-use Rattle.sced.specs.Runs.{Ends, FailsAt, HasText, KeepsWrites, Outside, TellsUsage, at_put, at_write}
+use Rattle.sced.specs.Runs.{Ends, FailsAt, HasText, Outside, TellsUsage, at_put, at_write}
 use Rattle.sced.specs.Told.{AnswersTo}
 use Rattle.sced.proofs.EndLemmas.{ends-from, keeps-from}
 

@@ -18,7 +18,7 @@ use Rattle.market_model.specs.declared.limits.Row.{Row}
 use Rattle.market_model.specs.declared.answered.RowId.{RowId}
 use Rattle.market_model.specs.declared.participants.Parts.{Parts}
 use Rattle.market_model.specs.declared.participants.TransmissionRight.{TransmissionRight}
-use Rattle.market_model.specs.Dispatch.{Dispatch, IsDispatch, balance, places, zero}
+use Rattle.market_model.specs.Dispatch.{Dispatch, IsDispatch, balance, zero}
 use Rattle.market_model.specs.Infeasibility.{IsFarkas}
 use Rattle.market_model.specs.Laws.{HasOffsetsWithin}
 use Rattle.market_model.specs.LimitRows.{flow, most_flow, rows}
