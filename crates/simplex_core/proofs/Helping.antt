@@ -5,6 +5,7 @@ use Rattle.std.proofs.Common.{ap, sym, ◌∙◌, subst}
 use mathlib.Core.Bool.{beq}
 use Rattle.fraction_theory.specs.Fraction.{Fraction, whole, neg_ℚ}
 use Rattle.fraction_theory.specs.Order.{◌<ℚ◌}
+use Rattle.fraction_theory.proofs.FieldLaws.{whole-neg}
 use Rattle.fraction_theory.proofs.OrderLaws.{<ℚ-≤ℚ}
 use Rattle.linear_dict.specs.Dictionaries.{Dictionary, IsDictionary, system_in, choice_of, note_of}
 use Rattle.linear_dict.specs.Notes.{Noted}
@@ -75,3 +76,10 @@ module _ (d : Dictionary) (w : ℕ) (n : Noted) (is : n ≡ note_of d w) where
     pub helps_towards : Helps (system_in d) (state_of d) v above w → whole (pos 0) <ℚ turned_entry
     unfolding state_of
     helps_towards h = subst (λ (f : Bool). whole (pos 0) <ℚ opposite_if f (opposite_if above ((choice_of d).entry v w))) (sym flag_is) h.towards
+
+-- 0 turned is 0
+pub turned_nil : (f above : Bool) → opposite_if f (opposite_if above (whole (pos 0))) ≡ whole (pos 0)
+turned_nil true true = ap neg_ℚ (sym (whole-neg (pos 0))) ∙ sym (whole-neg (pos 0))
+turned_nil true false = sym (whole-neg (pos 0))
+turned_nil false true = sym (whole-neg (pos 0))
+turned_nil false false = refl

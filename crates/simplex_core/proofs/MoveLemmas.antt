@@ -1,12 +1,14 @@
 -- The notes after a move, one by one.
-use Rattle.std.specs.Prelude.{◌≡◌, ◌≢◌, ℕ, ◌+◌, ◌<◌, ◌≤◌, ◌==◌, if◌then◌else◌, pos, Bool, List, length, slice_index, refl}
+use Rattle.std.specs.Prelude.{◌≡◌, ◌≢◌, ℕ, ◌+◌, ◌<◌, ◌≤◌, ◌==◌, if◌then◌else◌, pos, Bool, List, [], ◌∷◌, length, slice_index, refl}
 use Rattle.std.specs.List.{Contains}
 use Rattle.std.proofs.Common.{arith, ap, sym, ◌∙◌, subst, inl, inr}
 use Rattle.std.proofs.lemmas.Bool.{cases_lt}
 use Rattle.std.proofs.lemmas.List.{length-set}
 use mathlib.Core.Path.{ap₂}
 use Rattle.fraction_theory.specs.Fraction.{Fraction, whole, ◌+ℚ◌, ◌*ℚ◌}
+use Rattle.fraction_theory.proofs.FieldLaws.{ring_ℚ}
 use Rattle.fraction_theory.proofs.ListSums.{put_at-here, put_at-elsewhere}
+use Rattle.fraction_theory.proofs.Ring.{by_ring, at as term_at, pnil, ◌⊕◌, ◌⊗◌}
 use Rattle.linear_dict.specs.Dictionaries.{Dictionary, IsDictionary, choice_of, entry_of, note_of, with_note}
 use Rattle.linear_dict.specs.Notes.{Noted}
 use Rattle.linear_dict.specs.Places.{place_in, is_among}
@@ -102,6 +104,21 @@ module _ (e : Dictionary) (h : IsDictionary e) (f : ℕ → Noted) where
           ap (λ (x : Dictionary). moved_note x v j above bound far price (slice_index e.names k)) m.is
           ∙ moved_by_note e m.notes v j above bound far price (slice_index e.names k) moving_note
 
+      -- a note that is to stay as it is
+      pub moving_stays : f (slice_index e.names k) ≡ note_of e (slice_index e.names k) → IsMoving e f (k + 1) d
+      moving_stays stays = record {
+        notes = m.notes;
+        is = m.is;
+        count = m.count;
+        done = λ j l hj. elim (cases_lt j k) [
+          | inl less ↦ m.done j less hj
+          | inr more ↦
+              let q : j ≡ k = Prim.omega (arith, l, more) in
+              ap (λ (i : ℕ). note_of (record e { notes = m.notes }) (slice_index e.names i)) q ∙ moving_note ∙ sym stays ∙ ap (λ (i : ℕ). f (slice_index e.names i)) (sym q)
+        ];
+        rest = λ w c l. m.rest w c (Prim.omega (arith, l));
+      }
+
       pub moving_step : (n : Noted) (d' : Dictionary) → d' ≡ with_note d (slice_index e.names k) n → n ≡ f (slice_index e.names k) → IsMoving e f (k + 1) d'
       moving_step n d' set is_n =
           let x : ℕ = slice_index e.names k in
@@ -125,3 +142,12 @@ module _ (e : Dictionary) (h : IsDictionary e) (f : ℕ → Noted) where
                 let differ : w ≢ x = λ q. Prim.omega (arith, l, ap (place_in e.names) q, rank_of e h k hk) in
                 set_note_of now x n w ∙ note_elsewhere now m.count w x n named differ ∙ m.rest w c (Prim.omega (arith, l));
           }
+
+-- by an entry of 0 nothing moves
+pub unmoved : (d : Dictionary) → IsDictionary d → (v k : ℕ) (above : Bool) (bound far price : Fraction) (w : ℕ) → Contains d.others w → w ≢ v → entry_of d k w ≡ whole (pos 0)
+    → moved_note d v k above bound far price w ≡ note_of d w
+unmoved d h v k above bound far price w other apart nil =
+    moved-staying d h v k above bound far price w other apart
+    ∙ ap (λ (x : Fraction). note_with (note_of d w) (note_of d w).value x (note_of d w).at_high)
+    (ap (λ (x : Fraction). (note_of d w).reduced +ℚ price *ℚ x) nil
+    ∙ sym (by_ring ring_ℚ ((note_of d w).reduced ∷ price ∷ []) (term_at 0) (term_at 0 ⊕ term_at 1 ⊗ pnil) refl))

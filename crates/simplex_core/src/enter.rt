@@ -39,12 +39,16 @@ fn candidate_at<N: Exact>(
     ensures candidate { IfOk result (IsCandidate N.value dict.now leaving.now.name leaving.now.above (slice_index dict.now.names rank)) }
     ensures pair { IfErr result (IsPairOf N.value N.bound (system_in dict.now)) }
 {
+    let entry = dict.entry(leaving.row, column);
+    match entry.sign() {
+        Sign::Zero => return Ok(None),
+        Sign::Below | Sign::Above => {}
+    }
     let note = dict.note_at(rank);
     match note.low.order(note.high) {
         Ordering::Less => {}
         Ordering::Equal | Ordering::Greater => return Ok(None),
     }
-    let entry = dict.entry(leaving.row, column);
     let towards = if leaving.above == note.at_high {
         entry
     } else {

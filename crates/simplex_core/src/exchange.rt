@@ -1,7 +1,7 @@
 // A step: the leaving and the entering variable change places, and the notes move by the new table.
-ghost use Rattle.std.specs.Prelude.{◌≡◌, ◌<◌, IfErr, IfOk, if◌then◌else◌, false, length, slice_index};
+ghost use Rattle.std.specs.Prelude.{◌≡◌, ◌<◌, IfErr, IfOk, IsTrue, if◌then◌else◌, false, length, slice_index};
 ghost use Rattle.linear_dict.specs.Causes.{IsPairOf, IsRefused};
-ghost use Rattle.linear_dict.specs.Dictionaries.{IsDictionary, system_in};
+ghost use Rattle.linear_dict.specs.Dictionaries.{IsDictionary, note_of, system_in};
 ghost use Rattle.linear_dict.specs.Notes.{noted};
 ghost use Rattle.simplex_core.specs.Operations.{MoveShare, MovesShare};
 ghost use Rattle.simplex_theory.specs.Steps.{Enters, Leaves};
@@ -10,7 +10,7 @@ ghost use Rattle.simplex_core.specs.Turns.{moved_note, noted_anew, turned};
 
 use crate::enter::Candidate;
 use crate::leave::Leaving;
-use exact_fraction::{Exact, Passed, exact_difference};
+use exact_fraction::{Exact, Passed, Sign, exact_difference};
 use linear_dict::{Dict, Note, Place};
 
 /// How the notes move: the leaving variable goes to a bound, and all values and reduced prices with it.
@@ -77,6 +77,33 @@ fn note_after<N: Exact>(dict: &Dict<N>, rank: usize, step: &Move<N>) -> Result<N
     }
 }
 
+/// Whether it is told that the note of the variable of a rank stays as it is: it is an other one, does not leave, and has the entry 0 in
+/// the row of the entering one.
+fn stays<N: Exact>(dict: &Dict<N>, rank: usize, step: &Move<N>) -> bool
+    requires live { dict.now.spent ≡ false }
+    requires sound { IsDictionary dict.now }
+    requires rank { rank < length dict.now.names }
+    requires row { step.now.row < length dict.now.basics }
+    requires entering { slice_index dict.now.basics step.now.row ≡ step.now.entering }
+    requires column { step.now.column < length dict.now.others }
+    requires leaving { slice_index dict.now.others step.now.column ≡ step.now.leaving }
+    ensures { IsTrue result → moved_note dict.now step.now.leaving step.now.entering step.now.above
+        (N.value step.now.bound) (N.value step.now.displacement) (N.value step.now.price) (slice_index dict.now.names rank) ≡ note_of dict.now (slice_index dict.now.names rank) }
+{
+    match dict.place_at(rank) {
+        Place::Row(_) => false,
+        Place::Column(column) => {
+            if column == step.column {
+                return false;
+            }
+            match dict.entry(step.row, column).sign() {
+                Sign::Zero => true,
+                Sign::Below | Sign::Above => false,
+            }
+        }
+    }
+}
+
 /// Moves the notes of all variables.
 fn move_notes<N: Exact>(dict: &mut Dict<N>, step: &Move<N>) -> Result<(), Passed<N>>
     requires live { dict.old.spent ≡ false }
@@ -91,6 +118,9 @@ fn move_notes<N: Exact>(dict: &mut Dict<N>, step: &Move<N>) -> Result<(), Passed
         (MovesShare dict.old step.now.leaving step.now.entering (N.value step.now.displacement) (N.value step.now.price))) }
 {
     for rank in 0..dict.name_count() {
+        if stays(dict, rank, step) {
+            continue;
+        }
         let note = note_after(dict, rank, step)?;
         dict.set_note_at(rank, note);
     }

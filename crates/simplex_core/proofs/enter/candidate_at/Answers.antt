@@ -1,4 +1,4 @@
-use Rattle.std.proofs.Common.{◌≡◌, ◌∙◌, ap, sym, subst, inl, inr, pos, ℕ, Bool, Ordering, slice_index}
+use Rattle.std.proofs.Common.{◌≡◌, ◌∙◌, ap, refl, sym, subst, inl, inr, pos, ℕ, Bool, Ordering, slice_index}
 use mathlib.Core.Path.{ap₂}
 use Rattle.std.specs.List.{Contains}
 use Rattle.std.specs.Ordering.{MatchOrdering}
@@ -14,7 +14,7 @@ use Rattle.linear_dict.specs.Notes.{Noted, noted}
 use Rattle.linear_dict.proofs.SplitLemmas.{Contains-at}
 use Rattle.simplex_theory.specs.Steps.{opposite_if}
 use Rattle.simplex_core.specs.States.{state_of}
-use Rattle.simplex_core.proofs.Helping.{signed_same, signed_apart, size_of_signed, reduced_is, helps_is, helps_free, helps_towards}
+use Rattle.simplex_core.proofs.Helping.{signed_same, signed_apart, size_of_signed, reduced_is, helps_is, helps_free, helps_towards, turned_nil}
 use Rattle.simplex_core.proofs.Pairs.{ratio_pair}
 use Rattle.simplex_core.proofs.enter.candidate_at.Goals as goal
 use Rattle.simplex_core.proofs.enter.candidate_at.Goals.{then-leaving-note, else-leaving-note}
@@ -90,8 +90,8 @@ returns-in_err-times-in-Above-clause-pair g c =
     (product_refused value g.N.Exact.bound c.size.result c.recip.result r (abs_ℚ (note_of d name).reduced) (recip_ℚ t) c.in_err-times-in-Above.ensures
     (c.size.ensures ∙ ap (λ (n : Noted). abs_ℚ n.reduced) c.note_at-note.ensures) c.recip.ensures))
 
-pub returns-in-Below-clause-candidate : goal.returns-in-Below-clause-candidate
-returns-in-Below-clause-candidate g c = λ h.
+pub returns-in-Below-sign-clause-candidate : goal.returns-in-Below-sign-clause-candidate
+returns-in-Below-sign-clause-candidate g c = λ h.
     let value = g.N.Exact.value in
     let d = c.args.dict.now in
     let name : ℕ = slice_index d.names c.args.rank in
@@ -107,7 +107,21 @@ returns-in-Below-clause-candidate g c = λ h.
       | else-leaving-note w ↦ ap value w.towards-is ∙ w.neg-towards.ensures ∙ ap neg_ℚ entry ∙ signed_apart a f e w.if-leaving-note.false
     ] in
     let above : whole (pos 0) <ℚ t = subst (λ (x : Fraction). whole (pos 0) <ℚ x) (sym turned) (helps_towards d name n c.note_at-note.ensures v a h) in
-    elim c.in-Below.is [
-      | inl q ↦ <ℚ_irrefl t (<ℚ_trans t (whole (pos 0)) t (sign_of_is t Below (sym q ∙ c.sign.ensures)) above)
-      | inr q ↦ <ℚ_irrefl (whole (pos 0)) (subst (λ (x : Fraction). whole (pos 0) <ℚ x) (sign_of_is t Zero (sym q ∙ c.sign.ensures)) above)
+    elim c.in-Below-sign.is [
+      | inl q ↦ <ℚ_irrefl t (<ℚ_trans t (whole (pos 0)) t (sign_of_is t Below (sym q ∙ c.sign-2.ensures)) above)
+      | inr q ↦ <ℚ_irrefl (whole (pos 0)) (subst (λ (x : Fraction). whole (pos 0) <ℚ x) (sign_of_is t Zero (sym q ∙ c.sign-2.ensures)) above)
     ]
+
+-- an entry of 0 helps no way
+pub returns-in-Zero-clause-candidate : goal.returns-in-Zero-clause-candidate
+returns-in-Zero-clause-candidate g c = λ h.
+    let value = g.N.Exact.value in
+    let d = c.args.dict.now in
+    let name : ℕ = slice_index d.names c.args.rank in
+    let v = c.args.leaving.now.name in
+    let a : Bool = c.args.leaving.now.above in
+    let n : Noted = note_of d name in
+    let e : Fraction = (choice_of d).entry v name in
+    let entry : value c.entry-entry.result ≡ e = c.entry-entry.ensures.entry ∙ ap₂ (λ (x y : ℕ). (choice_of d).entry x y) c.requires.leaving c.requires.name in
+    let nil : e ≡ whole (pos 0) = sym entry ∙ sign_of_is (value c.entry-entry.result) Zero (sym c.in-Zero.is ∙ c.sign.ensures) in
+    <ℚ_irrefl (whole (pos 0)) (subst (λ (x : Fraction). whole (pos 0) <ℚ x) (ap (λ (x : Fraction). opposite_if n.at_high (opposite_if a x)) nil ∙ turned_nil n.at_high a) (helps_towards d name n refl v a h))

@@ -1,8 +1,8 @@
-use Rattle.std.proofs.Common.{◌≡◌, ◌<◌, ◌∙◌, ℕ, arith, ap, subst, length, slice_index}
-use Rattle.linear_dict.specs.Dictionaries.{Dictionary, with_note}
+use Rattle.std.proofs.Common.{rules, ◌≡◌, ◌<◌, ◌∙◌, ℕ, arith, ap, sym, subst, length, slice_index}
+use Rattle.linear_dict.specs.Dictionaries.{Dictionary, note_of, with_note}
 use Rattle.linear_dict.specs.Notes.{Noted, noted}
 use Rattle.simplex_core.specs.Turns.{moved_note}
-use Rattle.simplex_core.proofs.MoveLemmas.{moving_start, moving_sound, moving_same, moving_step, moving_end}
+use Rattle.simplex_core.proofs.MoveLemmas.{moving_start, moving_sound, moving_same, moving_stays, moving_step, moving_end}
 use Rattle.std.proofs.lemmas.Result.{err_from_is_err_and}
 use Rattle.linear_dict.proofs.CauseLemmas.{refused_as}
 use Rattle.simplex_core.specs.Operations.{MoveShare, MovesShare, of_note}
@@ -19,6 +19,32 @@ pub note_after-requires-clause-sound : goal.note_after-requires-clause-sound
 note_after-requires-clause-sound g c =
     let s = c.args.step.now in
     moving_sound c.args.dict.now c.requires.sound (moved_note c.args.dict.now s.leaving s.entering s.above (g.N.Exact.value s.bound) (g.N.Exact.value s.displacement) (g.N.Exact.value s.price)) c.loop-rank.rank c.loop-rank.dict c.loop-rank.invariant
+
+pub stays-requires-clause-sound : goal.stays-requires-clause-sound
+stays-requires-clause-sound g c =
+    let s = c.args.step.now in
+    moving_sound c.args.dict.now c.requires.sound (moved_note c.args.dict.now s.leaving s.entering s.above (g.N.Exact.value s.bound) (g.N.Exact.value s.displacement) (g.N.Exact.value s.price)) c.loop-rank.rank c.loop-rank.dict c.loop-rank.invariant
+
+-- a note that stays is that after the move
+pub loop-rank-preserved-then-stays : goal.loop-rank-preserved-then-stays
+loop-rank-preserved-then-stays g c =
+    let s = c.args.step.now in
+    let value = g.N.Exact.value in
+    let e : Dictionary = c.args.dict.now in
+    let d : Dictionary = c.loop-rank.dict in
+    let k : ℕ = c.loop-rank.rank in
+    let m = c.loop-rank.invariant in
+    let f : ℕ → Noted = moved_note e s.leaving s.entering s.above (value s.bound) (value s.displacement) (value s.price) in
+    let hk : k < length e.names = Prim.omega (arith, c.loop-rank-test.true, c.name_count-rank-end.ensures) in
+    let name : slice_index d.names k ≡ slice_index e.names k = ap (λ (x : Dictionary). slice_index x.names k) m.is in
+    let told = c.stays.ensures (Prim.search rules) in
+    moving_stays e c.requires.sound f k d m hk
+    (sym (moving_same e c.requires.sound f k d m hk s.leaving s.entering s.above (value s.bound) (value s.displacement) (value s.price))
+    ∙ ap (moved_note d s.leaving s.entering s.above (value s.bound) (value s.displacement) (value s.price)) (sym name)
+    ∙ told
+    ∙ ap (note_of d) name
+    ∙ ap (λ (x : Dictionary). note_of x (slice_index e.names k)) m.is
+    ∙ moving_note e c.requires.sound f k d m hk)
 
 pub loop-rank-preserved : goal.loop-rank-preserved
 loop-rank-preserved g c =
