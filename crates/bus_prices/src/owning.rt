@@ -39,7 +39,7 @@ fn add_pickup<N: Exact>(market: &Market, row: Row, price: N, out: &mut [N]) -> R
     ensures count { length out.new ≡ length out.old }
     ensures own { (before : ℕ → Fraction) → map N.value out.old ≡ map before (places (length market.now.units))
         → IfOk result (λ _. map N.value out.new ≡ map (λ unit. before unit +ℚ added_to_own market.now row (N.value price) unit) (places (length market.now.units))) }
-    ensures cause { (before : ℕ → Fraction) → map N.value out.old ≡ map before (places (length market.now.units))
+    ensures stops { (before : ℕ → Fraction) → map N.value out.old ≡ map before (places (length market.now.units))
         → IfErr result (λ passed. ((unit : ℕ) × (unit < length market.now.units) × (loses_unit market.now unit row.cause ≡ true) × IsShareRefusal (before unit) (N.value price) (row_pickup market.now row.line row.cause) N.bound (passed_at N.value passed))
         ⊎ IsRefusedAmong (PickupSum market.now row) N.bound (passed_at N.value passed)) }
 {
@@ -67,7 +67,7 @@ pub fn own<N: Exact>(
     requires out { length out.old ≡ length market.now.units }
     ensures count { length out.new ≡ length out.old }
     ensures own { IfOk result (λ _. map N.value out.new ≡ map (own_price market.now (duals_at N.value duals.now) (total_at N.value prices.now)) (places (length market.now.units))) }
-    ensures cause { IfErr result (λ passed. IsRefusedInOwnPrices market.now (duals_at N.value duals.now) (total_at N.value prices.now) N.bound (passed_at N.value passed)) }
+    ensures stops { IfErr result (λ passed. IsRefusedInOwnPrices market.now (duals_at N.value duals.now) (total_at N.value prices.now) N.bound (passed_at N.value passed)) }
 {
     let _lines = market.lines();
     put_bus_prices(market, prices, out);
@@ -90,7 +90,7 @@ pub fn own_prices<N: Exact>(
     requires duals { ProperDuals market.now (duals_at N.value duals.now) }
     requires prices { length prices.now ≡ length market.now.buses }
     ensures own { IfOk result (λ own. map N.value own.items ≡ map (own_price market.now (duals_at N.value duals.now) (total_at N.value prices.now)) (places (length market.now.units))) }
-    ensures cause { IfErr result (StopsBy N.value (IsRefusedInOwnPrices market.now (duals_at N.value duals.now) (total_at N.value prices.now) N.bound)) }
+    ensures stops { IfErr result (StopsBy N.value (IsRefusedInOwnPrices market.now (duals_at N.value duals.now) (total_at N.value prices.now) N.bound)) }
 {
     let mut by_unit = zeros(alloc, market.units().len())?;
     own(market, duals, prices, &mut by_unit)?;

@@ -52,7 +52,7 @@ fn add_row<N: Exact>(
     requires lost { IsCauseOf market.now row.cause }
     requires out { length out.old ≡ length market.now.buses }
     ensures parts { (energy : Fraction) (before : ℕ → Fraction) → HaveParts N.value energy before out.old → IfOk result (λ _. HaveParts N.value energy (λ bus. before bus +ℚ N.value price *ℚ row_factor market.now row bus) out.new) }
-    ensures cause { (energy : Fraction) (before : ℕ → Fraction) → HaveParts N.value energy before out.old → IfErr result (λ passed. ((bus : ℕ) × (bus < length market.now.buses) × IsShareRefusal (before bus) (N.value price) (row_factor market.now row bus) N.bound (passed_at N.value passed))
+    ensures stops { (energy : Fraction) (before : ℕ → Fraction) → HaveParts N.value energy before out.old → IfErr result (λ passed. ((bus : ℕ) × (bus < length market.now.buses) × IsShareRefusal (before bus) (N.value price) (row_factor market.now row bus) N.bound (passed_at N.value passed))
         ⊎ IsRefusedAmong (BusFactorSum market.now row) N.bound (passed_at N.value passed)) }
 {
     for (bus, place) in out.iter_mut().enumerate() {
@@ -71,7 +71,7 @@ fn add_row<N: Exact>(
 /// Puts at each bus the price that its two parts make.
 fn put_totals<N: Exact>(out: &mut [Price<N>]) -> Result<(), Passed<N>>
     ensures prices { (energy : Fraction) (congestion : ℕ → Fraction) → HaveParts N.value energy congestion out.old → IfOk result (λ _. map (price_at N.value) out.new ≡ map (λ bus. price_of_parts energy (congestion bus)) (places (length out.old))) }
-    ensures cause { (energy : Fraction) (congestion : ℕ → Fraction) → HaveParts N.value energy congestion out.old → IfErr result (λ passed. (bus : ℕ) × (bus < length out.old) × IsRefusal Plus energy (congestion bus) N.bound (passed_at N.value passed)) }
+    ensures stops { (energy : Fraction) (congestion : ℕ → Fraction) → HaveParts N.value energy congestion out.old → IfErr result (λ passed. (bus : ℕ) × (bus < length out.old) × IsRefusal Plus energy (congestion bus) N.bound (passed_at N.value passed)) }
 {
     for place in out.iter_mut() {
         let total = exact_sum(place.energy, place.congestion)?;
@@ -95,7 +95,7 @@ pub fn prices<N: Exact>(
     requires out { length out.old ≡ length market.now.buses }
     ensures count { length out.new ≡ length out.old }
     ensures prices { IfOk result (λ _. map (price_at N.value) out.new ≡ prices_made market.now (duals_at N.value duals.now)) }
-    ensures cause { IfErr result (λ passed. IsRefusedInBusPrices market.now (duals_at N.value duals.now) N.bound (passed_at N.value passed)) }
+    ensures stops { IfErr result (λ passed. IsRefusedInBusPrices market.now (duals_at N.value duals.now) N.bound (passed_at N.value passed)) }
 {
     let _lines = market.lines();
     put_energy(duals.energy, out);

@@ -8,7 +8,7 @@ ghost use Rattle.exact_fraction.specs.Written.{number_text, parts_text};
 ghost use Rattle.cert_format.specs.Certificates.{Fits};
 ghost use Rattle.cert_format.specs.FractionTexts.{Spells, fraction_of_text, is_slash, without_sign};
 
-use exact_fraction::{Exact, Sign};
+use exact_fraction::{Exact, MOST_TEXT, Sign};
 
 /// The number of a decimal digit.
 fn digit<N: Exact>(byte: u8) -> N
@@ -93,7 +93,7 @@ fn quotient<N: Exact>(text: &[u8]) -> Option<N>
 fn is_spelling<N: Exact>(text: &[u8], number: N) -> bool
     ensures { IsTrue result ↔ (text.now ≡ parts_text (N.value number)) }
 {
-    let mut buffer = [0u8; 128];
+    let mut buffer = [0u8; MOST_TEXT];
     let end = number.write_parts(&mut buffer);
     &buffer[..end] == text
 }

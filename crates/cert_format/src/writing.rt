@@ -13,7 +13,7 @@ ghost use Rattle.cert_format.specs.Written.{cert_data, cert_text, certificate_of
 use crate::Cert;
 use crate::object::{Members, put_fraction, put_number};
 use crate::writing_reserve::{answer_part, cleared_part, duals_part, farkas_part};
-use exact_fraction::Exact;
+use exact_fraction::{Exact, MOST_TEXT};
 use market_data::FactorPlaces;
 use market_model::{Answer, Dual, Farkas, List, Memory, Outcome};
 use serde_json::{Value, json, put};
@@ -24,7 +24,7 @@ use std::str;
 pub(crate) fn fraction_value<N: Exact>(alloc: Global, number: N) -> Result<Value, AllocError>
     ensures { IfOk result (λ v. view v ≡ fraction_data (N.value number)) }
 {
-    let mut buffer = [0u8; 128];
+    let mut buffer = [0u8; MOST_TEXT];
     let end = number.write_parts(&mut buffer);
     let text = str::from_utf8(&buffer[..end]).unwrap();
     json!(in alloc; text)

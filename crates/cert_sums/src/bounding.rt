@@ -27,25 +27,25 @@ use std::alloc::Global;
 /// A sum with what the price of an upper limit makes of what a flow leaves of it. A price of 0 makes nothing.
 fn with_above<N: Exact>(sum: N, price: N, limit: N, flow: N) -> Result<N, Passed<N>>
     ensures sum { IfOk result (λ more. N.value more ≡ N.value sum +ℚ N.value price *ℚ (N.value limit -ℚ N.value flow)) }
-    ensures cause { IfErr result (λ passed. IsMarginRefusal (N.value sum) (N.value price) (N.value limit) (N.value flow) N.bound (passed_at N.value passed)) }
+    ensures stops { IfErr result (λ passed. IsMarginRefusal (N.value sum) (N.value price) (N.value limit) (N.value flow) N.bound (passed_at N.value passed)) }
 {
     if price.sign() == Sign::Zero {
         return Ok(sum);
     }
-    let room = exact_difference(limit, flow)?;
-    sum.plus_product(price, room)
+    let margin = exact_difference(limit, flow)?;
+    sum.plus_product(price, margin)
 }
 
 /// The same for a lower limit, which is the opposite of the upper one.
 fn with_below<N: Exact>(sum: N, price: N, limit: N, flow: N) -> Result<N, Passed<N>>
     ensures sum { IfOk result (λ more. N.value more ≡ N.value sum +ℚ N.value price *ℚ (N.value limit +ℚ N.value flow)) }
-    ensures cause { IfErr result (λ passed. IsBelowRefusal (N.value sum) (N.value price) (N.value limit) (N.value flow) N.bound (passed_at N.value passed)) }
+    ensures stops { IfErr result (λ passed. IsBelowRefusal (N.value sum) (N.value price) (N.value limit) (N.value flow) N.bound (passed_at N.value passed)) }
 {
     if price.sign() == Sign::Zero {
         return Ok(sum);
     }
-    let room = exact_sum(limit, flow)?;
-    sum.plus_product(price, room)
+    let margin = exact_sum(limit, flow)?;
+    sum.plus_product(price, margin)
 }
 
 /// A sum with what the prices that duals give a row make of what its flow leaves of the most that it may be on either side, where nothing is
@@ -60,7 +60,7 @@ fn with_limit<N: Exact>(
     requires line { entry.now.row.line < length market.now.lines }
     requires lost { IsCauseOf market.now entry.now.row.cause }
     ensures sum { (d : Duals Fraction) → priced_at N.value entry.now ≡ priced_by market.now d entry.now.row → AreCarried market.now (empty market.now) (map N.value carried.now) → IfOk result (λ more. N.value more ≡ N.value sum +ℚ total (limit_terms market.now d entry.now.row)) }
-    ensures cause { (x : Dispatch) → AreCarried market.now x (map N.value carried.now) → IfErr result (λ passed. IsRowShareRefusal market.now x (priced_at N.value entry.now) (N.value sum) N.bound (passed_at N.value passed)) }
+    ensures stops { (x : Dispatch) → AreCarried market.now x (map N.value carried.now) → IfErr result (λ passed. IsRowShareRefusal market.now x (priced_at N.value entry.now) (N.value sum) N.bound (passed_at N.value passed)) }
 {
     let flow = row_flow(market, carried, entry.row)?;
     let most = most_flow(market, entry.row)?;
@@ -78,7 +78,7 @@ fn with_limits<N: Exact>(
     requires carried { length carried.now ≡ length market.now.lines + length market.now.unit_outages }
     requires named { (d : Duals Fraction) × AreNamed N.value market.now d named.now }
     ensures sum { (d : Duals Fraction) → AreNamed N.value market.now d named.now → AreCarried market.now (empty market.now) (map N.value carried.now) → N.value of_energy ≡ d.energy *ℚ balance market.now (empty market.now) → IfOk result (λ sum. N.value sum ≡ total (energy_left_terms market.now d)) }
-    ensures cause { (d : Duals Fraction) → AreNamed N.value market.now d named.now → AreCarried market.now (empty market.now) (map N.value carried.now) → N.value of_energy ≡ d.energy *ℚ balance market.now (empty market.now) → IfErr result (λ passed. IsFarkasPair market.now d N.bound (passed_at N.value passed)) }
+    ensures stops { (d : Duals Fraction) → AreNamed N.value market.now d named.now → AreCarried market.now (empty market.now) (map N.value carried.now) → N.value of_energy ≡ d.energy *ℚ balance market.now (empty market.now) → IfErr result (λ passed. IsFarkasPair market.now d N.bound (passed_at N.value passed)) }
 {
     let _lines = market.lines();
     let mut sum = of_energy;
@@ -91,7 +91,7 @@ fn with_limits<N: Exact>(
 /// A sum with what a quantity makes, where a MW of it makes so much; nothing where that is not above 0.
 pub(crate) fn with_most<N: Exact>(sum: N, weight: N, quantity: N) -> Result<N, Passed<N>>
     ensures sum { IfOk result (λ more. N.value more ≡ N.value sum +ℚ part_above (N.value weight) *ℚ N.value quantity) }
-    ensures cause { IfErr result (λ passed. IsShareRefusal (N.value sum) (part_above (N.value weight)) (N.value quantity) N.bound (passed_at N.value passed)) }
+    ensures stops { IfErr result (λ passed. IsShareRefusal (N.value sum) (part_above (N.value weight)) (N.value quantity) N.bound (passed_at N.value passed)) }
 {
     match weight.sign() {
         Sign::Below | Sign::Zero => Ok(sum),
@@ -110,7 +110,7 @@ fn with_blocks<N: Exact>(
     requires named { (d : Duals Fraction) × AreNamed N.value market.now d named.now }
     ensures sum { (d : Duals Fraction) → N.value energy ≡ d.energy → AreNamed N.value market.now d named.now → AreNamedRooms N.value market.now d rooms.now → N.value of_rooms ≡ total (nothing_terms market.now d)
         → IfOk result (λ sum. N.value sum ≡ total (nothing_terms market.now d ++ map (block_most market.now d) (places (length market.now.blocks)))) }
-    ensures cause { (d : Duals Fraction) → N.value energy ≡ d.energy → AreNamed N.value market.now d named.now → AreNamedRooms N.value market.now d rooms.now → N.value of_rooms ≡ total (nothing_terms market.now d)
+    ensures stops { (d : Duals Fraction) → N.value energy ≡ d.energy → AreNamed N.value market.now d named.now → AreNamedRooms N.value market.now d rooms.now → N.value of_rooms ≡ total (nothing_terms market.now d)
         → IfErr result (λ passed. IsFarkasPair market.now d N.bound (passed_at N.value passed)) }
 {
     let _units = market.units();
@@ -136,7 +136,7 @@ fn with_reserve<N: Exact>(
     requires rooms { (d : Duals Fraction) × AreNamedRooms N.value market.now d rooms.now }
     ensures bound { (d : Duals Fraction) → N.value energy ≡ d.energy → AreNamed N.value market.now d named.now → N.value reserve ≡ d.reserve → AreNamedRooms N.value market.now d rooms.now → N.value of_limits ≡ total (energy_left_terms market.now d)
         → IfOk result (λ bound. N.value bound ≡ farkas_bound market.now d) }
-    ensures cause { (d : Duals Fraction) → N.value energy ≡ d.energy → AreNamed N.value market.now d named.now → N.value reserve ≡ d.reserve → AreNamedRooms N.value market.now d rooms.now → N.value of_limits ≡ total (energy_left_terms market.now d)
+    ensures stops { (d : Duals Fraction) → N.value energy ≡ d.energy → AreNamed N.value market.now d named.now → N.value reserve ≡ d.reserve → AreNamedRooms N.value market.now d rooms.now → N.value of_limits ≡ total (energy_left_terms market.now d)
         → IfErr result (λ passed. IsFarkasPair market.now d N.bound (passed_at N.value passed)) }
 {
     let of_need = with_need(market, of_limits, reserve)?;
@@ -160,7 +160,7 @@ pub fn farkas_bound<N: Exact>(
     requires named { (d : Duals Fraction) × AreNamed N.value market.now d named.now }
     requires rooms { (d : Duals Fraction) × AreNamedRooms N.value market.now d rooms.now }
     ensures bound { (d : Duals Fraction) → N.value energy ≡ d.energy → AreNamed N.value market.now d named.now → N.value reserve ≡ d.reserve → AreNamedRooms N.value market.now d rooms.now → IfOk result (λ bound. N.value bound ≡ farkas_bound market.now d) }
-    ensures cause { (d : Duals Fraction) → N.value energy ≡ d.energy → AreNamed N.value market.now d named.now → N.value reserve ≡ d.reserve → AreNamedRooms N.value market.now d rooms.now → IfErr result (StopsBy N.value (IsFarkasPair market.now d N.bound)) }
+    ensures stops { (d : Duals Fraction) → N.value energy ≡ d.energy → AreNamed N.value market.now d named.now → N.value reserve ≡ d.reserve → AreNamedRooms N.value market.now d rooms.now → IfErr result (StopsBy N.value (IsFarkasPair market.now d N.bound)) }
 {
     let nothing = zeros(alloc, market.blocks().len())?;
     let by_bus = injections(alloc, market, &nothing)?;

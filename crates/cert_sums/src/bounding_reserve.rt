@@ -19,7 +19,7 @@ use market_model::{Market, need_quantity, offer_quantity, room_quantity};
 /// A sum with what the price of reserve makes of the need, which counts down. There is none in a market of energy alone.
 pub(crate) fn with_need<N: Exact>(market: &Market, of_limits: N, reserve: N) -> Result<N, Passed<N>>
     ensures sum { (d : Duals Fraction) → N.value reserve ≡ d.reserve → N.value of_limits ≡ total (energy_left_terms market.now d) → IfOk result (λ sum. N.value sum ≡ total (energy_left_terms market.now d ++ need_terms market.now d)) }
-    ensures cause { (d : Duals Fraction) → N.value reserve ≡ d.reserve → N.value of_limits ≡ total (energy_left_terms market.now d) → IfErr result (λ passed. IsRefusedIn (farkas_terms market.now d) N.bound (passed_at N.value passed)) }
+    ensures stops { (d : Duals Fraction) → N.value reserve ≡ d.reserve → N.value of_limits ≡ total (energy_left_terms market.now d) → IfErr result (λ passed. IsRefusedIn (farkas_terms market.now d) N.bound (passed_at N.value passed)) }
 {
     if market.reserve().listed {
         let need: N = need_quantity(market.reserve());
@@ -37,7 +37,7 @@ pub(crate) fn with_rooms<N: Exact>(
 ) -> Result<N, Passed<N>>
     requires { (d : Duals Fraction) × AreNamedRooms N.value market.now d rooms.now }
     ensures sum { (d : Duals Fraction) → AreNamedRooms N.value market.now d rooms.now → N.value of_need ≡ total (energy_left_terms market.now d ++ need_terms market.now d) → IfOk result (λ sum. N.value sum ≡ total (nothing_terms market.now d)) }
-    ensures cause { (d : Duals Fraction) → AreNamedRooms N.value market.now d rooms.now → N.value of_need ≡ total (energy_left_terms market.now d ++ need_terms market.now d) → IfErr result (λ passed. IsRefusedIn (farkas_terms market.now d) N.bound (passed_at N.value passed)) }
+    ensures stops { (d : Duals Fraction) → AreNamedRooms N.value market.now d rooms.now → N.value of_need ≡ total (energy_left_terms market.now d ++ need_terms market.now d) → IfErr result (λ passed. IsRefusedIn (farkas_terms market.now d) N.bound (passed_at N.value passed)) }
 {
     let mut sum = of_need;
     for entry in rooms {
@@ -55,7 +55,7 @@ pub(crate) fn with_offers<N: Exact>(
 ) -> Result<N, Passed<N>>
     ensures bound { (d : Duals Fraction) → N.value reserve ≡ d.reserve → AreNamedRooms N.value market.now d rooms.now → N.value of_blocks ≡ total (nothing_terms market.now d ++ map (block_most market.now d) (places (length market.now.blocks)))
         → IfOk result (λ bound. N.value bound ≡ farkas_bound market.now d) }
-    ensures cause { (d : Duals Fraction) → N.value reserve ≡ d.reserve → AreNamedRooms N.value market.now d rooms.now → N.value of_blocks ≡ total (nothing_terms market.now d ++ map (block_most market.now d) (places (length market.now.blocks)))
+    ensures stops { (d : Duals Fraction) → N.value reserve ≡ d.reserve → AreNamedRooms N.value market.now d rooms.now → N.value of_blocks ≡ total (nothing_terms market.now d ++ map (block_most market.now d) (places (length market.now.blocks)))
         → IfErr result (λ passed. IsFarkasPair market.now d N.bound (passed_at N.value passed)) }
 {
     let _units = market.units();

@@ -23,7 +23,7 @@ fn put_carried<N: Exact>(
     requires out { length out.old ≡ length market.now.lines + length market.now.unit_outages }
     ensures count { length out.new ≡ length out.old }
     ensures carried { AreInjections market.now (dispatch_of N.value dispatch.now) (map N.value injections.now) → IfOk result (λ _. AreCarried market.now (dispatch_of N.value dispatch.now) (map N.value out.new)) }
-    ensures cause { AreInjections market.now (dispatch_of N.value dispatch.now) (map N.value injections.now) → IfErr result (λ passed. IsCarriedRefusal market.now (dispatch_of N.value dispatch.now) N.bound (passed_at N.value passed)) }
+    ensures stops { AreInjections market.now (dispatch_of N.value dispatch.now) (map N.value injections.now) → IfErr result (λ passed. IsCarriedRefusal market.now (dispatch_of N.value dispatch.now) N.bound (passed_at N.value passed)) }
 {
     let (by_line, by_outage) = out.split_at_mut(market.lines().len());
     put_line_flows(market, injections, by_line)?;
@@ -42,7 +42,7 @@ pub fn carried_flows<N: Exact>(
     requires injections { length injections.now ≡ length market.now.buses }
     ensures count { IfOk result (λ carried. vec_len carried ≡ length market.now.lines + length market.now.unit_outages) }
     ensures carried { AreInjections market.now (dispatch_of N.value dispatch.now) (map N.value injections.now) → IfOk result (λ carried. AreCarried market.now (dispatch_of N.value dispatch.now) (map N.value carried.items)) }
-    ensures cause { AreInjections market.now (dispatch_of N.value dispatch.now) (map N.value injections.now) → IfErr result (StopsBy N.value (IsCarriedRefusal market.now (dispatch_of N.value dispatch.now) N.bound)) }
+    ensures stops { AreInjections market.now (dispatch_of N.value dispatch.now) (map N.value injections.now) → IfErr result (StopsBy N.value (IsCarriedRefusal market.now (dispatch_of N.value dispatch.now) N.bound)) }
 {
     let mut carried = zeros(alloc, market.lines().len() + market.unit_outages().len())?;
     put_carried(market, dispatch, injections, &mut carried)?;

@@ -33,7 +33,7 @@ fn row_pickup<N: Exact>(market: &Market, row: Row) -> Result<N, Passed<N>>
     requires line { row.line < length market.now.lines }
     requires lost { IsCauseOf market.now row.cause }
     ensures factor { IfOk result (λ factor. N.value factor ≡ row_pickup market.now row.line row.cause) }
-    ensures cause { IfErr result (λ passed. IsRefusedAmong (PickupSum market.now row) N.bound (passed_at N.value passed)) }
+    ensures stops { IfErr result (λ passed. IsRefusedAmong (PickupSum market.now row) N.bound (passed_at N.value passed)) }
 {
     match row.cause {
         Cause::Base | Cause::Branch(_) => Ok(datum(0)),
@@ -52,7 +52,7 @@ pub(crate) fn own_price<N: Exact>(
     requires named { (d : Duals Fraction) × AreNamed N.value market.now d named.now }
     requires unit { unit < length market.now.units }
     ensures price { (d : Duals Fraction) (price : ℕ → Fraction) → AreNamed N.value market.now d named.now → N.value at_bus ≡ price (unit_at market.now unit).bus → IfOk result (λ own. N.value own ≡ own_price market.now d price unit) }
-    ensures cause { (d : Duals Fraction) (price : ℕ → Fraction) → AreNamed N.value market.now d named.now → N.value at_bus ≡ price (unit_at market.now unit).bus → IfErr result (λ passed. IsPriceRefusal market.now d (OwnPriceSum market.now d price) N.bound (passed_at N.value passed)) }
+    ensures stops { (d : Duals Fraction) (price : ℕ → Fraction) → AreNamed N.value market.now d named.now → N.value at_bus ≡ price (unit_at market.now unit).bus → IfErr result (λ passed. IsPriceRefusal market.now d (OwnPriceSum market.now d price) N.bound (passed_at N.value passed)) }
 {
     let _lines = market.lines();
     let mut sum = at_bus;

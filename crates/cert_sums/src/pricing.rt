@@ -28,7 +28,7 @@ pub struct NamedRow<N> {
 /// A sum less what the prices of a row take by its factor. A factor of 0 takes nothing.
 pub(crate) fn less_net_price<N: Exact>(sum: N, up: N, down: N, factor: N) -> Result<N, Passed<N>>
     ensures sum { IfOk result (λ more. N.value more ≡ N.value sum +ℚ neg_ℚ (N.value up -ℚ N.value down) *ℚ N.value factor) }
-    ensures cause { IfErr result (λ passed. IsNetShadowPriceRefusal (N.value sum) (N.value up) (N.value down) (N.value factor) N.bound (passed_at N.value passed)) }
+    ensures stops { IfErr result (λ passed. IsNetShadowPriceRefusal (N.value sum) (N.value up) (N.value down) (N.value factor) N.bound (passed_at N.value passed)) }
 {
     if factor.sign() == Sign::Zero {
         return Ok(sum);
@@ -46,7 +46,7 @@ fn congestion_at<N: Exact>(
     requires named { (d : Duals Fraction) × AreNamed N.value market.now d named.now }
     requires bus { bus < length market.now.buses }
     ensures sum { (d : Duals Fraction) → AreNamed N.value market.now d named.now → IfOk result (λ sum. N.value sum ≡ congestion market.now d bus) }
-    ensures cause { (d : Duals Fraction) → AreNamed N.value market.now d named.now → IfErr result (λ passed. IsRefusedIn (congestion_terms market.now d bus) N.bound (passed_at N.value passed) ⊎ IsPricesRefusal market.now d N.bound (passed_at N.value passed) ⊎ IsFactorRefusal market.now (named_rows market.now d) N.bound (passed_at N.value passed)) }
+    ensures stops { (d : Duals Fraction) → AreNamed N.value market.now d named.now → IfErr result (λ passed. IsRefusedIn (congestion_terms market.now d bus) N.bound (passed_at N.value passed) ⊎ IsPricesRefusal market.now d N.bound (passed_at N.value passed) ⊎ IsFactorRefusal market.now (named_rows market.now d) N.bound (passed_at N.value passed)) }
 {
     let _lines = market.lines();
     let mut sum: N = datum(0);
@@ -67,7 +67,7 @@ fn bus_price<N: Exact>(
     requires named { (d : Duals Fraction) × AreNamed N.value market.now d named.now }
     requires bus { bus < length market.now.buses }
     ensures price { (d : Duals Fraction) → N.value energy ≡ d.energy → AreNamed N.value market.now d named.now → IfOk result (λ price. N.value price ≡ bus_price market.now d bus) }
-    ensures cause { (d : Duals Fraction) → N.value energy ≡ d.energy → AreNamed N.value market.now d named.now → IfErr result (λ passed. IsPriceRefusal market.now d (BusPriceSum market.now d bus) N.bound (passed_at N.value passed)) }
+    ensures stops { (d : Duals Fraction) → N.value energy ≡ d.energy → AreNamed N.value market.now d named.now → IfErr result (λ passed. IsPriceRefusal market.now d (BusPriceSum market.now d bus) N.bound (passed_at N.value passed)) }
 {
     let congestion = congestion_at(market, named, bus)?;
     exact_sum(energy, congestion)
@@ -84,7 +84,7 @@ pub fn unit_price<N: Exact>(
     requires named { (d : Duals Fraction) × AreNamed N.value market.now d named.now }
     requires unit { unit < length market.now.units }
     ensures price { (d : Duals Fraction) → N.value energy ≡ d.energy → AreNamed N.value market.now d named.now → IfOk result (λ price. N.value price ≡ unit_price market.now d unit) }
-    ensures cause { (d : Duals Fraction) → N.value energy ≡ d.energy → AreNamed N.value market.now d named.now → IfErr result (λ passed. IsUnitPriceRefusal market.now d N.bound (passed_at N.value passed)) }
+    ensures stops { (d : Duals Fraction) → N.value energy ≡ d.energy → AreNamed N.value market.now d named.now → IfErr result (λ passed. IsUnitPriceRefusal market.now d N.bound (passed_at N.value passed)) }
 {
     let at_bus = bus_price(market, energy, named, market.units().at(unit).bus)?;
     own_price(market, at_bus, named, unit)

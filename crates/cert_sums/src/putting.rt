@@ -18,7 +18,7 @@ pub fn injections<N: Exact>(
     requires { length dispatch.now ≡ length market.now.blocks }
     ensures count { IfOk result (λ mws. vec_len mws ≡ length market.now.buses) }
     ensures injections { IfOk result (λ mws. AreInjections market.now (dispatch_of N.value dispatch.now) (map N.value mws.items)) }
-    ensures cause { IfErr result (StopsBy N.value (IsRefusedAmong (InjectionSum market.now (dispatch_of N.value dispatch.now)) N.bound)) }
+    ensures stops { IfErr result (StopsBy N.value (IsRefusedAmong (InjectionSum market.now (dispatch_of N.value dispatch.now)) N.bound)) }
 {
     let mut mws = zeros(alloc, market.buses().len())?;
     market_model::injections(market, dispatch, &mut mws)?;

@@ -41,7 +41,7 @@ fn room_price_in<N: Exact>(rooms: &[NamedRoom<N>], unit: usize) -> Option<N>
 /// A price less that of a unit's room. A room that is not named takes nothing.
 fn less_room<N: Exact>(price: N, rooms: &[NamedRoom<N>], unit: usize) -> Result<N, Passed<N>>
     ensures less { (m : Parts) (d : Duals Fraction) → unit < length m.units → AreNamedRooms N.value m d rooms.now → IfOk result (λ less. N.value less ≡ N.value price -ℚ room_price m d unit) }
-    ensures cause { (m : Parts) (d : Duals Fraction) → unit < length m.units → AreNamedRooms N.value m d rooms.now → IfErr result (λ passed. Contains (reserve_units m) unit × IsRefusal Minus (N.value price) (room_price m d unit) N.bound (passed_at N.value passed)) }
+    ensures stops { (m : Parts) (d : Duals Fraction) → unit < length m.units → AreNamedRooms N.value m d rooms.now → IfErr result (λ passed. Contains (reserve_units m) unit × IsRefusal Minus (N.value price) (room_price m d unit) N.bound (passed_at N.value passed)) }
 {
     match room_price_in(rooms, unit) {
         Some(room) => exact_difference(price, room),
@@ -61,7 +61,7 @@ pub fn energy_worth<N: Exact>(
     requires named { (d : Duals Fraction) × AreNamed N.value market.now d named.now }
     requires unit { unit < length market.now.units }
     ensures worth { (d : Duals Fraction) → N.value energy ≡ d.energy → AreNamed N.value market.now d named.now → AreNamedRooms N.value market.now d rooms.now → IfOk result (λ worth. N.value worth ≡ energy_worth market.now d unit) }
-    ensures cause { (d : Duals Fraction) → N.value energy ≡ d.energy → AreNamed N.value market.now d named.now → AreNamedRooms N.value market.now d rooms.now → IfErr result (λ passed. IsWorthRefusal market.now d N.bound (passed_at N.value passed)) }
+    ensures stops { (d : Duals Fraction) → N.value energy ≡ d.energy → AreNamed N.value market.now d named.now → AreNamedRooms N.value market.now d rooms.now → IfErr result (λ passed. IsWorthRefusal market.now d N.bound (passed_at N.value passed)) }
 {
     let price = unit_price(market, energy, named, unit)?;
     less_room(price, rooms, unit)
@@ -74,7 +74,7 @@ pub fn reserve_worth<N: Exact>(
     unit: usize,
 ) -> Result<N, Passed<N>>
     ensures worth { (m : Parts) (d : Duals Fraction) → unit < length m.units → N.value reserve ≡ d.reserve → AreNamedRooms N.value m d rooms.now → IfOk result (λ worth. N.value worth ≡ reserve_worth m d unit) }
-    ensures cause { (m : Parts) (d : Duals Fraction) → unit < length m.units → N.value reserve ≡ d.reserve → AreNamedRooms N.value m d rooms.now → IfErr result (λ passed. IsRefusedAmong (WorthSum m d) N.bound (passed_at N.value passed)) }
+    ensures stops { (m : Parts) (d : Duals Fraction) → unit < length m.units → N.value reserve ≡ d.reserve → AreNamedRooms N.value m d rooms.now → IfErr result (λ passed. IsRefusedAmong (WorthSum m d) N.bound (passed_at N.value passed)) }
 {
     less_room(reserve, rooms, unit)
 }

@@ -93,7 +93,7 @@ fn wrong_slack<N: Exact>(
     ensures first { N.value accepted ≡ reserve market.now (dispatch_with (map N.value blocks.now) (map N.value quantities.now))
         → IfOk result (λ first. first ≡ first_of (need_slack_reason market.now (dispatch_with (map N.value blocks.now) (map N.value quantities.now)) (N.value price)
         ∷ room_slack_reason market.now (dispatch_with (map N.value blocks.now) (map N.value quantities.now)) (map (room_dual_at N.value) rooms.now) ∷ [])) }
-    ensures cause { IfErr result (λ passed. IsRefusedAmong (RoomSum market.now (dispatch_with (map N.value blocks.now) (map N.value quantities.now))) N.bound (passed_at N.value passed)) }
+    ensures stops { IfErr result (λ passed. IsRefusedAmong (RoomSum market.now (dispatch_with (map N.value blocks.now) (map N.value quantities.now))) N.bound (passed_at N.value passed)) }
 {
     if let Some(reason) = slack_need(market, price, accepted) {
         return Ok(Some(reason));
@@ -115,7 +115,7 @@ fn wrong_flow<N: Exact>(
     requires quantities { length quantities.now ≡ length market.now.reserve.offers }
     requires distinct { NamesNoRowTwice (map (dual_at N.value) limits.now) }
     ensures first { (energy : Fraction) → IfOk result (λ first. first ≡ first_of (flow_reasons market.now (dispatch_with (map N.value blocks.now) (map N.value quantities.now)) (duals_with energy (map (dual_at N.value) limits.now) (N.value price) (map (room_dual_at N.value) rooms.now)))) }
-    ensures cause { (energy : Fraction) → NoneOf (part_reasons market.now (dispatch_with (map N.value blocks.now) (map N.value quantities.now)) (duals_with energy (map (dual_at N.value) limits.now) (N.value price) (map (room_dual_at N.value) rooms.now)))
+    ensures stops { (energy : Fraction) → NoneOf (part_reasons market.now (dispatch_with (map N.value blocks.now) (map N.value quantities.now)) (duals_with energy (map (dual_at N.value) limits.now) (N.value price) (map (room_dual_at N.value) rooms.now)))
         → IfErr result (StopsBy N.value (IsOptimalStop market.now (dispatch_with (map N.value blocks.now) (map N.value quantities.now)) (duals_with energy (map (dual_at N.value) limits.now) (N.value price) (map (room_dual_at N.value) rooms.now)) N.bound)) }
 {
     let by_bus = put_in(alloc, market, blocks)?;
@@ -149,7 +149,7 @@ fn named_parts<N: Exact>(
     requires { NamesNoRowTwice (map (dual_at N.value) limits.now) }
     ensures rows { (energy price : Fraction) → IfOk result (λ p. AreNamed N.value market.now (duals_with energy (map (dual_at N.value) limits.now) price (map (room_dual_at N.value) rooms.now)) p.0) }
     ensures rooms { (energy price : Fraction) → IfOk result (λ p. AreNamedRooms N.value market.now (duals_with energy (map (dual_at N.value) limits.now) price (map (room_dual_at N.value) rooms.now)) p.1) }
-    ensures cause { IfErr result (λ why. why ≡ stop.Memory) }
+    ensures stops { IfErr result (λ why. why ≡ stop.Memory) }
 {
     let rows = match named_rows(alloc, market, limits) {
         Ok(rows) => rows,
@@ -172,7 +172,7 @@ fn energy_worths<N: Exact>(
     requires { (d : Duals Fraction) × AreNamed N.value market.now d rows.now }
     ensures worths { (d : Duals Fraction) → N.value energy ≡ d.energy → AreNamed N.value market.now d rows.now → AreNamedRooms N.value market.now d rooms.now
         → IfOk result (λ worths. map N.value worths ≡ map (energy_worth market.now d) (places (length market.now.units))) }
-    ensures cause { (d : Duals Fraction) → N.value energy ≡ d.energy → AreNamed N.value market.now d rows.now → AreNamedRooms N.value market.now d rooms.now
+    ensures stops { (d : Duals Fraction) → N.value energy ≡ d.energy → AreNamed N.value market.now d rows.now → AreNamedRooms N.value market.now d rooms.now
         → IfErr result (StopsBy N.value (IsWorthRefusal market.now d N.bound)) }
 {
     let mut worths = List::new(alloc);
@@ -201,7 +201,7 @@ fn wrong_support<N: Exact>(
     requires distinct { NamesNoRowTwice (map (dual_at N.value) limits.now) }
     ensures first { IfOk result (λ first. first ≡ first_of (support_reason market.now (dispatch_with (map N.value blocks.now) (map N.value quantities.now)) (duals_with (N.value energy) (map (dual_at N.value) limits.now) (N.value price) (map (room_dual_at N.value) rooms.now))
         ∷ reserve_support_reason market.now (dispatch_with (map N.value blocks.now) (map N.value quantities.now)) (duals_with (N.value energy) (map (dual_at N.value) limits.now) (N.value price) (map (room_dual_at N.value) rooms.now)) ∷ [])) }
-    ensures cause { IfErr result (StopsBy N.value (IsWorthRefusal market.now (duals_with (N.value energy) (map (dual_at N.value) limits.now) (N.value price) (map (room_dual_at N.value) rooms.now)) N.bound)) }
+    ensures stops { IfErr result (StopsBy N.value (IsWorthRefusal market.now (duals_with (N.value energy) (map (dual_at N.value) limits.now) (N.value price) (map (room_dual_at N.value) rooms.now)) N.bound)) }
 {
     let (rows, named) = named_parts(alloc, market, limits, rooms)?;
     let worths = energy_worths(alloc, market, energy, rows.slice(), named.slice())?;
@@ -224,7 +224,7 @@ pub(crate) fn against_optimal<N: Exact>(
 ) -> Result<Option<Reason>, Stop<N>>
     requires { NamesNoRowTwice (map (dual_at N.value) limits.now) }
     ensures first { IfOk result (λ first. first ≡ first_of (optimal_reasons market.now (dispatch_with (map N.value blocks.now) (map N.value quantities.now)) (duals_with (N.value energy) (map (dual_at N.value) limits.now) (N.value price) (map (room_dual_at N.value) rooms.now)))) }
-    ensures cause { IfErr result (StopsBy N.value (IsOptimalStop market.now (dispatch_with (map N.value blocks.now) (map N.value quantities.now)) (duals_with (N.value energy) (map (dual_at N.value) limits.now) (N.value price) (map (room_dual_at N.value) rooms.now)) N.bound)) }
+    ensures stops { IfErr result (StopsBy N.value (IsOptimalStop market.now (dispatch_with (map N.value blocks.now) (map N.value quantities.now)) (duals_with (N.value energy) (map (dual_at N.value) limits.now) (N.value price) (map (room_dual_at N.value) rooms.now)) N.bound)) }
 {
     if let Some(reason) = wrong_part(market, blocks, quantities, limits, price, rooms) {
         return Ok(Some(reason));
@@ -259,7 +259,7 @@ fn wrong_bound<N: Exact>(
 ) -> Result<Option<Reason>, Stop<N>>
     requires { NamesNoRowTwice (map (dual_at N.value) limits.now) }
     ensures first { IfOk result (λ first. first ≡ bound_reason market.now (duals_with (N.value energy) (map (dual_at N.value) limits.now) (N.value price) (map (room_dual_at N.value) rooms.now))) }
-    ensures cause { IfErr result (StopsBy N.value (IsFarkasPair market.now (duals_with (N.value energy) (map (dual_at N.value) limits.now) (N.value price) (map (room_dual_at N.value) rooms.now)) N.bound)) }
+    ensures stops { IfErr result (StopsBy N.value (IsFarkasPair market.now (duals_with (N.value energy) (map (dual_at N.value) limits.now) (N.value price) (map (room_dual_at N.value) rooms.now)) N.bound)) }
 {
     let (rows, named) = named_parts(alloc, market, limits, rooms)?;
     let bound = farkas_bound(alloc, market, energy, rows.slice(), price, named.slice())?;
@@ -277,7 +277,7 @@ pub(crate) fn against_farkas<N: Exact>(
 ) -> Result<Option<Reason>, Stop<N>>
     requires { NamesNoRowTwice (map (dual_at N.value) limits.now) }
     ensures first { IfOk result (λ first. first ≡ first_of (farkas_reasons market.now (duals_with (N.value energy) (map (dual_at N.value) limits.now) (N.value price) (map (room_dual_at N.value) rooms.now)))) }
-    ensures cause { IfErr result (StopsBy N.value (IsFarkasStop market.now (duals_with (N.value energy) (map (dual_at N.value) limits.now) (N.value price) (map (room_dual_at N.value) rooms.now)) N.bound)) }
+    ensures stops { IfErr result (StopsBy N.value (IsFarkasStop market.now (duals_with (N.value energy) (map (dual_at N.value) limits.now) (N.value price) (map (room_dual_at N.value) rooms.now)) N.bound)) }
 {
     if let Some(reason) = wrong_dual(market, limits, price, rooms) {
         return Ok(Some(reason));

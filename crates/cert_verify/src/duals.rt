@@ -42,7 +42,7 @@ pub(crate) fn negative_price<N: Exact>(limits: &[Dual<N>]) -> Option<Reason>
 fn has_slack<N: Exact>(market: &Market, carried: &[N], dual: &Dual<N>) -> Result<bool, Passed<N>>
     requires { length carried.now ≡ length market.now.lines + length market.now.unit_outages }
     ensures slack { (x : Dispatch) → AreCarried market.now x (map N.value carried.now) → IfOk result (λ slack. slack ≡ has_slack market.now x (dual_at N.value dual.now)) }
-    ensures cause { (x : Dispatch) → AreCarried market.now x (map N.value carried.now) → IfErr result (λ passed. IsLimitPair market.now x N.bound (passed_at N.value passed)) }
+    ensures stops { (x : Dispatch) → AreCarried market.now x (map N.value carried.now) → IfErr result (λ passed. IsLimitPair market.now x N.bound (passed_at N.value passed)) }
 {
     let _lines = market.lines();
     match row_named(market, dual.row) {
@@ -62,7 +62,7 @@ pub(crate) fn slack_price<N: Exact>(
 ) -> Result<Option<Reason>, Passed<N>>
     requires { length carried.now ≡ length market.now.lines + length market.now.unit_outages }
     ensures first { (x : Dispatch) → AreCarried market.now x (map N.value carried.now) → IfOk result (λ reason. reason ≡ slack_reason market.now x (map (dual_at N.value) limits.now)) }
-    ensures cause { (x : Dispatch) → AreCarried market.now x (map N.value carried.now) → IfErr result (λ passed. IsLimitPair market.now x N.bound (passed_at N.value passed)) }
+    ensures stops { (x : Dispatch) → AreCarried market.now x (map N.value carried.now) → IfErr result (λ passed. IsLimitPair market.now x N.bound (passed_at N.value passed)) }
 {
     for dual in limits {
         let slack = has_slack(market, carried, dual)?;

@@ -29,7 +29,7 @@ pub(crate) fn put_in<N: Exact>(
     requires { length blocks.now ≡ length market.now.blocks }
     ensures count { IfOk result (λ mws. vec_len mws ≡ length market.now.buses) }
     ensures injections { (reserve : List Fraction) → IfOk result (λ mws. AreInjections market.now (dispatch_with (map N.value blocks.now) reserve) (map N.value mws.items)) }
-    ensures cause { (reserve : List Fraction) → IfErr result (StopsBy N.value (IsRefusedAmong (BalanceSum market.now (dispatch_with (map N.value blocks.now) reserve)) N.bound)) }
+    ensures stops { (reserve : List Fraction) → IfErr result (StopsBy N.value (IsRefusedAmong (BalanceSum market.now (dispatch_with (map N.value blocks.now) reserve)) N.bound)) }
 {
     injections(alloc, market, blocks)
 }
@@ -40,7 +40,7 @@ pub(crate) fn wrong_balance<N: Exact>(
     by_bus: &[N],
 ) -> Result<Option<Reason>, Passed<N>>
     ensures first { (x : Dispatch) → AreInjections market.now x (map N.value by_bus.now) → IfOk result (λ first. first ≡ balance_reason market.now x) }
-    ensures cause { (x : Dispatch) → AreInjections market.now x (map N.value by_bus.now) → IfErr result (λ passed. IsRefusedAmong (BalanceSum market.now x) N.bound (passed_at N.value passed)) }
+    ensures stops { (x : Dispatch) → AreInjections market.now x (map N.value by_bus.now) → IfErr result (λ passed. IsRefusedAmong (BalanceSum market.now x) N.bound (passed_at N.value passed)) }
 {
     let sum = balance(market, by_bus)?;
     if differ(sum, datum(0)) {
@@ -61,7 +61,7 @@ pub(crate) fn carried_by<N: Exact>(
     requires by_bus { length by_bus.now ≡ length market.now.buses }
     ensures count { IfOk result (λ carried. vec_len carried ≡ length market.now.lines + length market.now.unit_outages) }
     ensures carried { (reserve : List Fraction) → AreInjections market.now (dispatch_with (map N.value blocks.now) reserve) (map N.value by_bus.now) → IfOk result (λ carried. AreCarried market.now (dispatch_with (map N.value blocks.now) reserve) (map N.value carried.items)) }
-    ensures cause { (reserve : List Fraction) → AreInjections market.now (dispatch_with (map N.value blocks.now) reserve) (map N.value by_bus.now) → IfErr result (StopsBy N.value (IsLimitPair market.now (dispatch_with (map N.value blocks.now) reserve) N.bound)) }
+    ensures stops { (reserve : List Fraction) → AreInjections market.now (dispatch_with (map N.value blocks.now) reserve) (map N.value by_bus.now) → IfErr result (StopsBy N.value (IsLimitPair market.now (dispatch_with (map N.value blocks.now) reserve) N.bound)) }
 {
     carried_flows(alloc, market, blocks, by_bus)
 }
@@ -76,7 +76,7 @@ pub(crate) fn wrong_price<N: Exact>(
     requires carried { length carried.now ≡ length market.now.lines + length market.now.unit_outages }
     requires distinct { NamesNoRowTwice (map (dual_at N.value) limits.now) }
     ensures first { (x : Dispatch) → AreCarried market.now x (map N.value carried.now) → IfOk result (λ first. first ≡ first_of (slack_reason market.now x (map (dual_at N.value) limits.now) ∷ unpriced_reason market.now x (map (dual_at N.value) limits.now) ∷ [])) }
-    ensures cause { (x : Dispatch) → AreCarried market.now x (map N.value carried.now) → IfErr result (StopsBy N.value (IsLimitPair market.now x N.bound)) }
+    ensures stops { (x : Dispatch) → AreCarried market.now x (map N.value carried.now) → IfErr result (StopsBy N.value (IsLimitPair market.now x N.bound)) }
 {
     if let Some(reason) = slack_price(market, carried, limits)? {
         return Ok(Some(reason));

@@ -22,7 +22,7 @@ fn is_overloaded<N: Exact>(market: &Market, carried: &[N], row: Row) -> Result<b
     requires lost { IsCauseOf market.now row.cause }
     requires listed { Contains (rows market.now) row }
     ensures broken { (x : Dispatch) → AreCarried market.now x (map N.value carried.now) → IfOk result (λ broken. broken ≡ is_overloaded market.now x row) }
-    ensures cause { (x : Dispatch) → AreCarried market.now x (map N.value carried.now) → IfErr result (λ passed. IsLimitPair market.now x N.bound (passed_at N.value passed)) }
+    ensures stops { (x : Dispatch) → AreCarried market.now x (map N.value carried.now) → IfErr result (λ passed. IsLimitPair market.now x N.bound (passed_at N.value passed)) }
 {
     let flow = row_flow(market, carried, row)?;
     let most = most_flow(market, row)?;
@@ -36,7 +36,7 @@ pub(crate) fn broken_limit<N: Exact>(
 ) -> Result<Option<Reason>, Passed<N>>
     requires { length carried.now ≡ length market.now.lines + length market.now.unit_outages }
     ensures first { (x : Dispatch) → AreCarried market.now x (map N.value carried.now) → IfOk result (λ first. first ≡ limit_reason market.now x) }
-    ensures cause { (x : Dispatch) → AreCarried market.now x (map N.value carried.now) → IfErr result (λ passed. IsLimitPair market.now x N.bound (passed_at N.value passed)) }
+    ensures stops { (x : Dispatch) → AreCarried market.now x (map N.value carried.now) → IfErr result (λ passed. IsLimitPair market.now x N.bound (passed_at N.value passed)) }
 {
     for row in rows(market) {
         if is_overloaded(market, carried, row)? {

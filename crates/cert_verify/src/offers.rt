@@ -79,7 +79,7 @@ pub(crate) fn unsupported_offer<N: Exact>(
 ) -> Result<Option<Reason>, Passed<N>>
     requires { length quantities.now ≡ length market.now.reserve.offers }
     ensures first { (d : Duals Fraction) (blocks : List Fraction) → N.value price ≡ d.reserve → AreNamedRooms N.value market.now d rooms.now → IfOk result (λ first. first ≡ reserve_support_reason market.now (dispatch_with blocks (map N.value quantities.now)) d) }
-    ensures cause { (d : Duals Fraction) → N.value price ≡ d.reserve → AreNamedRooms N.value market.now d rooms.now → IfErr result (λ passed. IsRefusedAmong (WorthSum market.now d) N.bound (passed_at N.value passed)) }
+    ensures stops { (d : Duals Fraction) → N.value price ≡ d.reserve → AreNamedRooms N.value market.now d rooms.now → IfErr result (λ passed. IsRefusedAmong (WorthSum market.now d) N.bound (passed_at N.value passed)) }
 {
     let _units = market.units();
     for (at, offer) in market.reserve().offers.slice().iter().enumerate() {

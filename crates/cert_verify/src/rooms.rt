@@ -76,7 +76,7 @@ pub(crate) fn overfull_room<N: Exact>(
     requires blocks { length blocks.now ≡ length market.now.blocks }
     requires quantities { length quantities.now ≡ length market.now.reserve.offers }
     ensures first { IfOk result (λ first. first ≡ room_reason market.now (dispatch_with (map N.value blocks.now) (map N.value quantities.now))) }
-    ensures cause { IfErr result (λ passed. IsRefusedAmong (RoomSum market.now (dispatch_with (map N.value blocks.now) (map N.value quantities.now))) N.bound (passed_at N.value passed)) }
+    ensures stops { IfErr result (λ passed. IsRefusedAmong (RoomSum market.now (dispatch_with (map N.value blocks.now) (map N.value quantities.now))) N.bound (passed_at N.value passed)) }
 {
     for (at, unit) in market.units().slice().iter().enumerate() {
         if offers_reserve(market, at) {
@@ -99,7 +99,7 @@ fn has_room_slack<N: Exact>(
     requires blocks { length blocks.now ≡ length market.now.blocks }
     requires quantities { length quantities.now ≡ length market.now.reserve.offers }
     ensures slack { IfOk result (λ slack. slack ≡ has_room_slack market.now (dispatch_with (map N.value blocks.now) (map N.value quantities.now)) (room_dual_at N.value dual.now)) }
-    ensures cause { IfErr result (λ passed. IsRefusedAmong (RoomSum market.now (dispatch_with (map N.value blocks.now) (map N.value quantities.now))) N.bound (passed_at N.value passed)) }
+    ensures stops { IfErr result (λ passed. IsRefusedAmong (RoomSum market.now (dispatch_with (map N.value blocks.now) (map N.value quantities.now))) N.bound (passed_at N.value passed)) }
 {
     for (at, unit) in market.units().slice().iter().enumerate() {
         if unit.row == dual.unit && offers_reserve(market, at) {
@@ -122,7 +122,7 @@ pub(crate) fn slack_room<N: Exact>(
     requires blocks { length blocks.now ≡ length market.now.blocks }
     requires quantities { length quantities.now ≡ length market.now.reserve.offers }
     ensures first { IfOk result (λ first. first ≡ room_slack_reason market.now (dispatch_with (map N.value blocks.now) (map N.value quantities.now)) (map (room_dual_at N.value) rooms.now)) }
-    ensures cause { IfErr result (λ passed. IsRefusedAmong (RoomSum market.now (dispatch_with (map N.value blocks.now) (map N.value quantities.now))) N.bound (passed_at N.value passed)) }
+    ensures stops { IfErr result (λ passed. IsRefusedAmong (RoomSum market.now (dispatch_with (map N.value blocks.now) (map N.value quantities.now))) N.bound (passed_at N.value passed)) }
 {
     for dual in rooms {
         let slack = has_room_slack(market, blocks, quantities, dual)?;

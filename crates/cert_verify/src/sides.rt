@@ -34,7 +34,7 @@ pub(crate) fn breaks_row<N: Exact>(
 ) -> Result<bool, Passed<N>>
     requires { row.line < length market.now.lines }
     ensures broken { IfOk result (λ broken. broken ≡ breaks_row market.now row (N.value up) (N.value down) (N.value flow)) }
-    ensures cause { IfErr result (λ passed. IsMostFlowRefusal market.now row N.bound (passed_at N.value passed)) }
+    ensures stops { IfErr result (λ passed. IsMostFlowRefusal market.now row N.bound (passed_at N.value passed)) }
 {
     let most = most_flow(market, row)?;
     Ok(breaks_side(market, row, most, up, flow) || breaks_side(market, row, most, down, flow.neg()))

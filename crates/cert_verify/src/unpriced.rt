@@ -32,7 +32,7 @@ fn is_unpriced<N: Exact>(
     requires line { row.line < length market.now.lines }
     requires lost { IsCauseOf market.now row.cause }
     ensures unpriced { (x : Dispatch) (ds : List (Dual N)) → AreCarried market.now x (map N.value carried.now) → duals.now.entries ≡ map entry_of ds → IfOk result (λ unpriced. unpriced ≡ is_unpriced market.now x (map (dual_at N.value) ds) row) }
-    ensures cause { (x : Dispatch) → AreCarried market.now x (map N.value carried.now) → IfErr result (λ passed. IsFlowRefusal market.now (carried_of market.now x) row N.bound (passed_at N.value passed)) }
+    ensures stops { (x : Dispatch) → AreCarried market.now x (map N.value carried.now) → IfErr result (λ passed. IsFlowRefusal market.now (carried_of market.now x) row N.bound (passed_at N.value passed)) }
 {
     let _lines = market.lines();
     if !is_soft(market, row) {
@@ -53,7 +53,7 @@ fn first_unpriced<N: Exact>(
 ) -> Result<Option<Reason>, Passed<N>>
     requires { length carried.now ≡ length market.now.lines + length market.now.unit_outages }
     ensures first { (x : Dispatch) (ds : List (Dual N)) → AreCarried market.now x (map N.value carried.now) → duals.now.entries ≡ map entry_of ds → IfOk result (λ first. first ≡ unpriced_reason market.now x (map (dual_at N.value) ds)) }
-    ensures cause { (x : Dispatch) → AreCarried market.now x (map N.value carried.now) → IfErr result (λ passed. IsLimitPair market.now x N.bound (passed_at N.value passed)) }
+    ensures stops { (x : Dispatch) → AreCarried market.now x (map N.value carried.now) → IfErr result (λ passed. IsLimitPair market.now x N.bound (passed_at N.value passed)) }
 {
     for row in rows(market) {
         if is_unpriced(market, carried, duals, row)? {
@@ -75,7 +75,7 @@ pub(crate) fn unpriced_row<N: Exact>(
     requires carried { length carried.now ≡ length market.now.lines + length market.now.unit_outages }
     requires distinct { NamesNoRowTwice (map (dual_at N.value) limits.now) }
     ensures first { (x : Dispatch) → AreCarried market.now x (map N.value carried.now) → IfOk result (λ first. first ≡ unpriced_reason market.now x (map (dual_at N.value) limits.now)) }
-    ensures cause { (x : Dispatch) → AreCarried market.now x (map N.value carried.now) → IfErr result (StopsBy N.value (IsLimitPair market.now x N.bound)) }
+    ensures stops { (x : Dispatch) → AreCarried market.now x (map N.value carried.now) → IfErr result (StopsBy N.value (IsLimitPair market.now x N.bound)) }
 {
     let duals = match by_name(alloc, limits) {
         Ok(duals) => duals,

@@ -48,7 +48,7 @@ fn against_dispatch<N: Exact>(
 ) -> Result<Option<Reason>, Stop<N>>
     requires { NamesNoRowTwice (map (dual_at N.value) limits.now) }
     ensures first { IfOk result (λ first. first ≡ first_of (optimal_reasons market.now (dispatched (map N.value blocks.now) (option_map (cleared_reserve_at N.value) reserve.now)) (named_duals (N.value energy) (map (dual_at N.value) limits.now) (option_map (λ r. r.duals) (option_map (cleared_reserve_at N.value) reserve.now))))) }
-    ensures cause { IfErr result (StopsBy N.value (IsOptimalStop market.now (dispatched (map N.value blocks.now) (option_map (cleared_reserve_at N.value) reserve.now)) (named_duals (N.value energy) (map (dual_at N.value) limits.now) (option_map (λ r. r.duals) (option_map (cleared_reserve_at N.value) reserve.now))) N.bound)) }
+    ensures stops { IfErr result (StopsBy N.value (IsOptimalStop market.now (dispatched (map N.value blocks.now) (option_map (cleared_reserve_at N.value) reserve.now)) (named_duals (N.value energy) (map (dual_at N.value) limits.now) (option_map (λ r. r.duals) (option_map (cleared_reserve_at N.value) reserve.now))) N.bound)) }
 {
     match reserve {
         None => {
@@ -93,7 +93,7 @@ fn against_duals<N: Exact>(
 ) -> Result<Option<Reason>, Stop<N>>
     requires { NamesNoRowTwice (map (dual_at N.value) limits.now) }
     ensures first { IfOk result (λ first. first ≡ first_of (farkas_reasons market.now (named_duals (N.value energy) (map (dual_at N.value) limits.now) (option_map (reserve_duals_at N.value) reserve.now)))) }
-    ensures cause { IfErr result (StopsBy N.value (IsFarkasStop market.now (named_duals (N.value energy) (map (dual_at N.value) limits.now) (option_map (reserve_duals_at N.value) reserve.now)) N.bound)) }
+    ensures stops { IfErr result (StopsBy N.value (IsFarkasStop market.now (named_duals (N.value energy) (map (dual_at N.value) limits.now) (option_map (reserve_duals_at N.value) reserve.now)) N.bound)) }
 {
     match reserve {
         None => {
@@ -121,7 +121,7 @@ pub fn verify<N: Exact>(
 ) -> Result<Verdict, VerifyStop<N>>
     requires { RowsAreDistinct (cert_at N.value cert.now) }
     ensures verdict { IfOk result (λ verdict. verdict ≡ verdict_of (first_reason market.now (cert_at N.value cert.now))) }
-    ensures cause { IfErr result (IsVerifyStop N.value market.now N.bound (cert_at N.value cert.now)) }
+    ensures stops { IfErr result (IsVerifyStop N.value market.now N.bound (cert_at N.value cert.now)) }
 {
     if let Some(reason) = other_places(market, cert.places()) {
         return Ok(Verdict::No(reason));

@@ -28,7 +28,7 @@ pub(crate) fn bus_prices<N: Exact>(
 ) -> Result<List<Price<N>>, Stop<N>>
     requires { ProperDuals market.now (duals_at N.value duals.now) }
     ensures prices { IfOk result (λ prices. map (price_at N.value) prices ≡ prices_made market.now (duals_at N.value duals.now)) }
-    ensures cause { IfErr result (StopsBy N.value (IsRefusedInPrices market.now (duals_at N.value duals.now) N.bound)) }
+    ensures stops { IfErr result (StopsBy N.value (IsRefusedInPrices market.now (duals_at N.value duals.now) N.bound)) }
 {
     let none: N = datum(0);
     let unpriced = Price {
@@ -59,7 +59,7 @@ pub(crate) fn answer_of<N: Exact>(
     ensures fits { IfOk result (FitsMarket market.now) }
     ensures right { IfOk result (λ answer. IsRight market.now (answer_at N.value answer)) }
     ensures duals { IfOk result (λ answer. answer.duals ≡ duals) }
-    ensures cause { (ts : List Taking) → IsSolution market.now ts (dispatch_with (map N.value dispatch) (map N.value reserve)) (duals_at N.value duals) → IfErr result (StopsInRange N.value N.bound market.now (limits_of ts)) }
+    ensures stops { (ts : List Taking) → IsSolution market.now ts (dispatch_with (map N.value dispatch) (map N.value reserve)) (duals_at N.value duals) → IfErr result (StopsInRange N.value N.bound market.now (limits_of ts)) }
 {
     let _lines = market.lines();
     let prices = bus_prices(alloc, market, &duals)?;

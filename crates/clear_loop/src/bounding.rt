@@ -26,7 +26,7 @@ use std::alloc::Global;
 /// A sum with what a price makes of what a flow leaves of the most that it may be. A price of 0 makes nothing.
 fn with_side<N: Exact>(sum: N, price: N, most: N, flow: N) -> Result<N, Passed<N>>
     ensures sum { IfOk result (λ more. N.value more ≡ N.value sum +ℚ N.value price *ℚ (N.value most -ℚ N.value flow)) }
-    ensures cause { IfErr result (λ passed. IsMarginRefusal (N.value sum) (N.value price) (N.value most) (N.value flow) N.bound (passed_at N.value passed)) }
+    ensures stops { IfErr result (λ passed. IsMarginRefusal (N.value sum) (N.value price) (N.value most) (N.value flow) N.bound (passed_at N.value passed)) }
 {
     if price.sign() == Sign::Zero {
         return Ok(sum);
@@ -46,7 +46,7 @@ fn with_limit<N: Exact>(
     requires row { Contains (rows market.now) row }
     requires flows { map N.value flows.now ≡ flows_at market.now (empty market.now) }
     ensures sum { (d : DualsOf Fraction) → up_of market.now d row ≡ N.value dual.now.up → down_of market.now d row ≡ N.value dual.now.down → IfOk result (λ more. N.value more ≡ N.value sum +ℚ total (limit_terms market.now d row)) }
-    ensures cause { IfErr result (λ passed. IsRowStepRefusal market.now row (N.value dual.now.up) (N.value dual.now.down) (N.value sum) N.bound (passed_at N.value passed)) }
+    ensures stops { IfErr result (λ passed. IsRowStepRefusal market.now row (N.value dual.now.up) (N.value dual.now.down) (N.value sum) N.bound (passed_at N.value passed)) }
 {
     let _lines = market.lines();
     let flow = row_flow(market, carried_flows(market, flows), row)?;
@@ -66,7 +66,7 @@ fn with_limits<N: Exact>(
     requires flows { map N.value flows.now ≡ flows_at market.now (empty market.now) }
     requires of_energy { N.value of_energy ≡ N.value duals.now.energy *ℚ balance market.now (empty market.now) }
     ensures sum { IfOk result (λ sum. N.value sum ≡ total (energy_left_terms market.now (duals_at N.value duals.now))) }
-    ensures cause { IfErr result (λ passed. IsFarkasRefusal market.now (duals_at N.value duals.now) N.bound (passed_at N.value passed)) }
+    ensures stops { IfErr result (λ passed. IsFarkasRefusal market.now (duals_at N.value duals.now) N.bound (passed_at N.value passed)) }
 {
     let _lines = market.lines();
     let mut sum = of_energy;
@@ -82,7 +82,7 @@ fn left_of_energy<N: Exact>(market: &Market, flows: &[N], duals: &Duals<N>) -> R
     requires duals { ProperDuals market.now (duals_at N.value duals.now) }
     requires flows { map N.value flows.now ≡ flows_at market.now (empty market.now) }
     ensures sum { IfOk result (λ sum. N.value sum ≡ total (energy_left_terms market.now (duals_at N.value duals.now))) }
-    ensures cause { IfErr result (λ passed. IsFarkasRefusal market.now (duals_at N.value duals.now) N.bound (passed_at N.value passed)) }
+    ensures stops { IfErr result (λ passed. IsFarkasRefusal market.now (duals_at N.value duals.now) N.bound (passed_at N.value passed)) }
 {
     let all = balance(market, bus_injections(market, flows))?;
     let of_energy = duals.energy.times(all)?;
@@ -100,7 +100,7 @@ fn with_reserve<N: Exact>(
     requires of_energy { N.value of_energy ≡ total (energy_left_terms market.now (duals_at N.value duals.now)) }
     requires own { map N.value own.now ≡ map (unit_price market.now (duals_at N.value duals.now)) (places (length market.now.units)) }
     ensures bound { IfOk result (λ bound. N.value bound ≡ farkas_bound market.now (duals_at N.value duals.now)) }
-    ensures cause { IfErr result (λ passed. IsFarkasRefusal market.now (duals_at N.value duals.now) N.bound (passed_at N.value passed)) }
+    ensures stops { IfErr result (λ passed. IsFarkasRefusal market.now (duals_at N.value duals.now) N.bound (passed_at N.value passed)) }
 {
     let of_need = with_need(market, of_energy, duals)?;
     let of_rooms = with_rooms(market, of_need, duals)?;
@@ -119,7 +119,7 @@ pub(crate) fn farkas_bound<N: Exact>(
     requires duals { ProperDuals market.now (duals_at N.value duals.now) }
     requires flows { map N.value flows.now ≡ flows_at market.now (empty market.now) }
     ensures bound { IfOk result (λ bound. N.value bound ≡ farkas_bound market.now (duals_at N.value duals.now)) }
-    ensures cause { IfErr result (StopsBy N.value (IsFarkasRefusal market.now (duals_at N.value duals.now) N.bound)) }
+    ensures stops { IfErr result (StopsBy N.value (IsFarkasRefusal market.now (duals_at N.value duals.now) N.bound)) }
 {
     let own = unit_prices(alloc, market, duals)?;
     let of_energy = left_of_energy(market, flows, duals)?;

@@ -23,7 +23,7 @@ pub(crate) fn with_need<N: Exact>(
 ) -> Result<N, Passed<N>>
     requires { N.value of_energy ≡ total (energy_left_terms market.now (duals_at N.value duals.now)) }
     ensures sum { let d = duals_at N.value duals.now in IfOk result (λ sum. N.value sum ≡ total (energy_left_terms market.now d ++ need_terms market.now d)) }
-    ensures cause { IfErr result (λ passed. IsFarkasRefusal market.now (duals_at N.value duals.now) N.bound (passed_at N.value passed)) }
+    ensures stops { IfErr result (λ passed. IsFarkasRefusal market.now (duals_at N.value duals.now) N.bound (passed_at N.value passed)) }
 {
     if market.reserve().listed {
         let need: N = need_quantity(market.reserve());
@@ -43,7 +43,7 @@ fn with_room<N: Exact>(
     requires { unit < length market.now.units }
     ensures sum { let d = duals_at N.value duals.now in IfOk result (λ more. N.value more ≡ N.value sum +ℚ (if offers_reserve market.now unit then room_price market.now d unit *ℚ room market.now unit else zero)) }
     ensures offers { IfErr result (λ _. offers_reserve market.now unit ≡ true) }
-    ensures cause { IfErr result (λ passed. IsShareRefusal (N.value sum) (room_price market.now (duals_at N.value duals.now) unit) (room market.now unit) N.bound (passed_at N.value passed)) }
+    ensures stops { IfErr result (λ passed. IsShareRefusal (N.value sum) (room_price market.now (duals_at N.value duals.now) unit) (room market.now unit) N.bound (passed_at N.value passed)) }
 {
     if offers_reserve(market, unit) {
         let row = market.units().at(unit).row;
@@ -64,7 +64,7 @@ pub(crate) fn with_rooms<N: Exact>(
 ) -> Result<N, Passed<N>>
     requires { N.value of_need ≡ total (energy_left_terms market.now (duals_at N.value duals.now) ++ need_terms market.now (duals_at N.value duals.now)) }
     ensures sum { IfOk result (λ sum. N.value sum ≡ total (nothing_terms market.now (duals_at N.value duals.now))) }
-    ensures cause { IfErr result (λ passed. IsFarkasRefusal market.now (duals_at N.value duals.now) N.bound (passed_at N.value passed)) }
+    ensures stops { IfErr result (λ passed. IsFarkasRefusal market.now (duals_at N.value duals.now) N.bound (passed_at N.value passed)) }
 {
     let mut sum = of_need;
     for unit in 0..market.units().len() {
@@ -81,7 +81,7 @@ pub(crate) fn with_offers<N: Exact>(
 ) -> Result<N, Passed<N>>
     requires { N.value of_blocks ≡ total (nothing_terms market.now (duals_at N.value duals.now) ++ map (block_most market.now (duals_at N.value duals.now)) (places (length market.now.blocks))) }
     ensures bound { IfOk result (λ bound. N.value bound ≡ farkas_bound market.now (duals_at N.value duals.now)) }
-    ensures cause { IfErr result (λ passed. IsFarkasRefusal market.now (duals_at N.value duals.now) N.bound (passed_at N.value passed)) }
+    ensures stops { IfErr result (λ passed. IsFarkasRefusal market.now (duals_at N.value duals.now) N.bound (passed_at N.value passed)) }
 {
     let _units = market.units();
     let mut sum = of_blocks;

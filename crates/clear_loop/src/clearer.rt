@@ -68,7 +68,7 @@ fn keeping<N: Exact>(dict: Dict<N>, taken: TakenInOrder) -> Clearer<N>
 /// The start, or that of a market over none of its limits and rooms where there is none.
 fn warmed<N: Exact>(alloc: Global, market: &Market, warm: Warm<N>) -> Result<Warm<N>, Stop<N>>
     ensures start { (k : Kept) → k.dict ≡ warm → FitsFrame market.now k → IfOk result (HoldsStart market.now k.taken.takings) }
-    ensures cause { (k : Kept) → k.dict ≡ warm → FitsFrame market.now k → IfErr result (StopsInRange N.value N.bound market.now (limits_of k.taken.takings)) }
+    ensures stops { (k : Kept) → k.dict ≡ warm → FitsFrame market.now k → IfErr result (StopsInRange N.value N.bound market.now (limits_of k.taken.takings)) }
 {
     if warm.is_kept() {
         Ok(warm)
@@ -86,7 +86,7 @@ fn first_hand<N: Exact>(
     requires { FitsFrame market.now clearer }
     ensures hand { IfOk result (IsInHand N.value market.now) }
     ensures taken { IfOk result (λ hand. hand.taken ≡ clearer.taken) }
-    ensures cause { IfErr result (StopsInRange N.value N.bound market.now (limits_of clearer.taken.takings)) }
+    ensures stops { IfErr result (StopsInRange N.value N.bound market.now (limits_of clearer.taken.takings)) }
 {
     let _lines = market.lines();
     let warm = warmed(alloc, market, clearer.warm)?;

@@ -101,7 +101,7 @@ fn take<N: Exact>(
     requires taking { IsTaking market.now taking }
     requires holds { (ts : List Taking) × HoldsMarket market.now ts dict.old × IsNew ts taking }
     ensures taken { (ts : List Taking) → HoldsMarket market.now ts dict.old → IfOk result (λ _. HoldsMarket market.now (ts ++ taking ∷ []) dict.new) }
-    ensures cause { (ts : List Taking) → HoldsMarket market.now ts dict.old → Growth market.now (limits_of ts) (limits_of (ts ++ taking ∷ [])) → IfErr result (StopsInRange N.value N.bound market.now (limits_of ts)) }
+    ensures stops { (ts : List Taking) → HoldsMarket market.now ts dict.old → Growth market.now (limits_of ts) (limits_of (ts ++ taking ∷ [])) → IfErr result (StopsInRange N.value N.bound market.now (limits_of ts)) }
 {
     let _lines = market.lines();
     match taking {
@@ -127,7 +127,7 @@ pub(crate) fn with_taking<N: Exact>(
     requires passed { (x : Dispatch) × BestFor market.now (taken_of taken.takings) x × IsPassedTaking market.now x taking }
     ensures hand { IfOk result (IsInHand N.value market.now) }
     ensures takings { IfOk result (λ hand. hand.taken.takings ≡ taken.takings ++ taking ∷ []) }
-    ensures cause { IfErr result (StopsInRange N.value N.bound market.now (limits_of taken.takings)) }
+    ensures stops { IfErr result (StopsInRange N.value N.bound market.now (limits_of taken.takings)) }
 {
     let _lines = market.lines();
     let mut dict = dict;

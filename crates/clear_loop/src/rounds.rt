@@ -53,7 +53,7 @@ fn solved<N: Exact>(
 ) -> Result<Found<N>, Stop<N>>
     requires { (ts : List Taking) × HoldsStart market.now ts warm × ArePricesAndBounds N.value market.now ts posing.now }
     ensures found { (ts : List Taking) → HoldsStart market.now ts warm → ArePricesAndBounds N.value market.now ts posing.now → IfOk result (IsFound N.value market.now ts) }
-    ensures cause { (ts : List Taking) → HoldsStart market.now ts warm → ArePricesAndBounds N.value market.now ts posing.now → IfErr result (StopsInRange N.value N.bound market.now (limits_of ts)) }
+    ensures stops { (ts : List Taking) → HoldsStart market.now ts warm → ArePricesAndBounds N.value market.now ts posing.now → IfErr result (StopsInRange N.value N.bound market.now (limits_of ts)) }
 {
     let _lines = market.lines();
     let bounds = posing.bounds(alloc)?;
@@ -73,7 +73,7 @@ fn bound_of<N: Exact>(
     requires flows { map N.value flows.now ≡ flows_at market.now (empty market.now) }
     requires stuck { (ts : List Taking) × IsStuckBy market.now ts (duals_at N.value duals.now) (N.value margin) }
     ensures farkas { IfOk result (λ bound. IsFarkas market.now (farkas_at N.value (record { duals = duals.now; bound = bound }))) }
-    ensures cause { (ts : List Taking) → IsStuckBy market.now ts (duals_at N.value duals.now) (N.value margin) → IfErr result (StopsInRange N.value N.bound market.now (limits_of ts)) }
+    ensures stops { (ts : List Taking) → IsStuckBy market.now ts (duals_at N.value duals.now) (N.value margin) → IfErr result (StopsInRange N.value N.bound market.now (limits_of ts)) }
 {
     let _lines = market.lines();
     if market.reserve().listed {
@@ -99,7 +99,7 @@ fn answered<N: Exact>(
     requires flows { map N.value flows.now ≡ flows_at market.now (dispatch_with (map N.value dispatch) (map N.value reserve)) }
     ensures ended { IfOk result (IsEnded N.value market.now) }
     ensures taken { IfOk result (λ ended. ended.taken ≡ taken) }
-    ensures cause { IfErr result (StopsInRange N.value N.bound market.now (limits_of taken.takings)) }
+    ensures stops { IfErr result (StopsInRange N.value N.bound market.now (limits_of taken.takings)) }
 {
     let _lines = market.lines();
     let duals = duals(alloc, market, &dict)?;
@@ -125,7 +125,7 @@ fn after_best<N: Exact>(
     requires posing { ArePricesAndBounds N.value market.now taken.takings posing }
     requires listed { AreListed market.now taken }
     ensures round { IfOk result (IsRound N.value market.now taken.takings) }
-    ensures cause { IfErr result (StopsInRange N.value N.bound market.now (limits_of taken.takings)) }
+    ensures stops { IfErr result (StopsInRange N.value N.bound market.now (limits_of taken.takings)) }
 {
     let _lines = market.lines();
     match screened_at(
@@ -148,7 +148,7 @@ fn after_best<N: Exact>(
 fn one_round<N: Exact>(alloc: Global, market: &Market, hand: Hand<N>) -> Result<Round<N>, Stop<N>>
     requires { IsInHand N.value market.now hand }
     ensures round { IfOk result (IsRound N.value market.now hand.taken.takings) }
-    ensures cause { IfErr result (StopsInRange N.value N.bound market.now (limits_of hand.taken.takings)) }
+    ensures stops { IfErr result (StopsInRange N.value N.bound market.now (limits_of hand.taken.takings)) }
 {
     let posing = hand.posing;
     let taken = hand.taken;
@@ -184,7 +184,7 @@ pub(crate) fn all_rounds<N: Exact>(
     ensures ended { IfOk result (IsEnded N.value market.now) }
     ensures taken { IfOk result (λ ended. Growth market.now (limits_of first.taken.takings) (limits_of ended.taken.takings)) }
     ensures grown { IfOk result (λ ended. Grown market.now first.taken.takings ended.taken.takings) }
-    ensures cause { IfErr result (StopsInRange N.value N.bound market.now (limits_of first.taken.takings)) }
+    ensures stops { IfErr result (StopsInRange N.value N.bound market.now (limits_of first.taken.takings)) }
 {
     let mut hand = first;
     loop {

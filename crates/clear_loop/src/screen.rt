@@ -34,7 +34,7 @@ pub(crate) fn screened_at<N: Exact>(
     requires dispatch { length dispatch.now ≡ length market.now.blocks }
     requires reserve { length reserve.now ≡ length market.now.reserve.offers }
     ensures screened { let x = dispatch_with (map N.value dispatch.now) (map N.value reserve.now) in IfOk result (IsScreened N.value market.now taken.now x) }
-    ensures cause { let x = dispatch_with (map N.value dispatch.now) (map N.value reserve.now) in IfErr result (StopsBy N.value (IsLookRefusal market.now x N.bound)) }
+    ensures stops { let x = dispatch_with (map N.value dispatch.now) (map N.value reserve.now) in IfErr result (StopsBy N.value (IsLookRefusal market.now x N.bound)) }
 {
     let _lines = market.lines();
     let by_place = flows_made(alloc, market, dispatch)?;

@@ -43,7 +43,7 @@ pub(crate) fn less_room<N: Exact>(
     requires { unit < length market.now.units }
     ensures less { IfOk result (λ less. N.value less ≡ N.value price -ℚ room_price market.now (duals_at N.value duals.now) unit) }
     ensures offers { IfErr result (λ _. offers_reserve market.now unit ≡ true) }
-    ensures cause { IfErr result (λ passed. IsRefusal Minus (N.value price) (room_price market.now (duals_at N.value duals.now) unit) N.bound (passed_at N.value passed)) }
+    ensures stops { IfErr result (λ passed. IsRefusal Minus (N.value price) (room_price market.now (duals_at N.value duals.now) unit) N.bound (passed_at N.value passed)) }
 {
     if offers_reserve(market, unit) {
         let row = market.units().at(unit).row;
@@ -61,7 +61,7 @@ pub(crate) fn unit_prices<N: Exact>(
 ) -> Result<Vec<N>, Stop<N>>
     requires { ProperDuals market.now (duals_at N.value duals.now) }
     ensures own { IfOk result (λ own. map N.value own.items ≡ map (unit_price market.now (duals_at N.value duals.now)) (places (length market.now.units))) }
-    ensures cause { IfErr result (StopsBy N.value (IsRefusedInPrices market.now (duals_at N.value duals.now) N.bound)) }
+    ensures stops { IfErr result (StopsBy N.value (IsRefusedInPrices market.now (duals_at N.value duals.now) N.bound)) }
 {
     let _units = market.units();
     let prices = bus_prices(alloc, market, duals)?;
@@ -71,7 +71,7 @@ pub(crate) fn unit_prices<N: Exact>(
 /// A sum with what a quantity makes, where a MW of it makes so much; nothing where that is not above 0.
 pub(crate) fn with_most<N: Exact>(sum: N, weight: N, quantity: N) -> Result<N, Passed<N>>
     ensures sum { IfOk result (λ more. N.value more ≡ N.value sum +ℚ part_above (N.value weight) *ℚ N.value quantity) }
-    ensures cause { IfErr result (λ passed. IsShareRefusal (N.value sum) (part_above (N.value weight)) (N.value quantity) N.bound (passed_at N.value passed)) }
+    ensures stops { IfErr result (λ passed. IsShareRefusal (N.value sum) (part_above (N.value weight)) (N.value quantity) N.bound (passed_at N.value passed)) }
 {
     match weight.sign() {
         Sign::Below | Sign::Zero => Ok(sum),
@@ -89,7 +89,7 @@ pub(crate) fn with_blocks<N: Exact>(
     requires of_rooms { N.value of_rooms ≡ total (nothing_terms market.now (duals_at N.value duals.now)) }
     requires own { map N.value own.now ≡ map (unit_price market.now (duals_at N.value duals.now)) (places (length market.now.units)) }
     ensures sum { let d = duals_at N.value duals.now in IfOk result (λ sum. N.value sum ≡ total (nothing_terms market.now d ++ map (block_most market.now d) (places (length market.now.blocks)))) }
-    ensures cause { IfErr result (λ passed. IsFarkasRefusal market.now (duals_at N.value duals.now) N.bound (passed_at N.value passed)) }
+    ensures stops { IfErr result (λ passed. IsFarkasRefusal market.now (duals_at N.value duals.now) N.bound (passed_at N.value passed)) }
 {
     let _units = market.units();
     let mut sum = of_rooms;

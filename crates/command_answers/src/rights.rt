@@ -83,7 +83,7 @@ fn entitlement_of<N: Exact>(
     requires rights { All (IsTransmissionRight (length market.now.buses)) rights.now }
     ensures fit { IfOk result (λ made. IsFit market.now rights.now (fit_at N.value made.fit)) }
     ensures payments { IfOk result (λ made. payments_at N.value made.payments ≡ payments_of (total_at N.value prices.now) rights.now) }
-    ensures cause { IfErr result (StopsBy N.value (IsRightsRefusal market.now rights.now (total_at N.value prices.now) N.bound)) }
+    ensures stops { IfErr result (StopsBy N.value (IsRightsRefusal market.now rights.now (total_at N.value prices.now) N.bound)) }
 {
     let fit = fit(alloc, market, rights)?;
     let payments = pay(alloc, rights, prices)?;

@@ -43,7 +43,7 @@ fn is_away(from: usize, to: usize, bus: usize) -> bool
 /// A sum with what a branch takes out of a bus for each unit of another angle. A branch that is not at both leaves it as it is.
 fn add_branch<N: Exact>(sum: N, line: Line<N>, bus: usize, other: usize) -> Result<N, Passed<N>>
     ensures sum { IfOk result (λ more. N.value more ≡ N.value sum +ℚ bus_term bus other (line_branch N.value line)) }
-    ensures cause { IfErr result (λ e. (left : N) × (right : N) × (N.value left ≡ N.value sum) × (N.value right ≡ bus_term bus other (line_branch N.value line))
+    ensures stops { IfErr result (λ e. (left : N) × (right : N) × (N.value left ≡ N.value sum) × (N.value right ≡ bus_term bus other (line_branch N.value line))
         × IsTooLargeAt N.value N.bound Op.Plus left right e) }
 {
     if is_away(line.from, line.to, bus) || is_away(line.from, line.to, other) {
@@ -57,7 +57,7 @@ fn add_branch<N: Exact>(sum: N, line: Line<N>, bus: usize, other: usize) -> Resu
 /// What is put in at a bus for each unit of an angle: the sum over the branches of what they take out of the bus.
 fn bus_coefficient<N: Exact>(lines: &[Line<N>], bus: usize, other: usize) -> Result<N, Passed<N>>
     ensures sum { IfOk result (λ sum. N.value sum ≡ coefficient (map (line_branch N.value) lines.now) (kind.Injection bus) other) }
-    ensures cause { IfErr result (λ e. IsSumPair (map (line_branch N.value) lines.now) N.bound bus other e.op (N.value e.left) (N.value e.right)) }
+    ensures stops { IfErr result (λ e. IsSumPair (map (line_branch N.value) lines.now) N.bound bus other e.op (N.value e.left) (N.value e.right)) }
 {
     let mut sum = N::of_parts(0, 1);
     for k in 0..lines.len() {
@@ -70,7 +70,7 @@ fn bus_coefficient<N: Exact>(lines: &[Line<N>], bus: usize, other: usize) -> Res
 fn row_coefficient<N: Exact>(lines: &[Line<N>], row: Row, other: usize) -> Result<N, Passed<N>>
     requires { IsAmongBranches (length lines.now) row }
     ensures number { IfOk result (λ number. N.value number ≡ coefficient (map (line_branch N.value) lines.now) row other) }
-    ensures cause { IfErr result (λ e. (bus : ℕ) × (row ≡ kind.Injection bus) × IsSumPair (map (line_branch N.value) lines.now) N.bound bus other e.op (N.value e.left) (N.value e.right)) }
+    ensures stops { IfErr result (λ e. (bus : ℕ) × (row ≡ kind.Injection bus) × IsSumPair (map (line_branch N.value) lines.now) N.bound bus other e.op (N.value e.left) (N.value e.right)) }
 {
     match row {
         Row::Flow(branch) => {

@@ -25,8 +25,10 @@ pub fn one_nearest()
     ensures { OneNearest }
 {}
 
-/// The bounds of the two types.
+/// The bounds of the two types, and that 128 bytes hold the texts of both.
 pub fn bounds()
     ensures wide { ⟦<Frac as Exact>⟧.bound ≡ 2 ^ 127 - 1 }
     ensures narrow { ⟦<Frac63 as Exact>⟧.bound ≡ 2 ^ 63 - 1 }
+    ensures wide_text { ⟦<Frac as Exact>⟧.longest_text ≡ 128 }
+    ensures narrow_text { ⟦<Frac63 as Exact>⟧.longest_text ≡ 128 }
 {}

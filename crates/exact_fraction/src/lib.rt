@@ -1,12 +1,15 @@
 //! Exact fractions of whole numbers: operations that answer exactly or say that the bound of the type is passed.
 #![tactic(auto)]
 
-ghost use Rattle.std.specs.Prelude.{◌≡◌, ◌≢◌, ℕ, ◌<◌, ◌≤◌, ◌^◌, pos, unsigned_abs, take};
+ghost use Rattle.std.specs.Prelude.{◌≡◌, ◌≢◌, ℕ, ◌<◌, ◌≤◌, ◌^◌, pos, unsigned_abs, length, take};
 
+pub use divisor::{gcd_narrow, gcd_wide};
 pub use fraction_theory::Sign;
+pub use ratio::Ratio;
 pub use sizes::size;
 use std::cmp::Ordering;
 pub use sums::{exact_difference, exact_sum};
+pub use word::Word;
 
 mod divisor;
 pub mod laws;
@@ -22,6 +25,9 @@ pub type Frac = ratio::Ratio<i128>;
 
 /// Fractions of numbers of 63 bits, the bound being 2^63 - 1, which meet it early.
 pub type Frac63 = ratio::Ratio<i64>;
+
+/// The most bytes that a text of a number of any of the types takes.
+pub const MOST_TEXT: usize = 1024;
 
 /// The three operations that may pass a bound.
 #[derive(Clone, Copy, PartialEq, Eq, Debug)]
@@ -101,16 +107,24 @@ pub trait Exact: Copy {
     fn plus_product(self, first: Self, second: Self) -> Result<Self, Passed<Self>>
         ensures { IsExactWith value bound self first second result };
 
+    /// How many bytes hold each text of a number.
+    ghost longest_text: { ℕ };
+
     /// Writes the value in units, of which `10^places` are a whole, and gives the length of the text.
-    fn write_exact(self, places: u8, buf: &mut [u8; 128]) -> usize
-        requires { places ≤ 15 }
-        ensures room { result ≤ 128 }
+    fn write_exact(self, places: u8, buf: &mut [u8]) -> usize
+        requires places { places ≤ 15 }
+        requires space { longest_text ≤ length buf.old }
+        ensures within { result ≤ length buf.old }
         ensures text { take result buf.new ≡ written places (value self) };
 
     /// Writes `num/den` in lowest terms, and gives the length of the text.
-    fn write_parts(self, buf: &mut [u8; 128]) -> usize
-        ensures room { result ≤ 128 }
+    fn write_parts(self, buf: &mut [u8]) -> usize
+        requires { longest_text ≤ length buf.old }
+        ensures within { result ≤ length buf.old }
         ensures text { take result buf.new ≡ parts_text (value self) };
+
+    /// The texts of each type have at most 1024 bytes.
+    ghost text_fits: { longest_text ≤ 1024 };
 
     /// Every value is within the bound.
     ghost value_fits: { (x : Self) → (unsigned_abs (value x).num ≤ bound) × ((value x).den ≤ bound) };

@@ -46,8 +46,8 @@ pub(crate) struct Pairs {
 }
 
 impl Pairs {
-    // No factors, with room for so many, and no row of so many marked.
-    pub(crate) fn new(alloc: Global, rows: usize, room: usize) -> Result<Pairs, Memory>
+    // No factors, and no row of so many marked. It holds as many factors as its capacity before it takes more memory.
+    pub(crate) fn new(alloc: Global, rows: usize, capacity: usize) -> Result<Pairs, Memory>
         requires { rows + 1 < 2 ^ 64 }
         ensures none { IfOk result (λ pairs. pairs.by_pair.entries ≡ []) }
         ensures unmarked { IfOk result (λ pairs. (row : ℕ) → get_or pairs.marked.items row false ≡ false) }
@@ -56,7 +56,7 @@ impl Pairs {
         let Ok(marked) = vec![in alloc; false; rows + 1] else {
             return Err(Memory);
         };
-        let Ok(by_pair) = IndexMap::with_capacity(alloc, room) else {
+        let Ok(by_pair) = IndexMap::with_capacity(alloc, capacity) else {
             return Err(Memory);
         };
         Ok(Pairs { by_pair, marked })

@@ -59,7 +59,7 @@ pub fn row_factor<N: Exact>(market: &Market, row: Row, bus: usize) -> Result<N, 
     requires lost { IsCauseOf market.now row.cause }
     requires bus { bus < length market.now.buses }
     ensures factor { IfOk result (λ factor. N.value factor ≡ row_factor market.now row bus) }
-    ensures cause { IfErr result (λ passed. IsRefusedIn (factor_terms market.now row bus) N.bound (passed_at N.value passed)) }
+    ensures stops { IfErr result (λ passed. IsRefusedIn (factor_terms market.now row bus) N.bound (passed_at N.value passed)) }
     ensures wide { 2 ^ 127 ≤ N.bound + 1 → IfErr result (λ _. ⊥) }
 {
     let own = as_number(shift_of(market, row.line, bus));
@@ -85,7 +85,7 @@ fn shift_for_unit<N: Exact>(market: &Market, line: usize, unit: usize) -> N
 /// A sum less a number.
 fn less<N: Exact>(sum: N, number: N) -> Result<N, Passed<N>>
     ensures left { IfOk result (λ left. N.value left ≡ N.value sum -ℚ N.value number) }
-    ensures cause { IfErr result (λ passed. IsRefusal Minus (N.value sum) (N.value number) N.bound (passed_at N.value passed)) }
+    ensures stops { IfErr result (λ passed. IsRefusal Minus (N.value sum) (N.value number) N.bound (passed_at N.value passed)) }
 {
     exact_difference(sum, number)
 }
@@ -93,7 +93,7 @@ fn less<N: Exact>(sum: N, number: N) -> Result<N, Passed<N>>
 /// A sum plus a product.
 pub(crate) fn with_product<N: Exact>(sum: N, factor: N, number: N) -> Result<N, Passed<N>>
     ensures sum { IfOk result (λ more. N.value more ≡ N.value sum +ℚ N.value factor *ℚ N.value number) }
-    ensures cause { IfErr result (λ passed. IsShareRefusal (N.value sum) (N.value factor) (N.value number) N.bound (passed_at N.value passed)) }
+    ensures stops { IfErr result (λ passed. IsShareRefusal (N.value sum) (N.value factor) (N.value number) N.bound (passed_at N.value passed)) }
 {
     sum.plus_product(factor, number)
 }
@@ -110,7 +110,7 @@ fn with_taker<N: Exact>(
     requires pickup { IsPickup (length market.now.unit_outages) (length market.now.units) pickup.now }
     ensures sum { IfOk result (λ more. N.value more ≡ N.value sum +ℚ (if belongs then term_value (taker_term market.now line pickup.now) else zero)) }
     ensures belongs { IfErr result (λ _. belongs ≡ true) }
-    ensures cause { IfErr result (λ passed. IsShareRefusal (N.value sum) (share_value pickup.now) (shift_factor market.now line (unit_at market.now pickup.now.taker).bus) N.bound (passed_at N.value passed)) }
+    ensures stops { IfErr result (λ passed. IsShareRefusal (N.value sum) (share_value pickup.now) (shift_factor market.now line (unit_at market.now pickup.now.taker).bus) N.bound (passed_at N.value passed)) }
 {
     if belongs {
         let share = N::of_parts(pickup.share, SHARE_ONE);
@@ -126,7 +126,7 @@ pub fn taker_factor<N: Exact>(market: &Market, line: usize, outage: usize) -> Re
     requires line { line < length market.now.lines }
     requires outage { outage < length market.now.unit_outages }
     ensures factor { IfOk result (λ factor. N.value factor ≡ taker_factor market.now line outage) }
-    ensures cause { IfErr result (λ passed. IsRefusedIn (taker_terms market.now line outage) N.bound (passed_at N.value passed)) }
+    ensures stops { IfErr result (λ passed. IsRefusedIn (taker_terms market.now line outage) N.bound (passed_at N.value passed)) }
     ensures wide { 2 ^ 127 ≤ N.bound + 1 → IfErr result (λ _. ⊥) }
 {
     let mut sum: N = as_number(0);
@@ -142,7 +142,7 @@ pub fn pickup_factor<N: Exact>(market: &Market, line: usize, outage: usize) -> R
     requires line { line < length market.now.lines }
     requires outage { outage < length market.now.unit_outages }
     ensures factor { IfOk result (λ factor. N.value factor ≡ pickup_factor market.now line outage) }
-    ensures cause { IfErr result (λ passed. IsRefusedIn (pickup_terms market.now line outage) N.bound (passed_at N.value passed)) }
+    ensures stops { IfErr result (λ passed. IsRefusedIn (pickup_terms market.now line outage) N.bound (passed_at N.value passed)) }
     ensures wide { 2 ^ 127 ≤ N.bound + 1 → IfErr result (λ _. ⊥) }
 {
     let _lines = market.lines();
@@ -177,7 +177,7 @@ pub fn unit_factor<N: Exact>(market: &Market, row: Row, unit: usize) -> Result<N
     requires lost { IsCauseOf market.now row.cause }
     requires unit { unit < length market.now.units }
     ensures factor { IfOk result (λ factor. N.value factor ≡ unit_factor market.now row unit) }
-    ensures cause { IfErr result (λ passed. IsRefusedAmong (FactorSum market.now row) N.bound (passed_at N.value passed)) }
+    ensures stops { IfErr result (λ passed. IsRefusedAmong (FactorSum market.now row) N.bound (passed_at N.value passed)) }
     ensures wide { 2 ^ 127 ≤ N.bound + 1 → IfErr result (λ _. ⊥) }
 {
     match outage_losing(market, row.cause, unit) {
@@ -191,7 +191,7 @@ pub fn coefficient<N: Exact>(market: &Market, row: RowId, bus: usize) -> Result<
     requires row { (r : Row) × Contains (rows market.now) r × (row_id market.now r ≡ row) }
     requires bus { bus < length market.now.buses }
     ensures factor { (r : Row) → Contains (rows market.now) r → row_id market.now r ≡ row → IfOk result (λ factor. N.value factor ≡ row_factor market.now r bus) }
-    ensures cause { (r : Row) → Contains (rows market.now) r → row_id market.now r ≡ row → IfErr result (λ passed. IsRefusedIn (factor_terms market.now r bus) N.bound (passed_at N.value passed)) }
+    ensures stops { (r : Row) → Contains (rows market.now) r → row_id market.now r ≡ row → IfErr result (λ passed. IsRefusedIn (factor_terms market.now r bus) N.bound (passed_at N.value passed)) }
     ensures wide { 2 ^ 127 ≤ N.bound + 1 → IfErr result (λ _. ⊥) }
 {
     row_factor(market, found_row(market, row), bus)

@@ -23,7 +23,7 @@ use market_model::{Cause, Market, Row, datum, output};
 pub(crate) fn with_share<N: Exact>(sum: N, share: i64, number: N) -> Result<N, Passed<N>>
     requires { unsigned_abs share ≤ most_factor }
     ensures sum { IfOk result (λ more. N.value more ≡ N.value sum +ℚ over share factor_one *ℚ N.value number) }
-    ensures cause { IfErr result (λ passed. IsShareRefusal (N.value sum) (over share factor_one) (N.value number) N.bound (passed_at N.value passed)) }
+    ensures stops { IfErr result (λ passed. IsShareRefusal (N.value sum) (over share factor_one) (N.value number) N.bound (passed_at N.value passed)) }
 {
     if share == 0 {
         Ok(sum)
@@ -45,7 +45,7 @@ fn line_flow<N: Exact>(market: &Market, line: usize, injections: &[N]) -> Result
     requires line { line < length market.now.lines }
     requires injections { length injections.now ≡ length market.now.buses }
     ensures flow { IfOk result (λ mw. N.value mw ≡ line_flow market.now (put_in (map N.value injections.now)) line) }
-    ensures cause { IfErr result (λ passed. IsRefusedIn (line_terms market.now (put_in (map N.value injections.now)) line) N.bound (passed_at N.value passed)) }
+    ensures stops { IfErr result (λ passed. IsRefusedIn (line_terms market.now (put_in (map N.value injections.now)) line) N.bound (passed_at N.value passed)) }
 {
     let mut flow: N = offset_of(market, line);
     for (bus, mw) in injections.iter().enumerate() {
@@ -66,7 +66,7 @@ fn flow_at<N: Exact>(
     requires count { length wholes.now ≡ length market.now.buses }
     requires wholes { AreWholes (put_in (map N.value injections.now)) wholes.now }
     ensures flow { IfOk result (λ mw. N.value mw ≡ line_flow market.now (put_in (map N.value injections.now)) line) }
-    ensures cause { IfErr result (λ passed. IsRefusedIn (line_terms market.now (put_in (map N.value injections.now)) line) N.bound (passed_at N.value passed)) }
+    ensures stops { IfErr result (λ passed. IsRefusedIn (line_terms market.now (put_in (map N.value injections.now)) line) N.bound (passed_at N.value passed)) }
 {
     match flow_by_wholes(market, line, injections, wholes) {
         Some(mw) => Ok(mw),
@@ -84,11 +84,11 @@ pub fn put_line_flows<N: Exact>(
     requires out { length out.old ≡ length market.now.lines }
     ensures count { length out.new ≡ length out.old }
     ensures flows { IfOk result (λ _. map N.value out.new ≡ line_flows_by market.now (put_in (map N.value injections.now))) }
-    ensures cause { IfErr result (λ passed. IsRefusedAmong (LineFlowSum market.now (put_in (map N.value injections.now))) N.bound (passed_at N.value passed)) }
+    ensures stops { IfErr result (λ passed. IsRefusedAmong (LineFlowSum market.now (put_in (map N.value injections.now))) N.bound (passed_at N.value passed)) }
 {
     let _buses = market.buses();
-    let mut room = [None; MOST_BUSES];
-    let wholes = &mut room[..injections.len()];
+    let mut space = [None; MOST_BUSES];
+    let wholes = &mut space[..injections.len()];
     put_wholes(injections, wholes);
     for (line, mw) in out.iter_mut().enumerate() {
         *mw = flow_at(market, line, injections, wholes)?;
@@ -106,7 +106,7 @@ pub fn put_lost_outputs<N: Exact>(
     requires out { length out.old ≡ length market.now.unit_outages }
     ensures count { length out.new ≡ length out.old }
     ensures outputs { IfOk result (λ _. map N.value out.new ≡ map (lost_output market.now (dispatch_of N.value dispatch.now)) (places (length market.now.unit_outages))) }
-    ensures cause { IfErr result (λ passed. IsRefusedAmong (LostOutputSum market.now (dispatch_of N.value dispatch.now)) N.bound (passed_at N.value passed)) }
+    ensures stops { IfErr result (λ passed. IsRefusedAmong (LostOutputSum market.now (dispatch_of N.value dispatch.now)) N.bound (passed_at N.value passed)) }
 {
     for (outage, mw) in out.iter_mut().enumerate() {
         *mw = output(market, lost_unit(market, outage), dispatch)?;
@@ -123,7 +123,7 @@ pub fn row_flow<N: Exact>(market: &Market, carried: &[N], row: Row) -> Result<N,
     requires lost { IsCauseOf market.now row.cause }
     ensures flow { IfOk result (λ mw. N.value mw ≡ flow_by market.now (carried_in market.now (map N.value carried.now)) row) }
     ensures after { IfErr result (λ _. row.cause ≢ cause.Base) }
-    ensures cause { IfErr result (λ passed. IsFlowRefusal market.now (carried_in market.now (map N.value carried.now)) row N.bound (passed_at N.value passed)) }
+    ensures stops { IfErr result (λ passed. IsFlowRefusal market.now (carried_in market.now (map N.value carried.now)) row N.bound (passed_at N.value passed)) }
 {
     let own = carried[row.line];
     match row.cause {
@@ -142,7 +142,7 @@ pub fn row_offset<N: Exact>(market: &Market, row: Row) -> Result<N, Passed<N>>
     requires line { row.line < length market.now.lines }
     requires lost { IsCauseOf market.now row.cause }
     ensures offset { IfOk result (λ mw. N.value mw ≡ row_offset market.now row) }
-    ensures cause { IfErr result (λ passed. IsRefusedIn (offset_terms market.now row) N.bound (passed_at N.value passed)) }
+    ensures stops { IfErr result (λ passed. IsRefusedIn (offset_terms market.now row) N.bound (passed_at N.value passed)) }
 {
     let own = offset_of(market, row.line);
     match row.cause {

@@ -59,7 +59,7 @@ pub fn most_excess_at(market: &Market, row: Row) -> i64
 pub fn most_flow<N: Exact>(market: &Market, row: Row) -> Result<N, Passed<N>>
     requires { row.line < length market.now.lines }
     ensures most { IfOk result (λ most. N.value most ≡ most_flow market.now row) }
-    ensures cause { IfErr result (λ passed. IsMostFlowRefusal market.now row N.bound (passed_at N.value passed)) }
+    ensures stops { IfErr result (λ passed. IsMostFlowRefusal market.now row N.bound (passed_at N.value passed)) }
 {
     exact_sum(
         datum(limit_at(market, row)),

@@ -18,7 +18,7 @@ pub fn flows<N: Exact>(market: &Market, dispatch: &[N], out: &mut [N]) -> Result
     requires out { length out.old ≡ length market.now.buses + length market.now.lines + length market.now.unit_outages }
     ensures count { length out.new ≡ length out.old }
     ensures flows { IfOk result (λ _. map N.value out.new ≡ flows_at market.now (dispatch_of N.value dispatch.now)) }
-    ensures cause { IfErr result (λ passed. IsFlowsRefusal market.now (dispatch_of N.value dispatch.now) N.bound (passed_at N.value passed)) }
+    ensures stops { IfErr result (λ passed. IsFlowsRefusal market.now (dispatch_of N.value dispatch.now) N.bound (passed_at N.value passed)) }
 {
     let (by_bus, carried) = out.split_at_mut(market.buses().len());
     let (by_line, by_outage) = carried.split_at_mut(market.lines().len());
@@ -35,7 +35,7 @@ pub fn flows_made<N: Exact>(
 ) -> Result<Vec<N>, Stop<N>>
     requires { length dispatch.now ≡ length market.now.blocks }
     ensures flows { IfOk result (λ flows. map N.value flows.items ≡ flows_at market.now (dispatch_of N.value dispatch.now)) }
-    ensures cause { IfErr result (StopsBy N.value (IsFlowsRefusal market.now (dispatch_of N.value dispatch.now) N.bound)) }
+    ensures stops { IfErr result (StopsBy N.value (IsFlowsRefusal market.now (dispatch_of N.value dispatch.now) N.bound)) }
 {
     let count = market.buses().len() + market.lines().len() + market.unit_outages().len();
     let mut by_place = zeros(alloc, count)?;

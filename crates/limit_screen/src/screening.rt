@@ -102,7 +102,7 @@ fn with_row<N: Exact>(
     requires row { Contains (rows market.now) row }
     ensures worst { let g = taken_rows market.now taken.entry in (rs : List Row) → IsWorstOf N.value market.now g (flow_by market.now (carried_at market.now (map N.value flows.now))) rs worst
         → IfOk result (IsWorstOf N.value market.now g (flow_by market.now (carried_at market.now (map N.value flows.now))) (rs ++ row ∷ [])) }
-    ensures cause { IfErr result (λ passed. IsFlowRefusal market.now (carried_at market.now (map N.value flows.now)) row N.bound (passed_at N.value passed)) }
+    ensures stops { IfErr result (λ passed. IsFlowRefusal market.now (carried_at market.now (map N.value flows.now)) row N.bound (passed_at N.value passed)) }
 {
     let _lines = market.lines();
     let flow = row_flow(market, carried_flows(market, flows), row)?;
@@ -154,7 +154,7 @@ fn with_row_by_parts<N: Exact>(
     requires row { Contains (rows market.now) row }
     ensures worst { let g = taken_rows market.now taken.entry in (rs : List Row) → IsWorstOf N.value market.now g (flow_by market.now (carried_at market.now (map N.value flows.now))) rs worst
         → IfOk result (IsWorstOf N.value market.now g (flow_by market.now (carried_at market.now (map N.value flows.now))) (rs ++ row ∷ [])) }
-    ensures cause { IfErr result (λ passed. IsFlowRefusal market.now (carried_at market.now (map N.value flows.now)) row N.bound (passed_at N.value passed)) }
+    ensures stops { IfErr result (λ passed. IsFlowRefusal market.now (carried_at market.now (map N.value flows.now)) row N.bound (passed_at N.value passed)) }
 {
     let _lines = market.lines();
     if is_told_within(market, parts, row, least_overrun(worst)) {
@@ -175,7 +175,7 @@ fn worst_taken<N: Exact>(
     requires flows { length flows.now ≡ length market.now.buses + length market.now.lines + length market.now.unit_outages }
     ensures worst { let g = taken_rows market.now taken.entry in IfOk result (λ worst. MatchOption worst (AllKeep market.now g (carried_at market.now (map N.value flows.now)))
         (IsWorstBy market.now g (carried_at market.now (map N.value flows.now)))) }
-    ensures cause { IfErr result (λ passed. IsAnyFlowRefusal market.now (carried_at market.now (map N.value flows.now)) N.bound (passed_at N.value passed)) }
+    ensures stops { IfErr result (λ passed. IsAnyFlowRefusal market.now (carried_at market.now (map N.value flows.now)) N.bound (passed_at N.value passed)) }
 {
     let mut worst = None;
     for row in rows(market) {
@@ -197,7 +197,7 @@ pub fn worst_row<N: Exact>(
 ) -> Result<Option<Row>, Passed<N>>
     requires { length flows.now ≡ length market.now.buses + length market.now.lines + length market.now.unit_outages }
     ensures worst { IfOk result (λ worst. MatchOption worst (AllKeep market.now taken.now (carried_at market.now (map N.value flows.now))) (IsWorstBy market.now taken.now (carried_at market.now (map N.value flows.now)))) }
-    ensures cause { IfErr result (λ passed. IsAnyFlowRefusal market.now (carried_at market.now (map N.value flows.now)) N.bound (passed_at N.value passed)) }
+    ensures stops { IfErr result (λ passed. IsAnyFlowRefusal market.now (carried_at market.now (map N.value flows.now)) N.bound (passed_at N.value passed)) }
 {
     worst_taken(market, flows, None, TakenRows::Rows(taken))
 }
@@ -212,7 +212,7 @@ pub fn worst_row_by_parts<N: Exact>(
     requires flows { length flows.now ≡ length market.now.buses + length market.now.lines + length market.now.unit_outages }
     requires parts { AreWholeParts market.now (carried_at market.now (map N.value flows.now)) parts.now }
     ensures worst { IfOk result (λ worst. MatchOption worst (AllKeep market.now taken.now (carried_at market.now (map N.value flows.now))) (IsWorstBy market.now taken.now (carried_at market.now (map N.value flows.now)))) }
-    ensures cause { IfErr result (λ passed. IsAnyFlowRefusal market.now (carried_at market.now (map N.value flows.now)) N.bound (passed_at N.value passed)) }
+    ensures stops { IfErr result (λ passed. IsAnyFlowRefusal market.now (carried_at market.now (map N.value flows.now)) N.bound (passed_at N.value passed)) }
 {
     worst_taken(market, flows, Some(parts), TakenRows::Rows(taken))
 }
@@ -226,7 +226,7 @@ pub fn worst<N: Exact>(
     requires flows { length flows.now ≡ length market.now.buses + length market.now.lines + length market.now.unit_outages }
     ensures worst { let g = rows_named market.now taken.now in IfOk result (λ worst. MatchOption worst (AllKeep market.now g (carried_at market.now (map N.value flows.now)))
         (IsWorstNamed market.now g (carried_at market.now (map N.value flows.now)))) }
-    ensures cause { IfErr result (λ passed. IsAnyFlowRefusal market.now (carried_at market.now (map N.value flows.now)) N.bound (passed_at N.value passed)) }
+    ensures stops { IfErr result (λ passed. IsAnyFlowRefusal market.now (carried_at market.now (map N.value flows.now)) N.bound (passed_at N.value passed)) }
 {
     let _lines = market.lines();
     match worst_taken(market, flows, None, TakenRows::Names(taken))? {

@@ -87,7 +87,7 @@ fn use_of<N: Exact>(
     requires reserve { length reserve.now ≡ length market.now.reserve.offers }
     requires unit { unit < length market.now.units }
     ensures used { let x = dispatch_with (map N.value dispatch.now) (map N.value reserve.now) in IfOk result (IsUseOf N.value market.now x unit) }
-    ensures cause { let x = dispatch_with (map N.value dispatch.now) (map N.value reserve.now) in IfErr result (λ passed. IsRefusedAmong (RoomSum market.now x) N.bound (passed_at N.value passed)) }
+    ensures stops { let x = dispatch_with (map N.value dispatch.now) (map N.value reserve.now) in IfErr result (λ passed. IsRefusedAmong (RoomSum market.now x) N.bound (passed_at N.value passed)) }
 {
     if offers_reserve(market, unit) {
         Ok(Some(room_used(market, unit, dispatch, reserve)?))
@@ -106,7 +106,7 @@ pub fn worst_room<N: Exact>(
     requires dispatch { length dispatch.now ≡ length market.now.blocks }
     requires reserve { length reserve.now ≡ length market.now.reserve.offers }
     ensures worst { let x = dispatch_with (map N.value dispatch.now) (map N.value reserve.now) in IfOk result (λ worst. MatchOption worst (AllKeepRooms market.now x) (IsWorstRoom market.now x)) }
-    ensures cause { let x = dispatch_with (map N.value dispatch.now) (map N.value reserve.now) in IfErr result (λ passed. IsRefusedAmong (RoomSum market.now x) N.bound (passed_at N.value passed)) }
+    ensures stops { let x = dispatch_with (map N.value dispatch.now) (map N.value reserve.now) in IfErr result (λ passed. IsRefusedAmong (RoomSum market.now x) N.bound (passed_at N.value passed)) }
 {
     let mut worst = None;
     for unit in 0..market.units().len() {
@@ -146,7 +146,7 @@ pub fn worst_room_by_uses<N: Exact>(
     requires dispatch { length dispatch.now ≡ length market.now.blocks }
     requires reserve { length reserve.now ≡ length market.now.reserve.offers }
     ensures worst { let x = dispatch_with (map N.value dispatch.now) (map N.value reserve.now) in IfOk result (λ worst. MatchOption worst (AllKeepRooms market.now x) (IsWorstRoom market.now x)) }
-    ensures cause { let x = dispatch_with (map N.value dispatch.now) (map N.value reserve.now) in IfErr result (StopsBy N.value (IsRefusedAmong (RoomSum market.now x) N.bound)) }
+    ensures stops { let x = dispatch_with (map N.value dispatch.now) (map N.value reserve.now) in IfErr result (StopsBy N.value (IsRefusedAmong (RoomSum market.now x) N.bound)) }
 {
     let used = rooms_used(alloc, market, dispatch, reserve)?;
     let worst = worst_room_by(market, &used)?;
@@ -162,7 +162,7 @@ pub fn rooms<N: Exact>(
     requires dispatch { length dispatch.now ≡ length market.now.blocks }
     requires reserve { length reserve.now ≡ length market.now.reserve.offers }
     ensures worst { let x = dispatch_with (map N.value dispatch.now) (map N.value reserve.now) in IfOk result (λ worst. MatchOption worst (AllKeepRooms market.now x) (IsWorstRoomNamed market.now x)) }
-    ensures cause { let x = dispatch_with (map N.value dispatch.now) (map N.value reserve.now) in IfErr result (λ passed. IsRefusedAmong (RoomSum market.now x) N.bound (passed_at N.value passed)) }
+    ensures stops { let x = dispatch_with (map N.value dispatch.now) (map N.value reserve.now) in IfErr result (λ passed. IsRefusedAmong (RoomSum market.now x) N.bound (passed_at N.value passed)) }
 {
     let _units = market.units();
     match worst_room(market, dispatch, reserve)? {

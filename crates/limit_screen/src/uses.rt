@@ -47,7 +47,7 @@ fn add_use<N: Exact>(used: &mut [Option<N>], unit: usize, mw: N) -> Result<(), P
     ensures count { length used.new ≡ length used.old }
     ensures sums { (counts : ℕ → Bool) (sum : ℕ → Fraction) (units : ℕ) → HaveSums N.value counts sum units used.old
         → IfOk result (λ _. HaveSums N.value counts (λ u. sum u +ℚ (if unit == u then N.value mw else zero)) units used.new) }
-    ensures cause { (counts : ℕ → Bool) (sum : ℕ → Fraction) (units : ℕ) → HaveSums N.value counts sum units used.old
+    ensures stops { (counts : ℕ → Bool) (sum : ℕ → Fraction) (units : ℕ) → HaveSums N.value counts sum units used.old
         → IfErr result (λ passed. (counts unit ≡ true) × IsRefusal Plus (sum unit) (N.value mw) N.bound (passed_at N.value passed)) }
 {
     let so_far = used[unit];
@@ -72,7 +72,7 @@ fn add_blocks<N: Exact>(
     ensures count { length used.new ≡ length used.old }
     ensures sums { (reserve : List Fraction) → let x = dispatch_with (map N.value dispatch.now) reserve in
         IfOk result (λ _. HaveSums N.value (offers_reserve market.now) (λ unit. total (map (block_term market.now x) (blocks_of market.now unit))) (length market.now.units) used.new) }
-    ensures cause { (reserve : List Fraction) → IfErr result (λ passed. IsRefusedAmong (RoomSum market.now (dispatch_with (map N.value dispatch.now) reserve)) N.bound (passed_at N.value passed)) }
+    ensures stops { (reserve : List Fraction) → IfErr result (λ passed. IsRefusedAmong (RoomSum market.now (dispatch_with (map N.value dispatch.now) reserve)) N.bound (passed_at N.value passed)) }
 {
     for (at, block) in market.blocks().slice().iter().enumerate() {
         add_use(used, block.unit, by_side(block.side, dispatch[at]))?;
@@ -92,7 +92,7 @@ fn add_reserve<N: Exact>(
     ensures sums { (blocks : List Fraction) → let x = dispatch_with blocks (map N.value reserve.now) in
         HaveSums N.value (offers_reserve market.now) (λ unit. total (map (block_term market.now x) (blocks_of market.now unit))) (length market.now.units) used.old
         → IfOk result (λ _. HaveSums N.value (offers_reserve market.now) (room_used market.now x) (length market.now.units) used.new) }
-    ensures cause { (blocks : List Fraction) → let x = dispatch_with blocks (map N.value reserve.now) in
+    ensures stops { (blocks : List Fraction) → let x = dispatch_with blocks (map N.value reserve.now) in
         HaveSums N.value (offers_reserve market.now) (λ unit. total (map (block_term market.now x) (blocks_of market.now unit))) (length market.now.units) used.old
         → IfErr result (λ passed. IsRefusedAmong (RoomSum market.now x) N.bound (passed_at N.value passed)) }
 {
@@ -114,7 +114,7 @@ fn put_uses<N: Exact>(
     requires none { used.old ≡ replicate (length market.now.units) None }
     ensures count { length used.new ≡ length used.old }
     ensures used { let x = dispatch_with (map N.value dispatch.now) (map N.value reserve.now) in IfOk result (λ _. AreRoomsUsed N.value market.now x used.new) }
-    ensures cause { let x = dispatch_with (map N.value dispatch.now) (map N.value reserve.now) in IfErr result (λ passed. IsRefusedAmong (RoomSum market.now x) N.bound (passed_at N.value passed)) }
+    ensures stops { let x = dispatch_with (map N.value dispatch.now) (map N.value reserve.now) in IfErr result (λ passed. IsRefusedAmong (RoomSum market.now x) N.bound (passed_at N.value passed)) }
 {
     put_offering(market, used);
     add_blocks(market, dispatch, used)?;
@@ -131,7 +131,7 @@ pub(crate) fn rooms_used<N: Exact>(
     requires dispatch { length dispatch.now ≡ length market.now.blocks }
     requires reserve { length reserve.now ≡ length market.now.reserve.offers }
     ensures used { let x = dispatch_with (map N.value dispatch.now) (map N.value reserve.now) in IfOk result (λ used. AreRoomsUsed N.value market.now x used.items) }
-    ensures cause { let x = dispatch_with (map N.value dispatch.now) (map N.value reserve.now) in IfErr result (StopsBy N.value (IsRefusedAmong (RoomSum market.now x) N.bound)) }
+    ensures stops { let x = dispatch_with (map N.value dispatch.now) (map N.value reserve.now) in IfErr result (StopsBy N.value (IsRefusedAmong (RoomSum market.now x) N.bound)) }
 {
     let mut used = none_used(alloc, market.units().len())?;
     put_uses(market, dispatch, reserve, &mut used)?;

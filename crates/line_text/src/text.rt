@@ -3,7 +3,7 @@
 ghost use Rattle.std.specs.Prelude.{◌≡◌, ◌≤◌, ◌++◌, List, ℕ, [], decimal, IfOk};
 ghost use Rattle.exact_fraction.specs.Written.{written, parts_text};
 
-use exact_fraction::Exact;
+use exact_fraction::{Exact, MOST_TEXT};
 use itoa::Buffer;
 use plain_list::Memory;
 use std::alloc::Global;
@@ -60,7 +60,7 @@ impl Text {
     pub fn parts<N: Exact>(&mut self, value: N) -> Result<(), Memory>
         ensures { IfOk result (λ _. self.new ≡ self.old ++ parts_text (N.value value)) }
     {
-        let mut buffer = [0u8; 128];
+        let mut buffer = [0u8; MOST_TEXT];
         let end = value.write_parts(&mut buffer);
         self.word(&buffer[..end])
     }
@@ -70,7 +70,7 @@ impl Text {
         requires { places ≤ 15 }
         ensures { IfOk result (λ _. self.new ≡ self.old ++ written places (N.value value)) }
     {
-        let mut buffer = [0u8; 128];
+        let mut buffer = [0u8; MOST_TEXT];
         let end = value.write_exact(places, &mut buffer);
         self.word(&buffer[..end])
     }

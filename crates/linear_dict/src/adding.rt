@@ -119,7 +119,7 @@ fn add_multiple<N: Exact>(
     ensures count { length sums.new.items ≡ columns }
     ensures added { IfOk result (λ _. (f : ℕ → Fraction) → AreSums N.value sums.old.items columns f
         → AreSums N.value sums.new.items columns (λ c. f c +ℚ N.value factor *ℚ cell columns (map N.value table.now) row c)) }
-    ensures cause { IfErr result (λ e. (f : ℕ → Fraction) → AreSums N.value sums.old.items columns f
+    ensures stops { IfErr result (λ e. (f : ℕ → Fraction) → AreSums N.value sums.old.items columns f
         → IsRefused N.value N.bound (MultipleShare columns f (N.value factor) (cell columns (map N.value table.now) row)) e) }
 {
     let start = row * columns;
@@ -147,7 +147,7 @@ fn add_term<N: Exact>(
     ensures count { length sums.new.items ≡ columns }
     ensures added { IfOk result (λ _. (f : ℕ → Fraction) → AreSums N.value sums.old.items columns f
         → AreSums N.value sums.new.items columns (λ c. f c +ℚ row_term N.value columns table.now entries.now c variable)) }
-    ensures cause { IfErr result (λ e. (f : ℕ → Fraction) → AreSums N.value sums.old.items columns f
+    ensures stops { IfErr result (λ e. (f : ℕ → Fraction) → AreSums N.value sums.old.items columns f
         → IsRefused N.value N.bound (TermShare N.value columns table.now entries.now variable f) e) }
 {
     match variable.put {
@@ -180,7 +180,7 @@ pub(crate) fn row_entries<N: Exact>(
     requires within { AreInTable (length table.now) columns (length entries.now) variables.now }
     ensures sums { IfOk result (λ sums. AreSums N.value sums.items columns
         (λ c. sum_by (row_term N.value columns table.now entries.now c) variables.now)) }
-    ensures cause { IfErr result (λ stop. OnPassed stop
+    ensures stops { IfErr result (λ stop. OnPassed stop
         (IsRefused N.value N.bound (RowShare N.value columns table.now entries.now variables.now))) }
 {
     let mut sums = zeros(alloc, columns)?;

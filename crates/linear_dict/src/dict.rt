@@ -286,7 +286,7 @@ impl<N: Exact> Dict<N> {
         requires absent { ¬ (Contains self.old.names row) }
         requires entries { length entries.now ≡ length self.old.columns }
         ensures added { MatchResult result (λ _. AddsRow N.value self.old row entries.now self.new) (λ _. self.new ≡ self.old) }
-        ensures cause { IfErr result (λ stop. OnPassed stop (IsRefused N.value N.bound (AddShare self.old (map N.value entries.now)))) }
+        ensures stops { IfErr result (λ stop. OnPassed stop (IsRefused N.value N.bound (AddShare self.old (map N.value entries.now)))) }
         ensures pair { IfErr result (λ stop. OnPassed stop (IsPairWith N.value N.bound self.old row entries.now)) }
     {
         let alloc = *self.table.allocator();
@@ -353,7 +353,7 @@ impl<N: Exact> Dict<N> {
         requires column { c < length self.old.others }
         requires entry { cell (length self.old.others) self.old.table r c ≢ whole (pos 0) }
         ensures pivoted { MatchResult result (λ _. self.new ≡ pivoted self.old r c) (λ _. self.new.spent ≡ true) }
-        ensures cause { IfErr result (IsRefused N.value N.bound (PivotShare (length self.old.basics) (length self.old.others) (cell (length self.old.others) self.old.table) r c)) }
+        ensures stops { IfErr result (IsRefused N.value N.bound (PivotShare (length self.old.basics) (length self.old.others) (cell (length self.old.others) self.old.table) r c)) }
         ensures pair { IfErr result (IsPairOf N.value N.bound (system_in self.old)) }
         ensures sound { IsDictionary self.new }
     {

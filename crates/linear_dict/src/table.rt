@@ -21,7 +21,7 @@ fn solve_row<N: Exact>(
     ensures count { length table.new.items ≡ length table.old.items }
     ensures solved { IfOk result (λ _. (rows : ℕ) → length table.old.items ≡ rows * columns
         → Shows rows columns (map N.value table.new.items) (solved_cell (cell columns (map N.value table.old.items)) row column)) }
-    ensures cause { IfErr result (λ e. (rows : ℕ) → length table.old.items ≡ rows * columns
+    ensures stops { IfErr result (λ e. (rows : ℕ) → length table.old.items ≡ rows * columns
         → IsRefused N.value N.bound (SolveShare columns (cell columns (map N.value table.old.items)) row column) e) }
 {
     let start = row * columns;
@@ -53,7 +53,7 @@ fn clear_row<N: Exact>(
     ensures count { length table.new.items ≡ length table.old.items }
     ensures cleared { IfOk result (λ _. (rows : ℕ) → length table.old.items ≡ rows * columns
         → Shows rows columns (map N.value table.new.items) (cleared_cell (cell columns (map N.value table.old.items)) row solved column)) }
-    ensures cause { IfErr result (λ e. (rows : ℕ) → length table.old.items ≡ rows * columns
+    ensures stops { IfErr result (λ e. (rows : ℕ) → length table.old.items ≡ rows * columns
         → IsRefused N.value N.bound (ClearShare columns (cell columns (map N.value table.old.items)) row solved column) e) }
 {
     let start = row * columns;
@@ -89,7 +89,7 @@ pub(crate) fn pivot_table<N: Exact>(
     ensures count { length table.new.items ≡ length table.old.items }
     ensures pivoted { IfOk result (λ _. map N.value table.new.items
         ≡ table_of rows columns (pivoted_cell (cell columns (map N.value table.old.items)) row column)) }
-    ensures cause { IfErr result (IsRefused N.value N.bound (PivotShare rows columns (cell columns (map N.value table.old.items)) row column)) }
+    ensures stops { IfErr result (IsRefused N.value N.bound (PivotShare rows columns (cell columns (map N.value table.old.items)) row column)) }
 {
     solve_row(table, columns, row, column)?;
     for i in 0..rows {

@@ -65,7 +65,7 @@ fn row_entry<N: Exact>(market: &Market, row: Row, block: &Block) -> Result<N, Pa
     requires row { Contains (rows market.now) row }
     requires unit { block.now.unit < length market.now.units }
     ensures entry { IfOk result (λ entry. N.value entry ≡ signed_by_side block.now.side (unit_factor market.now row block.now.unit)) }
-    ensures cause { IfErr result (λ passed. IsRefusedAmong (FactorSum market.now row) N.bound (passed_at N.value passed)) }
+    ensures stops { IfErr result (λ passed. IsRefusedAmong (FactorSum market.now row) N.bound (passed_at N.value passed)) }
 {
     let _lines = market.lines();
     Ok(by_side(block.side, unit_factor(market, row, block.unit)?))
@@ -75,7 +75,7 @@ fn row_entry<N: Exact>(market: &Market, row: Row, block: &Block) -> Result<N, Pa
 fn block_entries<N: Exact>(alloc: Global, market: &Market, row: Row) -> Result<List<N>, Stop<N>>
     requires row { Contains (rows market.now) row }
     ensures entries { IfOk result (λ entries. map N.value entries ≡ map (block_coefficient market.now row) (places (length market.now.blocks))) }
-    ensures cause { IfErr result (StopsBy N.value (IsRefusedAmong (FactorSum market.now row) N.bound)) }
+    ensures stops { IfErr result (StopsBy N.value (IsRefusedAmong (FactorSum market.now row) N.bound)) }
 {
     let mut entries = List::new(alloc);
     for block in market.blocks().slice() {
@@ -110,7 +110,7 @@ pub(crate) fn row_entries<N: Exact>(
     requires columns { length market.now.blocks ≤ columns }
     ensures entries { (ts : List Taking) → ¬ (Contains (limits_of ts) row) → columns ≡ length (columns_put market.now ts)
         → IfOk result (λ entries. map N.value entries ≡ map (coefficient market.now (variable.Limit row)) (columns_put market.now (ts ++ taking.Limit row ∷ []))) }
-    ensures cause { IfErr result (StopsBy N.value (IsRefusedAmong (FactorSum market.now row) N.bound)) }
+    ensures stops { IfErr result (StopsBy N.value (IsRefusedAmong (FactorSum market.now row) N.bound)) }
 {
     let _lines = market.lines();
     let mut entries = block_entries(alloc, market, row)?;

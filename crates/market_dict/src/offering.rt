@@ -48,7 +48,7 @@ pub(crate) fn push_offer_bounds<N: Exact>(
 /// The reserve that may be accepted in all.
 fn offered<N: Exact>(market: &Market) -> Result<N, Passed<N>>
     ensures offered { IfOk result (λ mw. N.value mw ≡ reserve_offered market.now) }
-    ensures cause { IfErr result (λ passed. IsRefusedIn (offered_terms market.now) N.bound (passed_at N.value passed)) }
+    ensures stops { IfErr result (λ passed. IsRefusedIn (offered_terms market.now) N.bound (passed_at N.value passed)) }
 {
     let mut mw: N = datum(0);
     for offer in market.reserve().offers.slice() {
@@ -60,7 +60,7 @@ fn offered<N: Exact>(market: &Market) -> Result<N, Passed<N>>
 /// The bounds of the need: at least that is to be accepted, and at most what is offered, or the need where that is more.
 pub(crate) fn need_bounds<N: Exact>(market: &Market) -> Result<Bounds<N>, Passed<N>>
     ensures bounds { IfOk result (λ bounds. AreBounds N.value market.now (variable.Need ∷ []) (bounds ∷ [])) }
-    ensures cause { IfErr result (λ passed. IsRefusedIn (offered_terms market.now) N.bound (passed_at N.value passed)) }
+    ensures stops { IfErr result (λ passed. IsRefusedIn (offered_terms market.now) N.bound (passed_at N.value passed)) }
 {
     let need: N = need_quantity(market.reserve());
     let offered = offered(market)?;

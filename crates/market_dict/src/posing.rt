@@ -82,7 +82,7 @@ fn first_prices<N: Exact>(alloc: Global, market: &Market) -> Result<List<N>, Mem
 /// Where nothing is accepted, what each bus puts in, what each line carries and what lost units put out.
 fn base_flows_of<N: Exact>(alloc: Global, market: &Market) -> Result<Vec<N>, Stop<N>>
     ensures flows { IfOk result (λ base_flows. map N.value base_flows.items ≡ flows_at market.now (empty market.now)) }
-    ensures cause { IfErr result (StopsBy N.value (IsFlowsRefusal market.now (empty market.now) N.bound)) }
+    ensures stops { IfErr result (StopsBy N.value (IsFlowsRefusal market.now (empty market.now) N.bound)) }
 {
     let nothing = zeros(alloc, market.blocks().len())?;
     flows_made(alloc, market, &nothing)
@@ -92,7 +92,7 @@ fn base_flows_of<N: Exact>(alloc: Global, market: &Market) -> Result<Vec<N>, Sto
 fn residual_demand<N: Exact>(market: &Market, base_flows: &[N]) -> Result<N, Passed<N>>
     requires { map N.value base_flows.now ≡ flows_at market.now (empty market.now) }
     ensures residual_demand { IfOk result (λ mw. N.value mw ≡ residual_demand_of market.now) }
-    ensures cause { IfErr result (λ passed. IsRefusedIn (balance_terms market.now (empty market.now)) N.bound (passed_at N.value passed)) }
+    ensures stops { IfErr result (λ passed. IsRefusedIn (balance_terms market.now (empty market.now)) N.bound (passed_at N.value passed)) }
 {
     let balance = balance(market, bus_injections(market, base_flows))?;
     Ok(balance.neg())
@@ -129,7 +129,7 @@ fn first_row_bounds<N: Exact>(
 ) -> Result<List<Bounds<N>>, Stop<N>>
     requires { map N.value base_flows.now ≡ flows_at market.now (empty market.now) }
     ensures bounds { IfOk result (AreBounds N.value market.now (first_rows market.now)) }
-    ensures cause { IfErr result (StopsBy N.value (IsBoundsRefusal market.now [] N.bound)) }
+    ensures stops { IfErr result (StopsBy N.value (IsBoundsRefusal market.now [] N.bound)) }
 {
     let residual_demand = residual_demand(market, base_flows)?;
     let mut bounds = List::new(alloc);
@@ -149,7 +149,7 @@ fn row_bounds<N: Exact>(market: &Market, base_flows: &[N], row: Row) -> Result<B
     requires base_flows { map N.value base_flows.now ≡ flows_at market.now (empty market.now) }
     ensures low { IfOk result (λ bounds. N.value bounds.low ≡ least_added market.now row) }
     ensures high { IfOk result (λ bounds. N.value bounds.high ≡ most_added market.now row) }
-    ensures cause { IfErr result (λ passed. IsBoundsRefusal market.now (row ∷ []) N.bound (passed_at N.value passed)) }
+    ensures stops { IfErr result (λ passed. IsBoundsRefusal market.now (row ∷ []) N.bound (passed_at N.value passed)) }
 {
     let _lines = market.lines();
     let flow = row_flow(market, carried_flows(market, base_flows), row)?;
@@ -167,7 +167,7 @@ pub fn prices_and_bounds<N: Exact>(
 ) -> Result<PricesAndBounds<N>, Stop<N>>
     requires takings { All (IsTaking market.now) taken.now }
     ensures posing { IfOk result (ArePricesAndBounds N.value market.now taken.now) }
-    ensures cause { IfErr result (StopsBy N.value (IsBoundsRefusal market.now (limits_of taken.now) N.bound)) }
+    ensures stops { IfErr result (StopsBy N.value (IsBoundsRefusal market.now (limits_of taken.now) N.bound)) }
 {
     let prices = first_prices(alloc, market)?;
     let base_flows = base_flows_of(alloc, market)?;
@@ -222,7 +222,7 @@ fn take_limit_bounds<N: Exact>(
     requires row { Contains (rows market.now) row }
     requires posing { (ts : List Taking) × ArePricesAndBounds N.value market.now ts posing.old }
     ensures taken { (ts : List Taking) → ArePricesAndBounds N.value market.now ts posing.old → IfOk result (λ _. ArePricesAndBounds N.value market.now (ts ++ taking.Limit row ∷ []) posing.new) }
-    ensures cause { IfErr result (StopsBy N.value (IsBoundsRefusal market.now (row ∷ []) N.bound)) }
+    ensures stops { IfErr result (StopsBy N.value (IsBoundsRefusal market.now (row ∷ []) N.bound)) }
 {
     let bounds = row_bounds(market, &posing.base_flows, row)?;
     take_columns(market, posing, row)?;
@@ -239,7 +239,7 @@ pub fn take_bounds<N: Exact>(
     requires taking { IsTaking market.now taking }
     requires posing { (ts : List Taking) × ArePricesAndBounds N.value market.now ts posing.old }
     ensures taken { (ts : List Taking) → ArePricesAndBounds N.value market.now ts posing.old → IfOk result (λ _. ArePricesAndBounds N.value market.now (ts ++ taking ∷ []) posing.new) }
-    ensures cause { IfErr result (StopsBy N.value (IsBoundsRefusal market.now (limits_of (taking ∷ [])) N.bound)) }
+    ensures stops { IfErr result (StopsBy N.value (IsBoundsRefusal market.now (limits_of (taking ∷ [])) N.bound)) }
 {
     match taking {
         Taking::Limit(row) => take_limit_bounds(market, posing, row),

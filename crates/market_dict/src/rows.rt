@@ -93,7 +93,7 @@ pub fn take_limit<N: Exact>(
     requires row { Contains (rows market.now) row }
     requires holds { (ts : List Taking) × HoldsMarket market.now ts dict.old × ¬ (Contains (limits_of ts) row) }
     ensures taken { (ts : List Taking) → HoldsMarket market.now ts dict.old → IfOk result (λ _. HoldsMarket market.now (ts ++ taking.Limit row ∷ []) dict.new) }
-    ensures cause { (ts : List Taking) → HoldsMarket market.now ts dict.old
+    ensures stops { (ts : List Taking) → HoldsMarket market.now ts dict.old
         → IfErr result (λ stop. OnPassed stop (λ p. IsPairOf N.value N.bound (system_of market.now (taken_of (ts ++ taking.Limit row ∷ []))) p ⊎ IsRefusedAmong (FactorSum market.now row) N.bound (passed_at N.value p))) }
 {
     let _lines = market.lines();

@@ -40,7 +40,7 @@ pub fn zeros<N: Exact>(alloc: Global, count: usize) -> Result<Vec<N>, Memory>
 pub fn with_part<N: Exact>(sum: N, part: N, counts: bool) -> Result<N, Passed<N>>
     ensures sum { IfOk result (λ more. N.value more ≡ N.value sum +ℚ (if counts then N.value part else zero)) }
     ensures counts { IfErr result (λ _. counts ≡ true) }
-    ensures cause { IfErr result (λ passed. IsRefusal Plus (N.value sum) (N.value part) N.bound (passed_at N.value passed)) }
+    ensures stops { IfErr result (λ passed. IsRefusal Plus (N.value sum) (N.value part) N.bound (passed_at N.value passed)) }
 {
     if counts {
         exact_sum(sum, part)

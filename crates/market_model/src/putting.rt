@@ -27,7 +27,7 @@ fn fixed_of<N: Exact>(unit: &Unit) -> N
 /// What the fixed parts of the units at a bus come to.
 fn fixed_at<N: Exact>(market: &Market, bus: usize) -> Result<N, Passed<N>>
     ensures sum { IfOk result (λ mw. N.value mw ≡ total (map (fixed_term market.now) (units_at market.now bus))) }
-    ensures cause { IfErr result (λ passed. IsRefusedIn (map (fixed_term market.now) (units_at market.now bus)) N.bound (passed_at N.value passed)) }
+    ensures stops { IfErr result (λ passed. IsRefusedIn (map (fixed_term market.now) (units_at market.now bus)) N.bound (passed_at N.value passed)) }
 {
     let mut mw: N = datum(0);
     for (at, unit) in market.units().slice().iter().enumerate() {
@@ -46,7 +46,7 @@ fn raised_at<N: Exact>(
     requires dispatch { length dispatch.now ≡ length market.now.blocks }
     requires fixed { N.value fixed ≡ total (map (fixed_term market.now) (units_at market.now bus)) }
     ensures sum { IfOk result (λ mw. N.value mw ≡ total (map (fixed_term market.now) (units_at market.now bus) ++ map (block_term market.now (dispatch_of N.value dispatch.now)) (blocks_at market.now bus))) }
-    ensures cause { IfErr result (λ passed. IsRefusedIn (map (fixed_term market.now) (units_at market.now bus) ++ map (block_term market.now (dispatch_of N.value dispatch.now)) (blocks_at market.now bus)) N.bound (passed_at N.value passed)) }
+    ensures stops { IfErr result (λ passed. IsRefusedIn (map (fixed_term market.now) (units_at market.now bus) ++ map (block_term market.now (dispatch_of N.value dispatch.now)) (blocks_at market.now bus)) N.bound (passed_at N.value passed)) }
 {
     let mut mw = fixed;
     for (at, block) in market.blocks().slice().iter().enumerate() {
@@ -61,7 +61,7 @@ fn raised_at<N: Exact>(
 fn less_demand<N: Exact>(sum: N, bus: &Bus) -> Result<N, Passed<N>>
     requires { IsBus bus.now }
     ensures left { IfOk result (λ left. N.value left ≡ (N.value sum -ℚ whole bus.now.pd) -ℚ whole bus.now.gs) }
-    ensures cause { IfErr result (λ passed. IsDemandRefusal (N.value sum) bus.now N.bound (passed_at N.value passed)) }
+    ensures stops { IfErr result (λ passed. IsDemandRefusal (N.value sum) bus.now N.bound (passed_at N.value passed)) }
 {
     let unloaded = exact_difference(sum, datum(bus.pd))?;
     exact_difference(unloaded, datum(bus.gs))
@@ -72,7 +72,7 @@ fn injection<N: Exact>(market: &Market, bus: usize, dispatch: &[N]) -> Result<N,
     requires bus { bus < length market.now.buses }
     requires dispatch { length dispatch.now ≡ length market.now.blocks }
     ensures sum { IfOk result (λ mw. N.value mw ≡ injection market.now (dispatch_of N.value dispatch.now) bus) }
-    ensures cause { IfErr result (λ passed. IsRefusedIn (injection_terms market.now (dispatch_of N.value dispatch.now) bus) N.bound (passed_at N.value passed)) }
+    ensures stops { IfErr result (λ passed. IsRefusedIn (injection_terms market.now (dispatch_of N.value dispatch.now) bus) N.bound (passed_at N.value passed)) }
 {
     let fixed = fixed_at(market, bus)?;
     let raised = raised_at(market, bus, fixed, dispatch)?;
@@ -85,7 +85,7 @@ pub fn injections<N: Exact>(market: &Market, dispatch: &[N], out: &mut [N]) -> R
     requires out { length out.old ≡ length market.now.buses }
     ensures count { length out.new ≡ length out.old }
     ensures injections { IfOk result (λ _. AreInjections market.now (dispatch_of N.value dispatch.now) (map N.value out.new)) }
-    ensures cause { IfErr result (λ passed. IsRefusedAmong (InjectionSum market.now (dispatch_of N.value dispatch.now)) N.bound (passed_at N.value passed)) }
+    ensures stops { IfErr result (λ passed. IsRefusedAmong (InjectionSum market.now (dispatch_of N.value dispatch.now)) N.bound (passed_at N.value passed)) }
 {
     for (bus, mw) in out.iter_mut().enumerate() {
         *mw = injection(market, bus, dispatch)?;
@@ -96,7 +96,7 @@ pub fn injections<N: Exact>(market: &Market, dispatch: &[N], out: &mut [N]) -> R
 /// What all buses put in, of what each puts in, in 10^-9 MW.
 pub fn balance<N: Exact>(market: &Market, injections: &[N]) -> Result<N, Passed<N>>
     ensures sum { (x : Dispatch) → AreInjections market.now x (map N.value injections.now) → IfOk result (λ sum. N.value sum ≡ balance market.now x) }
-    ensures cause { (x : Dispatch) → AreInjections market.now x (map N.value injections.now) → IfErr result (λ passed. IsRefusedIn (balance_terms market.now x) N.bound (passed_at N.value passed)) }
+    ensures stops { (x : Dispatch) → AreInjections market.now x (map N.value injections.now) → IfErr result (λ passed. IsRefusedIn (balance_terms market.now x) N.bound (passed_at N.value passed)) }
 {
     let mut sum: N = datum(0);
     for mw in injections {
@@ -118,7 +118,7 @@ pub fn output<N: Exact>(market: &Market, unit: usize, dispatch: &[N]) -> Result<
     requires unit { unit < length market.now.units }
     requires dispatch { length dispatch.now ≡ length market.now.blocks }
     ensures output { IfOk result (λ mw. N.value mw ≡ output_of market.now (dispatch_of N.value dispatch.now) unit) }
-    ensures cause { IfErr result (λ passed. IsRefusedIn (output_terms market.now (dispatch_of N.value dispatch.now) unit) N.bound (passed_at N.value passed)) }
+    ensures stops { IfErr result (λ passed. IsRefusedIn (output_terms market.now (dispatch_of N.value dispatch.now) unit) N.bound (passed_at N.value passed)) }
 {
     let mut mw: N = fixed_part(market, unit);
     for (at, block) in market.blocks().slice().iter().enumerate() {

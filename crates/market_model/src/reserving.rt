@@ -83,7 +83,7 @@ pub fn offers_reserve(market: &Market, unit: usize) -> bool
 /// The reserve that is accepted in all, of what is accepted of each offer, in 10^-9 MW.
 pub fn reserve_in_all<N: Exact>(reserve: &[N]) -> Result<N, Passed<N>>
     ensures sum { (m : Parts) (blocks : List Fraction) → length reserve.now ≡ length m.reserve.offers → IfOk result (λ sum. N.value sum ≡ reserve_of m (dispatch_with blocks (map N.value reserve.now))) }
-    ensures cause { (m : Parts) (blocks : List Fraction) → length reserve.now ≡ length m.reserve.offers → IfErr result (λ passed. IsRefusedIn (reserve_terms m (dispatch_with blocks (map N.value reserve.now))) N.bound (passed_at N.value passed)) }
+    ensures stops { (m : Parts) (blocks : List Fraction) → length reserve.now ≡ length m.reserve.offers → IfErr result (λ passed. IsRefusedIn (reserve_terms m (dispatch_with blocks (map N.value reserve.now))) N.bound (passed_at N.value passed)) }
 {
     let mut sum: N = datum(0);
     for mw in reserve {
@@ -96,7 +96,7 @@ pub fn reserve_in_all<N: Exact>(reserve: &[N]) -> Result<N, Passed<N>>
 fn raised<N: Exact>(market: &Market, unit: usize, dispatch: &[N]) -> Result<N, Passed<N>>
     requires { length dispatch.now ≡ length market.now.blocks }
     ensures sum { IfOk result (λ mw. N.value mw ≡ total (map (block_term market.now (dispatch_of N.value dispatch.now)) (blocks_of market.now unit))) }
-    ensures cause { (reserve : List Fraction) → IfErr result (λ passed. IsRefusedIn (room_terms market.now (dispatch_with (map N.value dispatch.now) reserve) unit) N.bound (passed_at N.value passed)) }
+    ensures stops { (reserve : List Fraction) → IfErr result (λ passed. IsRefusedIn (room_terms market.now (dispatch_with (map N.value dispatch.now) reserve) unit) N.bound (passed_at N.value passed)) }
 {
     let mut mw: N = datum(0);
     for (at, block) in market.blocks().slice().iter().enumerate() {
@@ -115,7 +115,7 @@ pub fn room_used<N: Exact>(
     requires dispatch { length dispatch.now ≡ length market.now.blocks }
     requires reserve { length reserve.now ≡ length market.now.reserve.offers }
     ensures used { let x = dispatch_with (map N.value dispatch.now) (map N.value reserve.now) in IfOk result (λ used. N.value used ≡ room_used_of market.now x unit) }
-    ensures cause { let x = dispatch_with (map N.value dispatch.now) (map N.value reserve.now) in IfErr result (λ passed. IsRefusedIn (room_terms market.now x unit) N.bound (passed_at N.value passed)) }
+    ensures stops { let x = dispatch_with (map N.value dispatch.now) (map N.value reserve.now) in IfErr result (λ passed. IsRefusedIn (room_terms market.now x unit) N.bound (passed_at N.value passed)) }
 {
     let mut mw = raised(market, unit, dispatch)?;
     for (at, offer) in market.reserve().offers.slice().iter().enumerate() {

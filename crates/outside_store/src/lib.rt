@@ -58,7 +58,7 @@ pub trait Store {
         ensures same { SameFiles (files self.old) (files self.new) }
         ensures short { IfOk result (λ v. vec_len v ≤ limit + 1) }
         ensures bytes { IfOk result (λ v. Reads (files self.old) name.now limit v.items) }
-        ensures cause { CountsFault (IsErrOf result ReadStop.Failed) name.now
+        ensures stops { CountsFault (IsErrOf result ReadStop.Failed) name.now
             (failed_reads self.old) (failed_reads self.new) }
         ensures writes { Still (failed_writes self.old) (failed_writes self.new) };
 
@@ -67,7 +67,7 @@ pub trait Store {
     /// After a failed write the name has what it had, or a prefix of the bytes.
     fn write(&mut self, name: &str, bytes: &[u8]) -> Result<(), Failed>
         ensures wrote { Wrote (IsErr result) name.now bytes.now (files self.old) (files self.new) }
-        ensures cause { CountsFault (IsErr result) name.now
+        ensures stops { CountsFault (IsErr result) name.now
             (failed_writes self.old) (failed_writes self.new) }
         ensures reads { Still (failed_reads self.old) (failed_reads self.new) };
 }
@@ -89,5 +89,5 @@ pub trait Sink {
     /// Takes a piece whole, or fails after a prefix of it.
     fn put(&mut self, bytes: &[u8]) -> Result<(), Failed>
         ensures took { Took (IsErr result) bytes.now (taken self.old) (taken self.new) }
-        ensures cause { CountFault (IsErr result) (faults self.old) (faults self.new) };
+        ensures stops { CountFault (IsErr result) (faults self.old) (faults self.new) };
 }

@@ -169,7 +169,7 @@ impl Store for MemoryStore {
         ensures same { SameFiles (Some (find self.old.files)) (Some (find self.new.files)) }
         ensures short { IfOk result (λ v. vec_len v ≤ limit + 1) }
         ensures bytes { IfOk result (λ v. Reads (Some (find self.old.files)) name.now limit v.items) }
-        ensures cause { CountsFault (IsErrOf result ReadStop.Failed) name.now
+        ensures stops { CountsFault (IsErrOf result ReadStop.Failed) name.now
             (λ _. self.old.failed_reads) (λ _. self.new.failed_reads) }
         ensures writes { Still (λ _. self.old.failed_writes) (λ _. self.new.failed_writes) }
 
@@ -196,7 +196,7 @@ impl Store for MemoryStore {
     fn write(&mut self, name: &str, bytes: &[u8]) -> Result<(), Failed>
         ensures wrote { Wrote (IsErr result) name.now bytes.now
             (Some (find self.old.files)) (Some (find self.new.files)) }
-        ensures cause { CountsFault (IsErr result) name.now
+        ensures stops { CountsFault (IsErr result) name.now
             (λ _. self.old.failed_writes) (λ _. self.new.failed_writes) }
         ensures reads { Still (λ _. self.old.failed_reads) (λ _. self.new.failed_reads) }
 

@@ -39,9 +39,9 @@ impl<R: Print + Drop> Sink for OutSink<R> {
 
     fn put(&mut self, bytes: &[u8]) -> Result<(), Failed>
         ensures took { Took (IsErr result) bytes.now None None }
-        ensures cause { CountFault (IsErr result) self.old.failed self.new.failed }
+        ensures stops { CountFault (IsErr result) self.old.failed self.new.failed }
 
-        // A failed put is counted once; `cause` says that no other is counted.
+        // A failed put is counted once; `stops` says that no other is counted.
         ensures counted { OnErr result (self.new.failed ≡ raised self.old.failed) }
     {
         if write_whole(&mut io::writer(&self.rt), bytes) {

@@ -32,7 +32,7 @@ fn put_flows<N: Exact>(
     requires by_bus { length by_bus.old ≡ length market.now.buses }
     requires out { map N.value out.old ≡ replicate (length market.now.lines + length market.now.unit_outages) zero }
     ensures flows { IfOk result (λ _. map N.value out.new ≡ carried_list market.now (carried_for market.now rights.now)) }
-    ensures cause { IfErr result (λ passed. IsRefusedAmong (RightsFlowSum market.now rights.now) N.bound (passed_at N.value passed)) }
+    ensures stops { IfErr result (λ passed. IsRefusedAmong (RightsFlowSum market.now rights.now) N.bound (passed_at N.value passed)) }
 {
     put_rights(rights, by_bus)?;
     let (by_line, _lost) = out.split_at_mut(market.lines().len());
@@ -47,7 +47,7 @@ fn carried<N: Exact>(
 ) -> Result<Vec<N>, Stop<N>>
     requires { All (λ t. pos 0 ≤ℤ t.mw) rights.now }
     ensures flows { IfOk result (λ flows. map N.value flows.items ≡ carried_list market.now (carried_for market.now rights.now)) }
-    ensures cause { IfErr result (StopsBy N.value (λ p. IsRefusedAmong (RightsFlowSum market.now rights.now) N.bound p)) }
+    ensures stops { IfErr result (StopsBy N.value (λ p. IsRefusedAmong (RightsFlowSum market.now rights.now) N.bound p)) }
 {
     let mut by_bus = zeros(alloc, market.buses().len())?;
     let mut carried = zeros(alloc, market.lines().len() + market.unit_outages().len())?;
@@ -70,7 +70,7 @@ fn is_within<N: Exact>(market: &Market, row: Row, flow: N) -> bool
 fn first_broken<N: Exact>(market: &Market, carried: &[N]) -> Result<Fit<N>, Passed<N>>
     requires { length carried.now ≡ length market.now.lines + length market.now.unit_outages }
     ensures fit { IfOk result (λ fit. IsFitBy market.now (flow_by market.now (carried_in market.now (map N.value carried.now))) (fit_at N.value fit)) }
-    ensures cause { IfErr result (λ passed. IsAnyFlowRefusal market.now (carried_in market.now (map N.value carried.now)) N.bound (passed_at N.value passed)) }
+    ensures stops { IfErr result (λ passed. IsAnyFlowRefusal market.now (carried_in market.now (map N.value carried.now)) N.bound (passed_at N.value passed)) }
 {
     let _lines = market.lines();
     for row in rows(market) {
@@ -94,7 +94,7 @@ pub fn fit<N: Exact>(
 ) -> Result<Fit<N>, Stop<N>>
     requires { All (IsTransmissionRight (length market.now.buses)) rights.now }
     ensures fit { IfOk result (λ fit. IsFit market.now rights.now (fit_at N.value fit)) }
-    ensures cause { IfErr result (StopsBy N.value (IsFitRefusal market.now rights.now N.bound)) }
+    ensures stops { IfErr result (StopsBy N.value (IsFitRefusal market.now rights.now N.bound)) }
 {
     let _lines = market.lines();
     let carried = carried(alloc, market, rights)?;

@@ -28,7 +28,7 @@ fn less_end<N: Exact>(sum: N, right: &TransmissionRight, belongs: bool) -> Resul
     requires { pos 0 ≤ℤ right.now.mw }
     ensures left { IfOk result (λ left. N.value left ≡ N.value sum -ℚ (if belongs then whole right.now.mw else zero)) }
     ensures belongs { IfErr result (λ _. belongs ≡ true) }
-    ensures cause { IfErr result (λ passed. IsRefusal Op.Minus (N.value sum) (whole right.now.mw) N.bound (passed_at N.value passed)) }
+    ensures stops { IfErr result (λ passed. IsRefusal Op.Minus (N.value sum) (whole right.now.mw) N.bound (passed_at N.value passed)) }
 {
     if belongs {
         exact_difference(sum, mw_of(right))
@@ -41,7 +41,7 @@ fn less_end<N: Exact>(sum: N, right: &TransmissionRight, belongs: bool) -> Resul
 fn begun_at<N: Exact>(rights: &[TransmissionRight], bus: usize) -> Result<N, Passed<N>>
     requires { All (λ t. pos 0 ≤ℤ t.mw) rights.now }
     ensures sum { IfOk result (λ mw. N.value mw ≡ total (begin_terms rights.now bus)) }
-    ensures cause { IfErr result (λ passed. IsRefusedIn (rights_injection_terms rights.now bus) N.bound (passed_at N.value passed)) }
+    ensures stops { IfErr result (λ passed. IsRefusedIn (rights_injection_terms rights.now bus) N.bound (passed_at N.value passed)) }
 {
     let mut mw: N = datum(0);
     for right in rights {
@@ -54,7 +54,7 @@ fn begun_at<N: Exact>(rights: &[TransmissionRight], bus: usize) -> Result<N, Pas
 fn put_at<N: Exact>(rights: &[TransmissionRight], bus: usize) -> Result<N, Passed<N>>
     requires { All (λ t. pos 0 ≤ℤ t.mw) rights.now }
     ensures sum { IfOk result (λ mw. N.value mw ≡ rights_injection rights.now bus) }
-    ensures cause { IfErr result (λ passed. IsRefusedIn (rights_injection_terms rights.now bus) N.bound (passed_at N.value passed)) }
+    ensures stops { IfErr result (λ passed. IsRefusedIn (rights_injection_terms rights.now bus) N.bound (passed_at N.value passed)) }
 {
     let mut mw: N = begun_at(rights, bus)?;
     for right in rights {
@@ -71,7 +71,7 @@ pub(crate) fn put_rights<N: Exact>(
     requires { All (λ t. pos 0 ≤ℤ t.mw) rights.now }
     ensures count { length out.new ≡ length out.old }
     ensures injections { IfOk result (λ _. map N.value out.new ≡ map (rights_injection rights.now) (places (length out.old))) }
-    ensures cause { IfErr result (λ passed. IsRefusedAmong (RightsInjectionSum (length out.old) rights.now) N.bound (passed_at N.value passed)) }
+    ensures stops { IfErr result (λ passed. IsRefusedAmong (RightsInjectionSum (length out.old) rights.now) N.bound (passed_at N.value passed)) }
 {
     for (bus, mw) in out.iter_mut().enumerate() {
         *mw = put_at(rights, bus)?;

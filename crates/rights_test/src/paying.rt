@@ -20,7 +20,7 @@ use std::alloc::Global;
 fn payment<N: Exact>(right: &TransmissionRight, prices: &[Price<N>]) -> Result<N, Passed<N>>
     requires { IsTransmissionRight (length prices.now) right.now }
     ensures paid { IfOk result (λ paid. N.value paid ≡ term_value (right_term (total_at N.value prices.now) right.now)) }
-    ensures cause { IfErr result (λ passed. IsRefusal Minus (total_at N.value prices.now right.now.to) (total_at N.value prices.now right.now.from) N.bound (passed_at N.value passed)
+    ensures stops { IfErr result (λ passed. IsRefusal Minus (total_at N.value prices.now right.now.to) (total_at N.value prices.now right.now.from) N.bound (passed_at N.value passed)
         ⊎ IsRefusal Times (whole right.now.mw) (total_at N.value prices.now right.now.to -ℚ total_at N.value prices.now right.now.from) N.bound (passed_at N.value passed)) }
 {
     let more = exact_difference(prices[right.to].total, prices[right.from].total)?;
@@ -37,7 +37,7 @@ pub fn pay<N: Exact>(
 ) -> Result<Payments<N>, Stop<N>>
     requires { All (IsTransmissionRight (length prices.now)) rights.now }
     ensures payments { IfOk result (λ payments. payments_at N.value payments ≡ payments_of (total_at N.value prices.now) rights.now) }
-    ensures cause { IfErr result (StopsBy N.value (IsPayRefusal (total_at N.value prices.now) rights.now N.bound)) }
+    ensures stops { IfErr result (StopsBy N.value (IsPayRefusal (total_at N.value prices.now) rights.now N.bound)) }
 {
     let mut each = List::new(alloc);
     let mut total: N = datum(0);

@@ -21,7 +21,7 @@ fn load<N: Exact>(bus: &Bus, price: N) -> Result<Load<N>, Passed<N>>
     requires { IsBus bus.now }
     ensures demand { IfOk result (λ load. N.value load.mw ≡ whole bus.now.pd +ℚ whole bus.now.gs) }
     ensures pays { IfOk result (λ load. N.value load.pays ≡ N.value price *ℚ N.value load.mw) }
-    ensures cause { IfErr result (λ passed. IsRefusal Plus (whole bus.now.pd) (whole bus.now.gs) N.bound (passed_at N.value passed)
+    ensures stops { IfErr result (λ passed. IsRefusal Plus (whole bus.now.pd) (whole bus.now.gs) N.bound (passed_at N.value passed)
         ⊎ IsRefusal Times (N.value price) (whole bus.now.pd +ℚ whole bus.now.gs) N.bound (passed_at N.value passed)) }
 {
     let pd: N = datum(bus.pd);
@@ -37,7 +37,7 @@ pub fn loads<N: Exact>(
     prices: &[Price<N>],
 ) -> Result<List<Load<N>>, Stop<N>>
     requires { length prices.now ≡ length market.now.buses }
-    ensures cause { (x : Dispatch) (d : DualsOf Fraction) → IfErr result (IsMoneyStop N.value N.bound market.now x (total_at N.value prices.now) d) }
+    ensures stops { (x : Dispatch) (d : DualsOf Fraction) → IfErr result (IsMoneyStop N.value N.bound market.now x (total_at N.value prices.now) d) }
     ensures loads { IfOk result (λ loads. map (load_at N.value) loads ≡ map (pay_of_load market.now (total_at N.value prices.now)) (places (length market.now.buses))) }
 {
     let mut loads = List::new(alloc);

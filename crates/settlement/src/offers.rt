@@ -19,7 +19,7 @@ pub fn reserve_pays<N: Exact>(
     reserve: &[N],
     price: N,
 ) -> Result<List<ReservePay<N>>, Stop<N>>
-    ensures cause { (m : Parts) (blocks : List Fraction) (by_bus : ℕ → Fraction) (d : DualsOf Fraction) → length reserve.now ≡ length m.reserve.offers → N.value price ≡ d.reserve
+    ensures stops { (m : Parts) (blocks : List Fraction) (by_bus : ℕ → Fraction) (d : DualsOf Fraction) → length reserve.now ≡ length m.reserve.offers → N.value price ≡ d.reserve
         → IfErr result (IsMoneyStop N.value N.bound m (dispatch_with blocks (map N.value reserve.now)) by_bus d) }
     ensures pays { (blocks : List Fraction) (d : DualsOf Fraction) → N.value price ≡ d.reserve
         → IfOk result (λ pays. map (reserve_pay_at N.value) pays ≡ map (pay_of_reserve (dispatch_with blocks (map N.value reserve.now)) d) (places (length reserve.now))) }

@@ -24,7 +24,7 @@ pub fn rents<N: Exact>(
 ) -> Result<List<Rent<N>>, Stop<N>>
     requires flows { length flows.now ≡ length market.now.buses + length market.now.lines + length market.now.unit_outages }
     requires duals { ProperDuals market.now (duals_at N.value duals.now) }
-    ensures cause { (x : Dispatch) (price : ℕ → Fraction) → map N.value flows.now ≡ flows_at market.now x → IfErr result (IsMoneyStop N.value N.bound market.now x price (duals_at N.value duals.now)) }
+    ensures stops { (x : Dispatch) (price : ℕ → Fraction) → map N.value flows.now ≡ flows_at market.now x → IfErr result (IsMoneyStop N.value N.bound market.now x price (duals_at N.value duals.now)) }
     ensures rents { (x : Dispatch) → map N.value flows.now ≡ flows_at market.now x → IfOk result (λ rents. map (rent_at N.value) rents ≡ map (rent_of market.now x (duals_at N.value duals.now)) (named_rows market.now (duals_at N.value duals.now))) }
 {
     let _lines = market.lines();

@@ -49,7 +49,7 @@ fn priced_flow<N: Exact>(market: &Market, row: Row, flow: N) -> N
 fn earned<N: Exact>(dual: &Dual<N>, priced: N, offset: N) -> Result<N, Passed<N>>
     requires { IsOneSided (dual_at N.value dual.now) }
     ensures rent { IfOk result (λ rent. N.value rent ≡ total (earned_terms (N.value dual.now.up) (N.value dual.now.down) (N.value priced) (N.value offset))) }
-    ensures cause { IfErr result (λ passed. IsRefusedIn (upper_terms (N.value priced) (N.value offset)) N.bound (passed_at N.value passed)
+    ensures stops { IfErr result (λ passed. IsRefusedIn (upper_terms (N.value priced) (N.value offset)) N.bound (passed_at N.value passed)
         ⊎ IsRefusedIn (lower_terms (N.value priced) (N.value offset)) N.bound (passed_at N.value passed)
         ⊎ IsRefusedIn (earned_terms (N.value dual.now.up) (N.value dual.now.down) (N.value priced) (N.value offset)) N.bound (passed_at N.value passed)) }
 {
@@ -77,7 +77,7 @@ pub fn row_rent<N: Exact>(
     requires one_sided { IsOneSided (dual_at N.value dual.now) }
     requires flows { length flows.now ≡ length market.now.buses + length market.now.lines + length market.now.unit_outages }
     ensures rent { IfOk result (λ rent. rent_at N.value rent ≡ rent_by market.now (carried_at market.now (map N.value flows.now)) (dual_at N.value dual.now) row) }
-    ensures cause { let carried = carried_at market.now (map N.value flows.now) in IfErr result (λ passed. IsRefusedAmong (PaidRowSum market.now carried row) N.bound (passed_at N.value passed)
+    ensures stops { let carried = carried_at market.now (map N.value flows.now) in IfErr result (λ passed. IsRefusedAmong (PaidRowSum market.now carried row) N.bound (passed_at N.value passed)
         ⊎ IsRefusedIn (rent_terms_by market.now carried row (N.value dual.now.up) (N.value dual.now.down)) N.bound (passed_at N.value passed)
         ⊎ IsRefusedAmong (PickupSum market.now row) N.bound (passed_at N.value passed)) }
 {

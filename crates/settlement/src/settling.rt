@@ -28,7 +28,7 @@ use std::alloc::Global;
 /// What loads pay, in bus order, less what units are paid, in unit order.
 fn surplus<N: Exact>(loads: &[Load<N>], units: &[UnitPay<N>]) -> Result<N, Passed<N>>
     ensures left { IfOk result (λ left. N.value left ≡ total (paid_terms (map (load_at N.value) loads.now) (map (unit_pay_at N.value) units.now))) }
-    ensures cause { IfErr result (λ passed. IsRefusedIn (paid_terms (map (load_at N.value) loads.now) (map (unit_pay_at N.value) units.now)) N.bound (passed_at N.value passed)) }
+    ensures stops { IfErr result (λ passed. IsRefusedIn (paid_terms (map (load_at N.value) loads.now) (map (unit_pay_at N.value) units.now)) N.bound (passed_at N.value passed)) }
 {
     let mut surplus: N = datum(0);
     for load in loads {
@@ -60,7 +60,7 @@ pub fn settle_flows<N: Exact>(
     ensures fits { IfOk result (FitsMoney market.now duals.now) }
     ensures surplus_is_rents { IfOk result (λ money. IsSupportedAt market.now (dispatch_with (map N.value dispatch.now) (map N.value reserve.now)) (total_at N.value prices.now) (duals_at N.value duals.now) → N.value money.surplus ≡ sum_by (λ rent. N.value rent.rent) money.rents) }
     ensures not_negative { IfOk result (λ money. IsSupportedAt market.now (dispatch_with (map N.value dispatch.now) (map N.value reserve.now)) (total_at N.value prices.now) (duals_at N.value duals.now) → HasOffsetsWithin market.now (duals_at N.value duals.now) → zero ≤ℚ N.value money.surplus) }
-    ensures cause { IfErr result (IsMoneyStop N.value N.bound market.now (dispatch_with (map N.value dispatch.now) (map N.value reserve.now)) (total_at N.value prices.now) (duals_at N.value duals.now)) }
+    ensures stops { IfErr result (IsMoneyStop N.value N.bound market.now (dispatch_with (map N.value dispatch.now) (map N.value reserve.now)) (total_at N.value prices.now) (duals_at N.value duals.now)) }
 {
     let _lines = market.lines();
     let by_unit = own_prices(alloc, market, duals, prices)?;
@@ -99,7 +99,7 @@ pub fn settle<N: Exact>(
     ensures fits { IfOk result (FitsMoney market.now duals.now) }
     ensures surplus_is_rents { IfOk result (λ money. IsSupportedAt market.now (dispatch_with (map N.value dispatch.now) (map N.value reserve.now)) (total_at N.value prices.now) (duals_at N.value duals.now) → N.value money.surplus ≡ sum_by (λ rent. N.value rent.rent) money.rents) }
     ensures not_negative { IfOk result (λ money. IsSupportedAt market.now (dispatch_with (map N.value dispatch.now) (map N.value reserve.now)) (total_at N.value prices.now) (duals_at N.value duals.now) → HasOffsetsWithin market.now (duals_at N.value duals.now) → zero ≤ℚ N.value money.surplus) }
-    ensures cause { IfErr result (IsSettlementStop N.value N.bound market.now (dispatch_with (map N.value dispatch.now) (map N.value reserve.now)) (total_at N.value prices.now) (duals_at N.value duals.now)) }
+    ensures stops { IfErr result (IsSettlementStop N.value N.bound market.now (dispatch_with (map N.value dispatch.now) (map N.value reserve.now)) (total_at N.value prices.now) (duals_at N.value duals.now)) }
 {
     let flows = flows_made(alloc, market, dispatch)?;
     settle_flows(alloc, market, dispatch, reserve, &flows, prices, duals)

@@ -42,7 +42,7 @@ fn unit_pay<N: Exact>(
     requires dispatch { length dispatch.now ≡ length market.now.blocks }
     ensures mw { IfOk result (λ pay. N.value pay.mw ≡ output_of market.now (dispatch_of N.value dispatch.now) place) }
     ensures paid { IfOk result (λ pay. N.value pay.paid ≡ N.value price *ℚ N.value pay.mw) }
-    ensures cause { IfErr result (λ passed. IsRefusedIn (output_terms market.now (dispatch_of N.value dispatch.now) place) N.bound (passed_at N.value passed)
+    ensures stops { IfErr result (λ passed. IsRefusedIn (output_terms market.now (dispatch_of N.value dispatch.now) place) N.bound (passed_at N.value passed)
         ⊎ IsRefusal Times (N.value price) (output_of market.now (dispatch_of N.value dispatch.now) place) N.bound (passed_at N.value passed)) }
 {
     let mw = output(market, place, dispatch)?;
@@ -59,7 +59,7 @@ pub fn unit_pays<N: Exact>(
 ) -> Result<List<UnitPay<N>>, Stop<N>>
     requires dispatch { length dispatch.now ≡ length market.now.blocks }
     requires own { length own.now ≡ length market.now.units }
-    ensures cause { (reserve : List Fraction) (price : ℕ → Fraction) (d : DualsOf Fraction) → map N.value own.now ≡ map (own_price market.now d price) (places (length market.now.units))
+    ensures stops { (reserve : List Fraction) (price : ℕ → Fraction) (d : DualsOf Fraction) → map N.value own.now ≡ map (own_price market.now d price) (places (length market.now.units))
         → IfErr result (IsMoneyStop N.value N.bound market.now (dispatch_with (map N.value dispatch.now) reserve) price d) }
     ensures pays { (reserve : List Fraction) (price : ℕ → Fraction) (d : DualsOf Fraction) → map N.value own.now ≡ map (own_price market.now d price) (places (length market.now.units))
         → IfOk result (λ pays. map (unit_pay_at N.value) pays ≡ map (pay_of_unit market.now (dispatch_with (map N.value dispatch.now) reserve) price d) (places (length market.now.units))) }

@@ -26,7 +26,7 @@ use market_model::{Line, Market, Row, block_value, datum, offer_value};
 fn values<N: Exact>(market: &Market, dispatch: &[N]) -> Result<N, Passed<N>>
     requires { length dispatch.now ≡ length market.now.blocks }
     ensures values { IfOk result (λ values. N.value values ≡ total (block_value_terms market.now (dispatch_of N.value dispatch.now))) }
-    ensures cause { (reserve : List Fraction) → IfErr result (λ passed. IsRefusedAmong (WelfareSum market.now (dispatch_with (map N.value dispatch.now) reserve)) N.bound (passed_at N.value passed)) }
+    ensures stops { (reserve : List Fraction) → IfErr result (λ passed. IsRefusedAmong (WelfareSum market.now (dispatch_with (map N.value dispatch.now) reserve)) N.bound (passed_at N.value passed)) }
 {
     let mut sum: N = datum(0);
     for (place, block) in market.blocks().slice().iter().enumerate() {
@@ -41,7 +41,7 @@ fn less_penalty<N: Exact>(market: &Market, row: Row, flows: &[N], sum: N) -> Res
     requires lost { IsCauseOf market.now row.cause }
     requires flows { length flows.now ≡ length market.now.buses + length market.now.lines + length market.now.unit_outages }
     ensures less { let carried = carried_at market.now (map N.value flows.now) in IfOk result (λ less. N.value less ≡ N.value sum +ℚ neg_ℚ (penalty market.now row) *ℚ excess_by market.now row (flow_by market.now carried row)) }
-    ensures cause { let carried = carried_at market.now (map N.value flows.now) in IfErr result (λ passed. IsFlowRefusal market.now carried row N.bound (passed_at N.value passed)
+    ensures stops { let carried = carried_at market.now (map N.value flows.now) in IfErr result (λ passed. IsFlowRefusal market.now carried row N.bound (passed_at N.value passed)
         ⊎ IsShareRefusal (N.value sum) (neg_ℚ (penalty market.now row)) (excess_by market.now row (flow_by market.now carried row)) N.bound (passed_at N.value passed)) }
 {
     let flow = row_flow(market, carried_flows(market, flows), row)?;
@@ -71,7 +71,7 @@ fn less_penalties<N: Exact>(market: &Market, flows: &[N], values: N) -> Result<N
     requires { length flows.now ≡ length market.now.buses + length market.now.lines + length market.now.unit_outages }
     ensures worth { (x : Dispatch) → map N.value flows.now ≡ flows_at market.now x → N.value values ≡ total (block_value_terms market.now x)
         → IfOk result (λ worth. N.value worth ≡ total (block_value_terms market.now x ++ penalty_terms market.now (rows_of market.now) x)) }
-    ensures cause { (x : Dispatch) → map N.value flows.now ≡ flows_at market.now x → N.value values ≡ total (block_value_terms market.now x)
+    ensures stops { (x : Dispatch) → map N.value flows.now ≡ flows_at market.now x → N.value values ≡ total (block_value_terms market.now x)
         → IfErr result (λ passed. IsWelfareRefusal market.now x N.bound (passed_at N.value passed)) }
 {
     let _buses = market.buses();
@@ -96,7 +96,7 @@ fn less_reserve_costs<N: Exact>(
     requires { length reserve.now ≡ length market.now.reserve.offers }
     ensures worth { (blocks : List Fraction) → let x = dispatch_with blocks (map N.value reserve.now) in N.value of_energy ≡ total (block_value_terms market.now x ++ penalty_terms market.now (rows_of market.now) x)
         → IfOk result (λ worth. N.value worth ≡ welfare_of market.now x) }
-    ensures cause { (blocks : List Fraction) → let x = dispatch_with blocks (map N.value reserve.now) in N.value of_energy ≡ total (block_value_terms market.now x ++ penalty_terms market.now (rows_of market.now) x)
+    ensures stops { (blocks : List Fraction) → let x = dispatch_with blocks (map N.value reserve.now) in N.value of_energy ≡ total (block_value_terms market.now x ++ penalty_terms market.now (rows_of market.now) x)
         → IfErr result (λ passed. IsRefusedAmong (WelfareSum market.now x) N.bound (passed_at N.value passed)) }
 {
     let mut sum = of_energy;
@@ -119,7 +119,7 @@ pub fn welfare<N: Exact>(
     requires reserve { length reserve.now ≡ length market.now.reserve.offers }
     requires flows { map N.value flows.now ≡ flows_at market.now (dispatch_of N.value dispatch.now) }
     ensures worth { IfOk result (λ worth. N.value worth ≡ welfare_of market.now (dispatch_with (map N.value dispatch.now) (map N.value reserve.now))) }
-    ensures cause { IfErr result (λ passed. IsWelfareRefusal market.now (dispatch_with (map N.value dispatch.now) (map N.value reserve.now)) N.bound (passed_at N.value passed)) }
+    ensures stops { IfErr result (λ passed. IsWelfareRefusal market.now (dispatch_with (map N.value dispatch.now) (map N.value reserve.now)) N.bound (passed_at N.value passed)) }
 {
     let of_blocks = values(market, dispatch)?;
     let of_energy = less_penalties(market, flows, of_blocks)?;

@@ -41,7 +41,7 @@ fn note_after<N: Exact>(dict: &Dict<N>, rank: usize, step: &Move<N>) -> Result<N
     requires leaving { slice_index dict.now.others step.now.column ≡ step.now.leaving }
     ensures note { IfOk result (λ note. noted N.value note ≡ moved_note dict.now step.now.leaving step.now.entering step.now.above
         (N.value step.now.bound) (N.value step.now.displacement) (N.value step.now.price) (slice_index dict.now.names rank)) }
-    ensures cause { IfErr result (IsRefused N.value N.bound
+    ensures stops { IfErr result (IsRefused N.value N.bound
         (MoveShare dict.now step.now.leaving step.now.entering (N.value step.now.displacement) (N.value step.now.price)
         (slice_index dict.now.names rank))) }
 {
@@ -114,7 +114,7 @@ fn move_notes<N: Exact>(dict: &mut Dict<N>, step: &Move<N>) -> Result<(), Passed
     requires leaving { slice_index dict.old.others step.now.column ≡ step.now.leaving }
     ensures notes { IfOk result (λ _. dict.new ≡ noted_anew dict.old (moved_note dict.old step.now.leaving step.now.entering step.now.above
         (N.value step.now.bound) (N.value step.now.displacement) (N.value step.now.price))) }
-    ensures cause { IfErr result (IsRefused N.value N.bound
+    ensures stops { IfErr result (IsRefused N.value N.bound
         (MovesShare dict.old step.now.leaving step.now.entering (N.value step.now.displacement) (N.value step.now.price))) }
 {
     for rank in 0..dict.name_count() {

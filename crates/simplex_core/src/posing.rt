@@ -73,7 +73,7 @@ fn add_basic_price<N: Exact>(
     requires name { slice_index dict.old.basics row ≡ name }
     requires price { N.value price ≡ (system_in dict.old).price name }
     ensures notes { IfOk result (λ _. dict.new ≡ noted_anew dict.old (price_added dict.old name)) }
-    ensures cause { IfErr result (IsRefused N.value N.bound (PriceShare dict.old name)) }
+    ensures stops { IfErr result (IsRefused N.value N.bound (PriceShare dict.old name)) }
 {
     for column in 0..dict.column_count() {
         let entry = dict.entry(row, column);
@@ -96,7 +96,7 @@ fn add_price<N: Exact>(dict: &mut Dict<N>, name: u32) -> Result<(), Passed<N>>
     requires sound { IsDictionary dict.old }
     requires named { Contains dict.old.names name }
     ensures notes { IfOk result (λ _. dict.new ≡ noted_anew dict.old (price_added dict.old name)) }
-    ensures cause { IfErr result (IsRefused N.value N.bound (PriceShare dict.old name)) }
+    ensures stops { IfErr result (IsRefused N.value N.bound (PriceShare dict.old name)) }
 {
     let note = dict.note(name);
     match note.price.sign() {
@@ -156,7 +156,7 @@ fn add_bound<N: Exact>(dict: &mut Dict<N>, column: usize, name: u32) -> Result<(
     requires column { column < length dict.old.others }
     requires name { slice_index dict.old.others column ≡ name }
     ensures notes { IfOk result (λ _. dict.new ≡ noted_anew dict.old (bound_added dict.old name)) }
-    ensures cause { IfErr result (IsRefused N.value N.bound (BoundShare dict.old name)) }
+    ensures stops { IfErr result (IsRefused N.value N.bound (BoundShare dict.old name)) }
 {
     let at = dict.note(name);
     let bound = bound_on(&at, at.at_high);

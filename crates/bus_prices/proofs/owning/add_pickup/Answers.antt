@@ -16,13 +16,13 @@ returns-in_default-clause-own g c = λ before e.
     e ∙ map_same before (λ u. before u +ℚ added_to_own m r price u) (length m.units)
     (λ u lt. sym (ap (λ t. before u +ℚ t) (none_added m r price u (no_loss m r.cause c.in_default.not-UnitOutage u)) ∙ +ℚ_nil (before u)))
 
-pub returns-in_err-factor-clause-cause : goal.returns-in_err-factor-clause-cause
-returns-in_err-factor-clause-cause g c =
+pub returns-in_err-factor-clause-stops : goal.returns-in_err-factor-clause-stops
+returns-in_err-factor-clause-stops g c =
     let given : c.from_residual.result ≡ Err c.in_err-factor.field-0.0 = search rules in
-    λ before e. rw given (inr (_, pickup_of_row c.in-UnitOutage.outage c.in-UnitOutage.is, c.in_err-factor.ensures.cause))
+    λ before e. rw given (inr (_, pickup_of_row c.in-UnitOutage.outage c.in-UnitOutage.is, c.in_err-factor.ensures.stops))
 
-pub returns-in_err-out-clause-cause : goal.returns-in_err-out-clause-cause
-returns-in_err-out-clause-cause g c =
+pub returns-in_err-out-clause-stops : goal.returns-in_err-out-clause-stops
+returns-in_err-out-clause-stops g c =
     let m = c.args.market.now in
     let r = c.args.row in
     let value = g.N.Exact.value in

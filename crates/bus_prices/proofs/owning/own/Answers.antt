@@ -33,8 +33,8 @@ opposite_net_price-requires g c =
     dual_one_sided g.N.Exact.value c.args.market.now c.args.duals.now c.requires.duals c.slice-dual-items.result.now c.loop-dual.dual-index c.dual-item.result
     c.slice-dual-items.ensures c.loop-dual-test.true c.dual-item.is
 
-pub returns-in_err-add_pickup-clause-cause : goal.returns-in_err-add_pickup-clause-cause
-returns-in_err-add_pickup-clause-cause g c =
+pub returns-in_err-add_pickup-clause-stops : goal.returns-in_err-add_pickup-clause-stops
+returns-in_err-add_pickup-clause-stops g c =
     let m = c.args.market.now in
     let value = g.N.Exact.value in
     let d = duals_at value c.args.duals.now in
@@ -45,7 +45,7 @@ returns-in_err-add_pickup-clause-cause g c =
     let given : c.from_residual.result ≡ Err c.in_err-add_pickup.field-0.0 = search rules in
     rw given
     (share_refused m d price k (dual_at value c.dual-item.result) r.0 c.found_row-row.result (value c.opposite_net_price.result) g.N.Exact.bound (passed_at value c.in_err-add_pickup.field-0.0) r.1
-    c.opposite_net_price.ensures is (c.in_err-add_pickup.ensures.cause (λ u. own_to m d price u k) c.loop-dual.invariant))
+    c.opposite_net_price.ensures is (c.in_err-add_pickup.ensures.stops (λ u. own_to m d price u k) c.loop-dual.invariant))
 
 pub loop-dual-preserved : goal.loop-dual-preserved
 loop-dual-preserved g c =

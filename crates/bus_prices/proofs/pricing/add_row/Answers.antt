@@ -21,8 +21,8 @@ loop-bus-preserved g c =
       left = still_left old c.loop-bus.out i _ c.loop-bus.invariant.left;
     }
 
-pub returns-in_err-row_factor-clause-cause : goal.returns-in_err-row_factor-clause-cause
-returns-in_err-row_factor-clause-cause g c =
+pub returns-in_err-row_factor-clause-stops : goal.returns-in_err-row_factor-clause-stops
+returns-in_err-row_factor-clause-stops g c =
     let inside : c.loop-bus.bus < length c.args.market.now.buses = omega (arith, c.loop-bus-test.true, c.loop-bus.auto.out, c.requires.out) in
     let given : c.from_residual.result ≡ Err c.in_err-row_factor.field-0.0 = search rules in
-    λ energy before h. rw given (inr (_, factor_at_bus c.loop-bus.bus inside, c.in_err-row_factor.ensures.cause))
+    λ energy before h. rw given (inr (_, factor_at_bus c.loop-bus.bus inside, c.in_err-row_factor.ensures.stops))

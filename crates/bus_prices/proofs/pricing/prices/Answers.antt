@@ -36,8 +36,8 @@ loop-dual-preserved g c =
     (ap (λ (s : Row). row_factor m s bus) is) refl refl)
     (c.in_ok-add_row.ensures.parts d.energy (λ bus. congestion_to m d bus k) c.loop-dual.invariant)
 
-pub returns-in_err-add_row-clause-cause : goal.returns-in_err-add_row-clause-cause
-returns-in_err-add_row-clause-cause g c =
+pub returns-in_err-add_row-clause-stops : goal.returns-in_err-add_row-clause-stops
+returns-in_err-add_row-clause-stops g c =
     let m = c.args.market.now in
     let value = g.N.Exact.value in
     let d = duals_at value c.args.duals.now in
@@ -46,7 +46,7 @@ returns-in_err-add_row-clause-cause g c =
     let is = c.found_row-row.ensures.is r.0 r.1.row r.1.name in
     let given : c.from_residual.result ≡ Err c.in_err-add_row.field-0.0 = search rules in
     rw given (added_refused m d k (dual_at value c.dual-item.result) r.0 c.found_row-row.result (value c.opposite_net_price.result) g.N.Exact.bound (passed_at value c.in_err-add_row.field-0.0) r.1
-    c.opposite_net_price.ensures is (c.in_err-add_row.ensures.cause d.energy (λ bus. congestion_to m d bus k) c.loop-dual.invariant))
+    c.opposite_net_price.ensures is (c.in_err-add_row.ensures.stops d.energy (λ bus. congestion_to m d bus k) c.loop-dual.invariant))
 
 pub returns-clause-prices : goal.returns-clause-prices
 returns-clause-prices g c =
@@ -61,8 +61,8 @@ returns-clause-prices g c =
     ∙ made_of_parts m d (λ bus. congestion_to m d bus k) (length m.buses) (λ bus. congestion_all m d bus k all))
     (c.put_totals.ensures.prices d.energy (λ bus. congestion_to m d bus k) c.loop-dual.invariant)
 
-pub returns-clause-cause : goal.returns-clause-cause
-returns-clause-cause g c =
+pub returns-clause-stops : goal.returns-clause-stops
+returns-clause-stops g c =
     let m = c.args.market.now in
     let d = duals_at g.N.Exact.value c.args.duals.now in
     let k = c.loop-dual.dual-index in
@@ -72,4 +72,4 @@ returns-clause-cause g c =
     (λ p why.
     let inside : why.0 < length m.buses = omega (arith, why.1, c.loop-dual.auto.out, c.requires.out) in
     inl (why.0, inside, (price_terms m d why.0, total_at, total_refused m d why.0 (congestion_to m d why.0 k) g.N.Exact.bound (passed_at g.N.Exact.value p) (congestion_all m d why.0 k all) why.2)))
-    (c.put_totals.ensures.cause d.energy (λ bus. congestion_to m d bus k) c.loop-dual.invariant)
+    (c.put_totals.ensures.stops d.energy (λ bus. congestion_to m d bus k) c.loop-dual.invariant)

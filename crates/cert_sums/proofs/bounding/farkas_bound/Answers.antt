@@ -9,18 +9,18 @@ use Rattle.market_model.specs.declared.stops.Stop.TheVariants as why
 use Rattle.cert_sums.proofs.BoundLemmas.{nothing_is, nothing_put, nothing_put_by, nothing_carried, injection_pair, carried_pair_of, balance_pair, energy_refused}
 use Rattle.cert_sums.proofs.bounding.farkas_bound.Goals as goal
 
-pub returns-in_err-by_bus-clause-cause : goal.returns-in_err-by_bus-clause-cause
-returns-in_err-by_bus-clause-cause g c =
+pub returns-in_err-by_bus-clause-stops : goal.returns-in_err-by_bus-clause-stops
+returns-in_err-by_bus-clause-stops g c =
     let m = c.args.market.now in
     let value = g.N.Exact.value in
     let is = nothing_is value m c.deref.result.now c.in_ok-nothing.nothing.items _ c.deref.ensures.value c.in_ok-nothing.ensures.zeros (c.len.ensures ∙ ap length c.blocks-2.ensures.list) in
     let given : c.from_residual-in_err-by_bus.result ≡ Err c.in_err-by_bus.field-0.0 = search rules in
     λ d energy are priced rooms. rw given
     (on_passed_weaker c.in_err-by_bus.field-0.0 _ _
-    (λ p. injection_pair m (map value c.deref.result.now) is d g.N.Exact.bound (passed_at value p)) c.in_err-by_bus.ensures.cause)
+    (λ p. injection_pair m (map value c.deref.result.now) is d g.N.Exact.bound (passed_at value p)) c.in_err-by_bus.ensures.stops)
 
-pub returns-in_err-carried-clause-cause : goal.returns-in_err-carried-clause-cause
-returns-in_err-carried-clause-cause g c =
+pub returns-in_err-carried-clause-stops : goal.returns-in_err-carried-clause-stops
+returns-in_err-carried-clause-stops g c =
     let m = c.args.market.now in
     let value = g.N.Exact.value in
     let is = nothing_is value m c.deref.result.now c.in_ok-nothing.nothing.items _ c.deref.ensures.value c.in_ok-nothing.ensures.zeros (c.len.ensures ∙ ap length c.blocks-2.ensures.list) in
@@ -30,19 +30,19 @@ returns-in_err-carried-clause-cause g c =
     let given : c.from_residual-in_err-carried.result ≡ Err c.in_err-carried.field-0.0 = search rules in
     λ d energy are priced rooms. rw given
     (on_passed_weaker c.in_err-carried.field-0.0 _ _
-    (λ p. carried_pair_of m (map value c.deref-2.result.now) is-2 d g.N.Exact.bound (passed_at value p)) (c.in_err-carried.ensures.cause own))
+    (λ p. carried_pair_of m (map value c.deref-2.result.now) is-2 d g.N.Exact.bound (passed_at value p)) (c.in_err-carried.ensures.stops own))
 
-pub returns-in_err-all-clause-cause : goal.returns-in_err-all-clause-cause
-returns-in_err-all-clause-cause g c =
+pub returns-in_err-all-clause-stops : goal.returns-in_err-all-clause-stops
+returns-in_err-all-clause-stops g c =
     let m = c.args.market.now in
     let value = g.N.Exact.value in
     let is = nothing_is value m c.deref.result.now c.in_ok-nothing.nothing.items _ c.deref.ensures.value c.in_ok-nothing.ensures.zeros (c.len.ensures ∙ ap length c.blocks-2.ensures.list) in
     let all = nothing_put m (map value c.deref.result.now) is (map value c.deref-4.result.now) (ap (map value) c.deref-4.ensures.value ∙ c.in_ok-by_bus.ensures.injections) in
     let given : c.from_residual-in_err-all.result ≡ Err (why.Passed c.in_err-all.field-0.0) = search rules in
-    λ d energy are priced rooms. rw given (balance_pair m d g.N.Exact.bound (passed_at value c.in_err-all.field-0.0) (c.in_err-all.ensures.cause (empty m) all))
+    λ d energy are priced rooms. rw given (balance_pair m d g.N.Exact.bound (passed_at value c.in_err-all.field-0.0) (c.in_err-all.ensures.stops (empty m) all))
 
-pub returns-in_err-of_energy-clause-cause : goal.returns-in_err-of_energy-clause-cause
-returns-in_err-of_energy-clause-cause g c =
+pub returns-in_err-of_energy-clause-stops : goal.returns-in_err-of_energy-clause-stops
+returns-in_err-of_energy-clause-stops g c =
     let m = c.args.market.now in
     let value = g.N.Exact.value in
     let is = nothing_is value m c.deref.result.now c.in_ok-nothing.nothing.items _ c.deref.ensures.value c.in_ok-nothing.ensures.zeros (c.len.ensures ∙ ap length c.blocks-2.ensures.list) in
@@ -53,8 +53,8 @@ returns-in_err-of_energy-clause-cause g c =
     (refusal value g.N.Exact.bound Times c.args.energy c.in_ok-all.all d.energy _ c.in_err-of_energy.field-0.0 energy refl
     (product_too_large value g.N.Exact.bound c.args.energy c.in_ok-all.all c.in_err-of_energy.field-0.0 c.in_err-of_energy.ensures)))
 
-pub returns-in_err-of_limits-clause-cause : goal.returns-in_err-of_limits-clause-cause
-returns-in_err-of_limits-clause-cause g c =
+pub returns-in_err-of_limits-clause-stops : goal.returns-in_err-of_limits-clause-stops
+returns-in_err-of_limits-clause-stops g c =
     let m = c.args.market.now in
     let value = g.N.Exact.value in
     let is = nothing_is value m c.deref.result.now c.in_ok-nothing.nothing.items _ c.deref.ensures.value c.in_ok-nothing.ensures.zeros (c.len.ensures ∙ ap length c.blocks-2.ensures.list) in
@@ -64,10 +64,10 @@ returns-in_err-of_limits-clause-cause g c =
     let all = nothing_put m (map value c.deref.result.now) is (map value c.deref-4.result.now) (ap (map value) c.deref-4.ensures.value ∙ c.in_ok-by_bus.ensures.injections) in
     let flows = nothing_carried m (map value c.deref-2.result.now) is-2 (map value c.deref-5.result.now) (ap (map value) c.deref-5.ensures.value ∙ c.in_ok-carried.ensures.carried own) in
     let given : c.from_residual-in_err-of_limits.result ≡ Err (why.Passed c.in_err-of_limits.field-0.0) = search rules in
-    λ d energy are priced rooms. rw given (c.in_err-of_limits.ensures.cause d are flows (c.in_ok-of_energy.ensures.exact ∙ ap₂ ◌*ℚ◌ energy (c.in_ok-all.ensures.sum (empty m) all)))
+    λ d energy are priced rooms. rw given (c.in_err-of_limits.ensures.stops d are flows (c.in_ok-of_energy.ensures.exact ∙ ap₂ ◌*ℚ◌ energy (c.in_ok-all.ensures.sum (empty m) all)))
 
-pub returns-in_err-with_reserve-clause-cause : goal.returns-in_err-with_reserve-clause-cause
-returns-in_err-with_reserve-clause-cause g c =
+pub returns-in_err-with_reserve-clause-stops : goal.returns-in_err-with_reserve-clause-stops
+returns-in_err-with_reserve-clause-stops g c =
     let m = c.args.market.now in
     let value = g.N.Exact.value in
     let is = nothing_is value m c.deref.result.now c.in_ok-nothing.nothing.items _ c.deref.ensures.value c.in_ok-nothing.ensures.zeros (c.len.ensures ∙ ap length c.blocks-2.ensures.list) in
@@ -78,7 +78,7 @@ returns-in_err-with_reserve-clause-cause g c =
     let flows = nothing_carried m (map value c.deref-2.result.now) is-2 (map value c.deref-5.result.now) (ap (map value) c.deref-5.ensures.value ∙ c.in_ok-carried.ensures.carried own) in
     let given : c.from_residual-in_err-with_reserve.result ≡ Err (why.Passed c.in_err-with_reserve.field-0.0) = search rules in
     λ d energy are priced rooms. rw given
-    (c.in_err-with_reserve.ensures.cause d energy are priced rooms
+    (c.in_err-with_reserve.ensures.stops d energy are priced rooms
     (c.in_ok-of_limits.ensures.sum d are flows (c.in_ok-of_energy.ensures.exact ∙ ap₂ ◌*ℚ◌ energy (c.in_ok-all.ensures.sum (empty m) all))))
 
 pub returns-clause-bound : goal.returns-clause-bound

@@ -31,10 +31,10 @@ block_quantity-requires g c =
     subst (λ (bs : List Block). pos 0 ≤ℤ (slice_index_or bs k (record { unit = 0; side = Sell; quantity = pos 0; price = pos 0 })).quantity) (sym blocks)
     (c.units-units.ensures.market.blocks k none (omega (arith, c.loop-at-test.true, ap length blocks))).quantity
 
-pub returns-in_err-worth-clause-cause : goal.returns-in_err-worth-clause-cause
-returns-in_err-worth-clause-cause g c =
+pub returns-in_err-worth-clause-stops : goal.returns-in_err-worth-clause-stops
+returns-in_err-worth-clause-stops g c =
     let given : c.from_residual.result ≡ Err c.in_err-worth.field-0.0 = search rules in
-    λ d energy are rooms start. rw given (in_worth (c.in_err-worth.ensures.cause d energy are rooms))
+    λ d energy are rooms start. rw given (in_worth (c.in_err-worth.ensures.stops d energy are rooms))
 
 pub loop-at-preserved : goal.loop-at-preserved
 loop-at-preserved g c = λ d energy are rooms start.
@@ -47,8 +47,8 @@ loop-at-preserved g c = λ d energy are rooms start.
     (c.by_side.ensures ∙ ap (λ (b : Block). signed_by_side b.side (value c.in_ok-worth.worth)) block ∙ ap (signed_by_side (block_at m k).side) (c.in_ok-worth.ensures.worth d energy are rooms ∙ ap (λ (b : Block). energy_worth m d b.unit) block))
     (c.block_quantity.ensures ∙ ap (λ (b : Block). whole b.quantity) block) (c.loop-at.invariant d energy are rooms start) c.in_ok-sum.ensures.sum
 
-pub returns-in_err-sum-clause-cause : goal.returns-in_err-sum-clause-cause
-returns-in_err-sum-clause-cause g c =
+pub returns-in_err-sum-clause-stops : goal.returns-in_err-sum-clause-stops
+returns-in_err-sum-clause-stops g c =
     let m = c.args.market.now in
     let k = c.loop-at.at in
     let value = g.N.Exact.value in
@@ -59,7 +59,7 @@ returns-in_err-sum-clause-cause g c =
     λ d energy are rooms start. rw given
     (block_refused m d k (value c.by_side.result) _ (value c.loop-at.sum) g.N.Exact.bound (passed_at value c.in_err-sum.field-0.0) below
     (c.by_side.ensures ∙ ap (λ (b : Block). signed_by_side b.side (value c.in_ok-worth.worth)) block ∙ ap (signed_by_side (block_at m k).side) (c.in_ok-worth.ensures.worth d energy are rooms ∙ ap (λ (b : Block). energy_worth m d b.unit) block))
-    (c.block_quantity.ensures ∙ ap (λ (b : Block). whole b.quantity) block) (c.loop-at.invariant d energy are rooms start) c.in_err-sum.ensures.cause)
+    (c.block_quantity.ensures ∙ ap (λ (b : Block). whole b.quantity) block) (c.loop-at.invariant d energy are rooms start) c.in_err-sum.ensures.stops)
 
 pub returns-clause-sum : goal.returns-clause-sum
 returns-clause-sum g c =

@@ -37,11 +37,11 @@ returns-clause-sum g c = λ d are flows start.
     c.loop-entry.invariant d are flows start
     ∙ limits_all c.args.market.now d c.loop-entry.entry-index (omega (arith, c.loop-entry-test.false, named_count g.N.Exact.value c.args.market.now d c.args.named.now are))
 
-pub returns-in_err-sum-clause-cause : goal.returns-in_err-sum-clause-cause
-returns-in_err-sum-clause-cause g c =
+pub returns-in_err-sum-clause-stops : goal.returns-in_err-sum-clause-stops
+returns-in_err-sum-clause-stops g c =
     let m = c.args.market.now in
     let k = c.loop-entry.entry-index in
     let given : c.from_residual.result ≡ Err c.in_err-sum.field-0.0 = search rules in
     λ d are flows start. rw given
     (limit_refused m d k (priced_at g.N.Exact.value c.entry-item.result) (named_at g.N.Exact.value m d c.args.named.now are k c.entry-item.result c.loop-entry-test.true c.entry-item.is)
-    (g.N.Exact.value c.loop-entry.sum) g.N.Exact.bound (passed_at g.N.Exact.value c.in_err-sum.field-0.0) (c.loop-entry.invariant d are flows start) (c.in_err-sum.ensures.cause (empty m) flows))
+    (g.N.Exact.value c.loop-entry.sum) g.N.Exact.bound (passed_at g.N.Exact.value c.in_err-sum.field-0.0) (c.loop-entry.invariant d are flows start) (c.in_err-sum.ensures.stops (empty m) flows))

@@ -4,5 +4,5 @@ use Rattle.cert_sums.proofs.bounding.with_most.Goals as goal
 pub returns-in-Below : goal.returns-in-Below
 returns-in-Below g c = record {
   sum = none_above (g.N.Exact.value c.args.sum) (g.N.Exact.value c.args.weight) (g.N.Exact.value c.args.quantity) c.sign.result c.sign.ensures c.in-Below.is;
-  cause = tt;
+  stops = tt;
 }

@@ -16,8 +16,8 @@ returns-then-reserve-clause-sum g c = λ d price start.
     MatchResult-weaker c.plus_product.result c.plus_product.ensures
     (λ r is. need_made m d listed (value c.args.of_limits) (value r) start (is.exact ∙ ap₂ (λ s t. value c.args.of_limits +ℚ s *ℚ t) price need)) (λ _ _. tt)
 
-pub returns-then-reserve-clause-cause : goal.returns-then-reserve-clause-cause
-returns-then-reserve-clause-cause g c = λ d price start.
+pub returns-then-reserve-clause-stops : goal.returns-then-reserve-clause-stops
+returns-then-reserve-clause-stops g c = λ d price start.
     let m = c.args.market.now in
     let value = g.N.Exact.value in
     let listed : m.reserve.listed ≡ true = ap (λ (r : Reserve). r.listed) (sym c.reserve.ensures.reserve) ∙ c.if-reserve.true in

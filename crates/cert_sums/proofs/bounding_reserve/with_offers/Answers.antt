@@ -27,8 +27,8 @@ loop-offer-preserved g c = λ d price are start.
     (c.in_ok-worth.ensures.worth m d inside price are ∙ ap (λ (o : ReserveOffer). reserve_worth m d o.unit) offer)
     (c.offer_quantity.ensures ∙ ap (λ (o : ReserveOffer). whole o.quantity) offer) (c.loop-offer.invariant d price are start) c.in_ok-sum.ensures.sum
 
-pub returns-in_err-worth-clause-cause : goal.returns-in_err-worth-clause-cause
-returns-in_err-worth-clause-cause g c =
+pub returns-in_err-worth-clause-stops : goal.returns-in_err-worth-clause-stops
+returns-in_err-worth-clause-stops g c =
     let given : c.from_residual.result ≡ Err c.in_err-worth.field-0.0 = search rules in
     λ d price are start. rw given (
     let m = c.args.market.now in
@@ -38,10 +38,10 @@ returns-in_err-worth-clause-cause g c =
     let below : k < length m.reserve.offers = omega (arith, c.loop-offer-test.true, ap length offers) in
     let offer = ap (λ (os : List ReserveOffer). slice_index_or os k (record { unit = 0; quantity = pos 0; price = pos 0 })) offers in
     let inside = subst (λ (o : ReserveOffer). o.unit < length m.units) (sym offer) (offer_unit-in m c.units-units.ensures.market k below) in
-    in_worth (inr (c.in_err-worth.ensures.cause m d inside price are)))
+    in_worth (inr (c.in_err-worth.ensures.stops m d inside price are)))
 
-pub returns-in_err-sum-clause-cause : goal.returns-in_err-sum-clause-cause
-returns-in_err-sum-clause-cause g c =
+pub returns-in_err-sum-clause-stops : goal.returns-in_err-sum-clause-stops
+returns-in_err-sum-clause-stops g c =
     let given : c.from_residual-in_err-sum.result ≡ Err c.in_err-sum.field-0.0 = search rules in
     λ d price are start. rw given (
     let m = c.args.market.now in
@@ -54,7 +54,7 @@ returns-in_err-sum-clause-cause g c =
     bound_pair_of m d g.N.Exact.bound (passed_at value c.in_err-sum.field-0.0)
     (offer_refused m d k (value c.in_ok-worth.worth) (value c.offer_quantity.result) (value c.loop-offer.sum) g.N.Exact.bound (passed_at value c.in_err-sum.field-0.0) below
     (c.in_ok-worth.ensures.worth m d inside price are ∙ ap (λ (o : ReserveOffer). reserve_worth m d o.unit) offer)
-    (c.offer_quantity.ensures ∙ ap (λ (o : ReserveOffer). whole o.quantity) offer) (c.loop-offer.invariant d price are start) c.in_err-sum.ensures.cause))
+    (c.offer_quantity.ensures ∙ ap (λ (o : ReserveOffer). whole o.quantity) offer) (c.loop-offer.invariant d price are start) c.in_err-sum.ensures.stops))
 
 pub returns-clause-bound : goal.returns-clause-bound
 returns-clause-bound g c = λ d price are start.

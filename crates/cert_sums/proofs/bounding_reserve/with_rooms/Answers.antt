@@ -28,8 +28,8 @@ returns-clause-sum g c = λ d are start.
     c.loop-entry.invariant d are start
     ∙ rooms_all c.args.market.now d c.loop-entry.entry-index (omega (arith, c.loop-entry-test.false, room_count g.N.Exact.value c.args.market.now d c.args.rooms.now are))
 
-pub returns-in_err-sum-clause-cause : goal.returns-in_err-sum-clause-cause
-returns-in_err-sum-clause-cause g c =
+pub returns-in_err-sum-clause-stops : goal.returns-in_err-sum-clause-stops
+returns-in_err-sum-clause-stops g c =
     let m = c.args.market.now in
     let value = g.N.Exact.value in
     let k = c.loop-entry.entry-index in

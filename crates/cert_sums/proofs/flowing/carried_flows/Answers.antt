@@ -12,7 +12,7 @@ returns-clause-carried g c = λ puts.
     let count : length c.put_carried.new.out ≡ c.in_ok-carried.carried.len = omega (arith, c.in_ok-carried.ensures.count, c.in_ok-put_carried.ensures.count, c.deref_mut.ensures.len) in
     subst (λ (ys : List g.row.N.Denot). AreCarried m x (map value ys)) (sym (take_at c.put_carried.new.out _ c.in_ok-carried.carried.len count)) (c.in_ok-put_carried.ensures.carried puts)
 
-pub returns-in_err-put_carried-clause-cause : goal.returns-in_err-put_carried-clause-cause
-returns-in_err-put_carried-clause-cause g c = λ puts.
+pub returns-in_err-put_carried-clause-stops : goal.returns-in_err-put_carried-clause-stops
+returns-in_err-put_carried-clause-stops g c = λ puts.
     let given : c.from_residual-in_err-put_carried.result ≡ Err (why.Passed c.in_err-put_carried.field-0.0) = search rules in
-    rw given (c.in_err-put_carried.ensures.cause puts)
+    rw given (c.in_err-put_carried.ensures.stops puts)

@@ -18,14 +18,14 @@ returns-clause-carried g c = λ puts.
     ∙ ap₂ ◌++◌ (lines_put m x (map value c.args.injections.now) puts (map value c.put_line_flows.new.out) c.in_ok-put_line_flows.ensures.flows) e)
     c.put_lost_outputs.ensures.outputs
 
-pub returns-in_err-put_line_flows-clause-cause : goal.returns-in_err-put_line_flows-clause-cause
-returns-in_err-put_line_flows-clause-cause g c = λ puts.
+pub returns-in_err-put_line_flows-clause-stops : goal.returns-in_err-put_line_flows-clause-stops
+returns-in_err-put_line_flows-clause-stops g c = λ puts.
     let m = c.args.market.now in
     let value = g.N.Exact.value in
     let x = dispatch_of value c.args.dispatch.now in
     let given : c.from_residual.result ≡ Err c.in_err-put_line_flows.field-0.0 = search rules in
-    let why = line_refusal m x (map value c.args.injections.now) puts g.N.Exact.bound (passed_at value c.in_err-put_line_flows.field-0.0) c.in_err-put_line_flows.ensures.cause in
+    let why = line_refusal m x (map value c.args.injections.now) puts g.N.Exact.bound (passed_at value c.in_err-put_line_flows.field-0.0) c.in_err-put_line_flows.ensures.stops in
     rw given (why.0, carried_on_line why.0 why.1, why.2)
 
-pub returns-clause-cause : goal.returns-clause-cause
-returns-clause-cause g c = λ puts. IfErr-weaker c.put_lost_outputs.result _ _ (λ p why. (why.0, carried_by_unit why.0 why.1, why.2)) c.put_lost_outputs.ensures.cause
+pub returns-clause-stops : goal.returns-clause-stops
+returns-clause-stops g c = λ puts. IfErr-weaker c.put_lost_outputs.result _ _ (λ p why. (why.0, carried_by_unit why.0 why.1, why.2)) c.put_lost_outputs.ensures.stops

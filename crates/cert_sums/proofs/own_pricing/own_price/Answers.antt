@@ -50,21 +50,21 @@ returns-clause-price g c = λ d price are start.
     c.loop-entry.invariant d price are start
     ∙ own_all c.args.market.now d price c.args.unit c.loop-entry.entry-index (omega (arith, c.loop-entry-test.false, named_count g.N.Exact.value c.args.market.now d c.args.named.now are))
 
-pub returns-in_err-factor-clause-cause : goal.returns-in_err-factor-clause-cause
-returns-in_err-factor-clause-cause g c = λ d price are start.
+pub returns-in_err-factor-clause-stops : goal.returns-in_err-factor-clause-stops
+returns-in_err-factor-clause-stops g c = λ d price are start.
     let m = c.args.market.now in
     let k = c.loop-entry.entry-index in
     let h = named_at g.N.Exact.value m d c.args.named.now are k c.entry-item.result c.loop-entry-test.true c.entry-item.is in
     let given : c.from_residual.result ≡ Err c.in_err-factor.field-0.0 = search rules in
     rw given
-    (pickup_stops m d price c.args.unit k (priced_at g.N.Exact.value c.entry-item.result) h g.N.Exact.bound (passed_at g.N.Exact.value c.in_err-factor.field-0.0) c.in_err-factor.ensures.cause)
+    (pickup_stops m d price c.args.unit k (priced_at g.N.Exact.value c.entry-item.result) h g.N.Exact.bound (passed_at g.N.Exact.value c.in_err-factor.field-0.0) c.in_err-factor.ensures.stops)
 
-pub returns-in_err-sum-clause-cause : goal.returns-in_err-sum-clause-cause
-returns-in_err-sum-clause-cause g c = λ d price are start.
+pub returns-in_err-sum-clause-stops : goal.returns-in_err-sum-clause-stops
+returns-in_err-sum-clause-stops g c = λ d price are start.
     let m = c.args.market.now in
     let k = c.loop-entry.entry-index in
     let h = named_at g.N.Exact.value m d c.args.named.now are k c.entry-item.result c.loop-entry-test.true c.entry-item.is in
     let given : c.from_residual-in_err-sum.result ≡ Err c.in_err-sum.field-0.0 = search rules in
     rw given
     (own_refused m d price c.args.unit k (priced_at g.N.Exact.value c.entry-item.result) h (sym c.loses_unit.ensures ∙ c.if-loses_unit.true) g.N.Exact.bound (passed_at g.N.Exact.value c.in_err-sum.field-0.0)
-    _ (g.N.Exact.value c.loop-entry.sum) c.requires.unit c.in_ok-factor.ensures.factor (c.loop-entry.invariant d price are start) c.in_err-sum.ensures.cause)
+    _ (g.N.Exact.value c.loop-entry.sum) c.requires.unit c.in_ok-factor.ensures.factor (c.loop-entry.invariant d price are start) c.in_err-sum.ensures.stops)

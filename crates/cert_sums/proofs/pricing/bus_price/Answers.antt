@@ -13,13 +13,13 @@ pub returns-clause-price : goal.returns-clause-price
 unfolding price_by
 returns-clause-price g c = λ d energy are. MatchResult-weaker c.exact_sum.result c.exact_sum.ensures (λ r is. is.exact ∙ ap₂ ◌+ℚ◌ energy (c.in_ok-congestion.ensures.sum d are)) (λ _ _. tt)
 
-pub returns-in_err-congestion-clause-cause : goal.returns-in_err-congestion-clause-cause
-returns-in_err-congestion-clause-cause g c =
+pub returns-in_err-congestion-clause-stops : goal.returns-in_err-congestion-clause-stops
+returns-in_err-congestion-clause-stops g c =
     let given : c.from_residual.result ≡ Err c.in_err-congestion.field-0.0 = search rules in
-    λ d energy are. rw given (in_congestion c.args.market.now d c.args.bus g.N.Exact.bound (passed_at g.N.Exact.value c.in_err-congestion.field-0.0) (c.in_err-congestion.ensures.cause d are))
+    λ d energy are. rw given (in_congestion c.args.market.now d c.args.bus g.N.Exact.bound (passed_at g.N.Exact.value c.in_err-congestion.field-0.0) (c.in_err-congestion.ensures.stops d are))
 
-pub returns-clause-cause : goal.returns-clause-cause
-returns-clause-cause g c = λ d energy are.
+pub returns-clause-stops : goal.returns-clause-stops
+returns-clause-stops g c = λ d energy are.
     MatchResult-weaker c.exact_sum.result c.exact_sum.ensures (λ _ _. tt)
     (λ p is. inl (
       _,

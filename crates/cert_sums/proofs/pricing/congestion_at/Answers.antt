@@ -34,21 +34,21 @@ returns-clause-sum g c = λ d are.
     c.loop-entry.invariant d are
     ∙ congestion_all c.args.market.now d c.args.bus c.loop-entry.entry-index (omega (arith, c.loop-entry-test.false, named_count g.N.Exact.value c.args.market.now d c.args.named.now are))
 
-pub returns-in_err-sum-clause-cause : goal.returns-in_err-sum-clause-cause
-returns-in_err-sum-clause-cause g c =
+pub returns-in_err-sum-clause-stops : goal.returns-in_err-sum-clause-stops
+returns-in_err-sum-clause-stops g c =
     let m = c.args.market.now in
     let k = c.loop-entry.entry-index in
     let given : c.from_residual-in_err-sum.result ≡ Err c.in_err-sum.field-0.0 = search rules in
     λ d are. rw given
     (congestion_refused m d c.args.bus k (priced_at g.N.Exact.value c.entry-item.result) (named_at g.N.Exact.value m d c.args.named.now are k c.entry-item.result c.loop-entry-test.true c.entry-item.is)
     _ (g.N.Exact.value c.loop-entry.sum) g.N.Exact.bound (passed_at g.N.Exact.value c.in_err-sum.field-0.0)
-    c.in_ok-factor.ensures.factor (c.loop-entry.invariant d are) c.in_err-sum.ensures.cause)
+    c.in_ok-factor.ensures.factor (c.loop-entry.invariant d are) c.in_err-sum.ensures.stops)
 
-pub returns-in_err-factor-clause-cause : goal.returns-in_err-factor-clause-cause
-returns-in_err-factor-clause-cause g c =
+pub returns-in_err-factor-clause-stops : goal.returns-in_err-factor-clause-stops
+returns-in_err-factor-clause-stops g c =
     let m = c.args.market.now in
     let k = c.loop-entry.entry-index in
     let given : c.from_residual.result ≡ Err c.in_err-factor.field-0.0 = search rules in
     λ d are. rw given
     (factor_stops m d c.args.bus k (priced_at g.N.Exact.value c.entry-item.result) (named_at g.N.Exact.value m d c.args.named.now are k c.entry-item.result c.loop-entry-test.true c.entry-item.is)
-    g.N.Exact.bound (passed_at g.N.Exact.value c.in_err-factor.field-0.0) c.requires.bus c.in_err-factor.ensures.cause)
+    g.N.Exact.bound (passed_at g.N.Exact.value c.in_err-factor.field-0.0) c.requires.bus c.in_err-factor.ensures.stops)

@@ -14,13 +14,13 @@ bus_price-requires-clause-bus g c =
     let read = unit_read m c.units.result.now c.args.unit c.args.unit c.at.result.now c.units.ensures.list refl c.at.ensures in
     subst (λ (v : unit.Unit). v.bus < length m.buses) (sym read) (unit_bus-in m c.units.ensures.market c.args.unit c.requires.unit)
 
-pub returns-in_err-at_bus-clause-cause : goal.returns-in_err-at_bus-clause-cause
-returns-in_err-at_bus-clause-cause g c = λ d energy are.
+pub returns-in_err-at_bus-clause-stops : goal.returns-in_err-at_bus-clause-stops
+returns-in_err-at_bus-clause-stops g c = λ d energy are.
     let m = c.args.market.now in
     let read = unit_read m c.units.result.now c.args.unit c.args.unit c.at.result.now c.units.ensures.list refl c.at.ensures in
     let inside : c.at.result.now.bus < length m.buses = subst (λ (v : unit.Unit). v.bus < length m.buses) (sym read) (unit_bus-in m c.units.ensures.market c.args.unit c.requires.unit) in
     let given : c.from_residual.result ≡ Err c.in_err-at_bus.field-0.0 = search rules in
-    rw given (bus_in_unit m d c.at.result.now.bus g.N.Exact.bound (passed_at g.N.Exact.value c.in_err-at_bus.field-0.0) inside (c.in_err-at_bus.ensures.cause d energy are))
+    rw given (bus_in_unit m d c.at.result.now.bus g.N.Exact.bound (passed_at g.N.Exact.value c.in_err-at_bus.field-0.0) inside (c.in_err-at_bus.ensures.stops d energy are))
 
 pub returns-clause-price : goal.returns-clause-price
 unfolding unit_price
@@ -29,9 +29,9 @@ returns-clause-price g c = λ d energy are.
     let read = unit_read m c.units.result.now c.args.unit c.args.unit c.at.result.now c.units.ensures.list refl c.at.ensures in
     c.own_price.ensures.price d (bus_price m d) are (c.in_ok-at_bus.ensures.price d energy are ∙ ap (λ (v : unit.Unit). bus_price m d v.bus) read)
 
-pub returns-clause-cause : goal.returns-clause-cause
-returns-clause-cause g c = λ d energy are.
+pub returns-clause-stops : goal.returns-clause-stops
+returns-clause-stops g c = λ d energy are.
     let m = c.args.market.now in
     let read = unit_read m c.units.result.now c.args.unit c.args.unit c.at.result.now c.units.ensures.list refl c.at.ensures in
     IfErr-weaker c.own_price.result _ _ (λ p h. own_in_unit m d g.N.Exact.bound (passed_at g.N.Exact.value p) h)
-    (c.own_price.ensures.cause d (bus_price m d) are (c.in_ok-at_bus.ensures.price d energy are ∙ ap (λ (v : unit.Unit). bus_price m d v.bus) read))
+    (c.own_price.ensures.stops d (bus_price m d) are (c.in_ok-at_bus.ensures.price d energy are ∙ ap (λ (v : unit.Unit). bus_price m d v.bus) read))

@@ -13,8 +13,8 @@ returns-in-Some-clause-less g c = λ m d lt are.
     let named = room_named value m d c.args.rooms.now c.args.unit c.room_price_in.result c.room_price_in.ensures lt are c.in-Some.room c.in-Some.is in
     MatchResult-weaker c.exact_difference.result c.exact_difference.ensures (λ r is. is.exact ∙ ap (λ t. value c.args.price -ℚ t) named.1) (λ _ _. tt)
 
-pub returns-in-Some-clause-cause : goal.returns-in-Some-clause-cause
-returns-in-Some-clause-cause g c = λ m d lt are.
+pub returns-in-Some-clause-stops : goal.returns-in-Some-clause-stops
+returns-in-Some-clause-stops g c = λ m d lt are.
     let value = g.N.Exact.value in
     let named = room_named value m d c.args.rooms.now c.args.unit c.room_price_in.result c.room_price_in.ensures lt are c.in-Some.room c.in-Some.is in
     MatchResult-weaker c.exact_difference.result c.exact_difference.ensures (λ _ _. tt)

@@ -22,8 +22,8 @@ returns-clause-first g c =
     let all = first_join (dual_reasons m d) (bound_reason m d ∷ []) ∙ ap (λ o. option_or o (first_of (bound_reason m d ∷ []))) (sym (c.wrong_dual.ensures (value c.args.energy)) ∙ c.in_default.is) ∙ or_none (bound_reason m d) in
     IfOk-weaker c.wrong_bound.result _ _ (λ o e. e ∙ sym all) c.wrong_bound.ensures.first
 
-pub returns-clause-cause : goal.returns-clause-cause
-returns-clause-cause g c =
+pub returns-clause-stops : goal.returns-clause-stops
+returns-clause-stops g c =
     IfErr-weaker c.wrong_bound.result _ _
     (λ stop h. on_passed_weaker stop _ _ (λ p pair. record { refused = pair; before = sym (c.wrong_dual.ensures (g.N.Exact.value c.args.energy)) ∙ c.in_default.is }) h)
-    c.wrong_bound.ensures.cause
+    c.wrong_bound.ensures.stops

@@ -11,10 +11,10 @@ use Rattle.cert_verify.proofs.RowLemmas.{counts}
 use Rattle.cert_verify.proofs.TestLemmas.{first_join, none_join}
 use Rattle.cert_verify.proofs.against.against_optimal.Goals as goal
 
-pub returns-in_err-reason-clause-cause : goal.returns-in_err-reason-clause-cause
-returns-in_err-reason-clause-cause g c =
+pub returns-in_err-reason-clause-stops : goal.returns-in_err-reason-clause-stops
+returns-in_err-reason-clause-stops g c =
     let given : c.from_residual.result ≡ Err c.in_err-reason.field-0.0 = search rules in
-    rw given (c.in_err-reason.ensures.cause (g.N.Exact.value c.args.energy) (sym (c.wrong_part.ensures (g.N.Exact.value c.args.energy)) ∙ c.in_default.is))
+    rw given (c.in_err-reason.ensures.stops (g.N.Exact.value c.args.energy) (sym (c.wrong_part.ensures (g.N.Exact.value c.args.energy)) ∙ c.in_default.is))
 
 pub wrong_flow-requires-clause-blocks : goal.wrong_flow-requires-clause-blocks
 wrong_flow-requires-clause-blocks g c =
@@ -97,8 +97,8 @@ returns-clause-first g c =
     ∙ first_join (flow_reasons m x d) support ∙ ap (λ o. option_or o (first_of support)) (flows ∙ c.in_default-2.is) in
     IfOk-weaker c.wrong_support.result _ _ (λ o e. e ∙ sym all) c.wrong_support.ensures.first
 
-pub returns-clause-cause : goal.returns-clause-cause
-returns-clause-cause g c =
+pub returns-clause-stops : goal.returns-clause-stops
+returns-clause-stops g c =
     let value = g.N.Exact.value in
     let m = c.args.market.now in
     let energy = value c.args.energy in
@@ -108,4 +108,4 @@ returns-clause-cause g c =
     let flows = sym (c.in_ok-reason.ensures.first energy) in
     IfErr-weaker c.wrong_support.result _ _
     (λ stop h. on_passed_weaker stop _ _ (λ p pair. at_support pair (none_join (part_reasons m x d) (flow_reasons m x d) (told ∙ c.in_default.is) (flows ∙ c.in_default-2.is))) h)
-    c.wrong_support.ensures.cause
+    c.wrong_support.ensures.stops

@@ -4,10 +4,10 @@ use Rattle.market_model.specs.declared.stops.Stop.TheVariants as why
 use Rattle.cert_verify.proofs.NamingLemmas.{price_more, pushed}
 use Rattle.cert_verify.proofs.against.energy_worths.Goals as goal
 
-pub returns-in_err-worth-clause-cause : goal.returns-in_err-worth-clause-cause
-returns-in_err-worth-clause-cause g c =
+pub returns-in_err-worth-clause-stops : goal.returns-in_err-worth-clause-stops
+returns-in_err-worth-clause-stops g c =
     let given : c.from_residual.result ≡ Err (why.Passed c.in_err-worth.field-0.0) = search rules in
-    λ d price rows rooms. rw given (c.in_err-worth.ensures.cause d price rows rooms)
+    λ d price rows rooms. rw given (c.in_err-worth.ensures.stops d price rows rooms)
 
 pub loop-unit-preserved : goal.loop-unit-preserved
 loop-unit-preserved g c = λ d price rows rooms.

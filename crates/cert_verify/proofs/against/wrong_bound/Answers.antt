@@ -26,15 +26,15 @@ farkas_bound-requires-clause-rooms g c =
     let rooms = subst (λ (xs : List (NamedRoom g.row.N.Denot)). AreNamedRooms value m d xs) (sym c.slice-2.ensures) (c.in_ok-rows.ensures.rooms (value c.args.energy) (value c.args.price)) in
     (d, rooms)
 
-pub returns-in_err-bound-clause-cause : goal.returns-in_err-bound-clause-cause
-returns-in_err-bound-clause-cause g c =
+pub returns-in_err-bound-clause-stops : goal.returns-in_err-bound-clause-stops
+returns-in_err-bound-clause-stops g c =
     let m = c.args.market.now in
     let value = g.N.Exact.value in
     let d = duals_with (value c.args.energy) (map (dual_at value) c.args.limits.now) (value c.args.price) (map (room_dual_at value) c.args.rooms.now) in
     let rows = subst (λ (xs : List (NamedRow g.row.N.Denot)). AreNamed value m d xs) (sym c.slice.ensures) (c.in_ok-rows.ensures.rows (value c.args.energy) (value c.args.price)) in
     let rooms = subst (λ (xs : List (NamedRoom g.row.N.Denot)). AreNamedRooms value m d xs) (sym c.slice-2.ensures) (c.in_ok-rows.ensures.rooms (value c.args.energy) (value c.args.price)) in
     let given : c.from_residual-in_err-bound.result ≡ Err c.in_err-bound.field-0.0 = search rules in
-    rw given (c.in_err-bound.ensures.cause d refl rows refl rooms)
+    rw given (c.in_err-bound.ensures.stops d refl rows refl rooms)
 
 pub returns-clause-first : goal.returns-clause-first
 returns-clause-first g c =

@@ -117,18 +117,18 @@ returns-clause-first g c = λ energy.
     let rest = need_slack_reason m x d.reserve ∷ room_slack_reason m x d.rooms ∷ [] in
     c.in_ok-wrong_slack.ensures.first sum ∙ sym (first_after (sum_reasons m x ++ limit_reasons m x) (slack_reasons m x d) before ∙ first_after prices rest priced)
 
-pub returns-in_err-by_bus-clause-cause : goal.returns-in_err-by_bus-clause-cause
-returns-in_err-by_bus-clause-cause g c = λ energy none.
+pub returns-in_err-by_bus-clause-stops : goal.returns-in_err-by_bus-clause-stops
+returns-in_err-by_bus-clause-stops g c = λ energy none.
     let m = c.args.market.now in
     let value = g.N.Exact.value in
     let xs = map value c.args.blocks.now in
     let rs = map value c.args.quantities.now in
     let x = dispatch_with xs rs in
     let given : c.from_residual.result ≡ Err c.in_err-by_bus.field-0.0 = search rules in
-    rw given (on_passed_weaker c.in_err-by_bus.field-0.0 _ _ (λ p h. at_balance h none) (c.in_err-by_bus.ensures.cause rs))
+    rw given (on_passed_weaker c.in_err-by_bus.field-0.0 _ _ (λ p h. at_balance h none) (c.in_err-by_bus.ensures.stops rs))
 
-pub returns-in_err-reason-clause-cause : goal.returns-in_err-reason-clause-cause
-returns-in_err-reason-clause-cause g c = λ energy none.
+pub returns-in_err-reason-clause-stops : goal.returns-in_err-reason-clause-stops
+returns-in_err-reason-clause-stops g c = λ energy none.
     let m = c.args.market.now in
     let value = g.N.Exact.value in
     let xs = map value c.args.blocks.now in
@@ -136,10 +136,10 @@ returns-in_err-reason-clause-cause g c = λ energy none.
     let x = dispatch_with xs rs in
     let puts = ap (map value) c.deref.ensures.value ∙ c.in_ok-by_bus.ensures.injections rs in
     let given : c.from_residual-in_err-reason.result ≡ Err (why.Passed c.in_err-reason.field-0.0) = search rules in
-    rw given (at_balance (c.in_err-reason.ensures.cause x puts) none)
+    rw given (at_balance (c.in_err-reason.ensures.stops x puts) none)
 
-pub returns-in_err-accepted-clause-cause : goal.returns-in_err-accepted-clause-cause
-returns-in_err-accepted-clause-cause g c = λ energy none.
+pub returns-in_err-accepted-clause-stops : goal.returns-in_err-accepted-clause-stops
+returns-in_err-accepted-clause-stops g c = λ energy none.
     let m = c.args.market.now in
     let value = g.N.Exact.value in
     let xs = map value c.args.blocks.now in
@@ -149,10 +149,10 @@ returns-in_err-accepted-clause-cause g c = λ energy none.
     let puts = ap (map value) c.deref.ensures.value ∙ c.in_ok-by_bus.ensures.injections rs in
     let balanced = sym (c.in_ok-reason.ensures.first x puts) ∙ c.in_default.is in
     let given : c.from_residual-in_err-accepted.result ≡ Err (why.Passed c.in_err-accepted.field-0.0) = search rules in
-    rw given (at_need (_, reserve_of_all, c.in_err-accepted.ensures.cause m xs c.requires.quantities) (before_need m x d none balanced))
+    rw given (at_need (_, reserve_of_all, c.in_err-accepted.ensures.stops m xs c.requires.quantities) (before_need m x d none balanced))
 
-pub returns-in_err-carried-clause-cause : goal.returns-in_err-carried-clause-cause
-returns-in_err-carried-clause-cause g c = λ energy none.
+pub returns-in_err-carried-clause-stops : goal.returns-in_err-carried-clause-stops
+returns-in_err-carried-clause-stops g c = λ energy none.
     let m = c.args.market.now in
     let value = g.N.Exact.value in
     let xs = map value c.args.blocks.now in
@@ -165,10 +165,10 @@ returns-in_err-carried-clause-cause g c = λ energy none.
     let met = sym (c.short_need.ensures x sum) ∙ c.in_default-short_need.is in
     let puts_then = ap (map value) c.deref-2.ensures.value ∙ c.in_ok-by_bus.ensures.injections rs in
     let given : c.from_residual-in_err-carried.result ≡ Err c.in_err-carried.field-0.0 = search rules in
-    rw given (on_passed_weaker c.in_err-carried.field-0.0 _ _ (λ p h. at_limits h (before_limits m x d none balanced met)) (c.in_err-carried.ensures.cause rs puts_then))
+    rw given (on_passed_weaker c.in_err-carried.field-0.0 _ _ (λ p h. at_limits h (before_limits m x d none balanced met)) (c.in_err-carried.ensures.stops rs puts_then))
 
-pub returns-in_err-reason-2-clause-cause : goal.returns-in_err-reason-2-clause-cause
-returns-in_err-reason-2-clause-cause g c = λ energy none.
+pub returns-in_err-reason-2-clause-stops : goal.returns-in_err-reason-2-clause-stops
+returns-in_err-reason-2-clause-stops g c = λ energy none.
     let m = c.args.market.now in
     let value = g.N.Exact.value in
     let xs = map value c.args.blocks.now in
@@ -182,10 +182,10 @@ returns-in_err-reason-2-clause-cause g c = λ energy none.
     let puts_then = ap (map value) c.deref-2.ensures.value ∙ c.in_ok-by_bus.ensures.injections rs in
     let flows = ap (map value) c.deref-3.ensures.value ∙ c.in_ok-carried.ensures.carried rs puts_then in
     let given : c.from_residual-in_err-reason-2.result ≡ Err (why.Passed c.in_err-reason-2.field-0.0) = search rules in
-    rw given (at_limits (c.in_err-reason-2.ensures.cause x flows) (before_limits m x d none balanced met))
+    rw given (at_limits (c.in_err-reason-2.ensures.stops x flows) (before_limits m x d none balanced met))
 
-pub returns-in_err-reason-3-clause-cause : goal.returns-in_err-reason-3-clause-cause
-returns-in_err-reason-3-clause-cause g c = λ energy none.
+pub returns-in_err-reason-3-clause-stops : goal.returns-in_err-reason-3-clause-stops
+returns-in_err-reason-3-clause-stops g c = λ energy none.
     let m = c.args.market.now in
     let value = g.N.Exact.value in
     let xs = map value c.args.blocks.now in
@@ -200,10 +200,10 @@ returns-in_err-reason-3-clause-cause g c = λ energy none.
     let flows = ap (map value) c.deref-3.ensures.value ∙ c.in_ok-carried.ensures.carried rs puts_then in
     let within = sym (c.in_ok-reason-2.ensures.first x flows) ∙ c.in_default-2.is in
     let given : c.from_residual-in_err-reason-3.result ≡ Err (why.Passed c.in_err-reason-3.field-0.0) = search rules in
-    rw given (at_rooms c.in_err-reason-3.ensures.cause (before_rooms m x d none balanced met within))
+    rw given (at_rooms c.in_err-reason-3.ensures.stops (before_rooms m x d none balanced met within))
 
-pub returns-in_err-reason-4-clause-cause : goal.returns-in_err-reason-4-clause-cause
-returns-in_err-reason-4-clause-cause g c = λ energy none.
+pub returns-in_err-reason-4-clause-stops : goal.returns-in_err-reason-4-clause-stops
+returns-in_err-reason-4-clause-stops g c = λ energy none.
     let m = c.args.market.now in
     let value = g.N.Exact.value in
     let xs = map value c.args.blocks.now in
@@ -219,10 +219,10 @@ returns-in_err-reason-4-clause-cause g c = λ energy none.
     let within = sym (c.in_ok-reason-2.ensures.first x flows) ∙ c.in_default-2.is in
     let flows_then = ap (map value) c.deref-4.ensures.value ∙ c.in_ok-carried.ensures.carried rs puts_then in
     let given : c.from_residual-in_err-reason-4.result ≡ Err c.in_err-reason-4.field-0.0 = search rules in
-    rw given (on_passed_weaker c.in_err-reason-4.field-0.0 _ _ (λ p h. at_limits h (before_limits m x d none balanced met)) (c.in_err-reason-4.ensures.cause x flows_then))
+    rw given (on_passed_weaker c.in_err-reason-4.field-0.0 _ _ (λ p h. at_limits h (before_limits m x d none balanced met)) (c.in_err-reason-4.ensures.stops x flows_then))
 
-pub returns-in_err-wrong_slack-clause-cause : goal.returns-in_err-wrong_slack-clause-cause
-returns-in_err-wrong_slack-clause-cause g c = λ energy none.
+pub returns-in_err-wrong_slack-clause-stops : goal.returns-in_err-wrong_slack-clause-stops
+returns-in_err-wrong_slack-clause-stops g c = λ energy none.
     let m = c.args.market.now in
     let value = g.N.Exact.value in
     let xs = map value c.args.blocks.now in
@@ -237,4 +237,4 @@ returns-in_err-wrong_slack-clause-cause g c = λ energy none.
     let flows = ap (map value) c.deref-3.ensures.value ∙ c.in_ok-carried.ensures.carried rs puts_then in
     let within = sym (c.in_ok-reason-2.ensures.first x flows) ∙ c.in_default-2.is in
     let given : c.from_residual-in_err-wrong_slack.result ≡ Err (why.Passed c.in_err-wrong_slack.field-0.0) = search rules in
-    rw given (at_rooms c.in_err-wrong_slack.ensures.cause (before_rooms m x d none balanced met within))
+    rw given (at_rooms c.in_err-wrong_slack.ensures.stops (before_rooms m x d none balanced met within))

@@ -20,15 +20,15 @@ energy_worths-requires g c =
     let rows = subst (λ (xs : List (NamedRow g.row.N.Denot)). AreNamed value m d xs) (sym c.slice.ensures) (c.in_ok-rows.ensures.rows (value c.args.energy) (value c.args.price)) in
     (d, rows)
 
-pub returns-in_err-worths-clause-cause : goal.returns-in_err-worths-clause-cause
-returns-in_err-worths-clause-cause g c =
+pub returns-in_err-worths-clause-stops : goal.returns-in_err-worths-clause-stops
+returns-in_err-worths-clause-stops g c =
     let m = c.args.market.now in
     let value = g.N.Exact.value in
     let d = duals_with (value c.args.energy) (map (dual_at value) c.args.limits.now) (value c.args.price) (map (room_dual_at value) c.args.rooms.now) in
     let rows = subst (λ (xs : List (NamedRow g.row.N.Denot)). AreNamed value m d xs) (sym c.slice.ensures) (c.in_ok-rows.ensures.rows (value c.args.energy) (value c.args.price)) in
     let rooms = subst (λ (xs : List (NamedRoom g.row.N.Denot)). AreNamedRooms value m d xs) (sym c.slice-2.ensures) (c.in_ok-rows.ensures.rooms (value c.args.energy) (value c.args.price)) in
     let p = err_from_is_err_and c.from_residual-in_err-worths.result c.from_residual-in_err-worths.ensures.1 in
-    rw (p.1, p.2) (c.in_err-worths.ensures.cause d refl rows rooms)
+    rw (p.1, p.2) (c.in_err-worths.ensures.stops d refl rows rooms)
 
 pub unsupported_block-requires-clause-worths : goal.unsupported_block-requires-clause-worths
 unsupported_block-requires-clause-worths g c =
@@ -51,14 +51,14 @@ returns-in-Some-clause-first g c =
     let x = dispatch_with (map value c.args.blocks.now) rs in
     sym (ap (λ o. option_or o (first_of (reserve_support_reason m x d ∷ []))) (sym (c.unsupported_block.ensures d rs worths) ∙ c.in-Some.is))
 
-pub returns-in_err-unsupported_offer-clause-cause : goal.returns-in_err-unsupported_offer-clause-cause
-returns-in_err-unsupported_offer-clause-cause g c =
+pub returns-in_err-unsupported_offer-clause-stops : goal.returns-in_err-unsupported_offer-clause-stops
+returns-in_err-unsupported_offer-clause-stops g c =
     let m = c.args.market.now in
     let value = g.N.Exact.value in
     let d = duals_with (value c.args.energy) (map (dual_at value) c.args.limits.now) (value c.args.price) (map (room_dual_at value) c.args.rooms.now) in
     let named = subst (λ (xs : List (NamedRoom g.row.N.Denot)). AreNamedRooms value m d xs) (sym c.slice-4.ensures) (c.in_ok-rows.ensures.rooms (value c.args.energy) (value c.args.price)) in
     let p = err_from_is_err_and c.from_residual-in_err-unsupported_offer.result c.from_residual-in_err-unsupported_offer.ensures.1 in
-    rw (p.1, p.2) (inr (c.in_err-unsupported_offer.ensures.cause d refl named))
+    rw (p.1, p.2) (inr (c.in_err-unsupported_offer.ensures.stops d refl named))
 
 pub returns-clause-first : goal.returns-clause-first
 returns-clause-first g c =

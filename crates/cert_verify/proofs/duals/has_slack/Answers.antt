@@ -15,13 +15,13 @@ row_flow-requires-clause-line g c = (at_places c.args.market.now c.lines-lines.e
 pub row_flow-requires-clause-lost : goal.row_flow-requires-clause-lost
 row_flow-requires-clause-lost g c = (at_places c.args.market.now c.lines-lines.ensures.market c.in-Some.row c.in-Some.ensures.0).1
 
-pub returns-in_err-flow-in-Some-clause-cause : goal.returns-in_err-flow-in-Some-clause-cause
-returns-in_err-flow-in-Some-clause-cause g c =
+pub returns-in_err-flow-in-Some-clause-stops : goal.returns-in_err-flow-in-Some-clause-stops
+returns-in_err-flow-in-Some-clause-stops g c =
     let given : c.from_residual.result ≡ Err c.in_err-flow-in-Some.field-0.0 = search rules in
     let places = at_places c.args.market.now c.lines-lines.ensures.market c.in-Some.row c.in-Some.ensures.0 in
     λ x are. rw given
     (limit_pair c.args.market.now x c.in-Some.row g.N.Exact.bound (passed_at g.N.Exact.value c.in_err-flow-in-Some.field-0.0) c.in-Some.ensures.0
-    (refused_there c.args.market.now x (map g.N.Exact.value c.args.carried.now) are c.in-Some.row places.0 places.1 g.N.Exact.bound (passed_at g.N.Exact.value c.in_err-flow-in-Some.field-0.0) c.in_err-flow-in-Some.ensures.cause))
+    (refused_there c.args.market.now x (map g.N.Exact.value c.args.carried.now) are c.in-Some.row places.0 places.1 g.N.Exact.bound (passed_at g.N.Exact.value c.in_err-flow-in-Some.field-0.0) c.in_err-flow-in-Some.ensures.stops))
 
 pub breaks_row-requires : goal.breaks_row-requires
 breaks_row-requires g c = (at_places c.args.market.now c.lines-lines.ensures.market c.in-Some.row c.in-Some.ensures.0).0
@@ -36,8 +36,8 @@ returns-in_ok-flow-in-Some-clause-slack g c =
     let named = slack_named m c.lines-lines.ensures.market x e c.in-Some.row c.in-Some.ensures.0 c.in-Some.ensures.1 in
     IfOk-weaker c.breaks_row.result _ _ (λ b h. h ∙ ap (λ (f : Fraction). breaks_row m c.in-Some.row e.up e.down f) flow ∙ sym named) c.breaks_row.ensures.broken
 
-pub returns-in_ok-flow-in-Some-clause-cause : goal.returns-in_ok-flow-in-Some-clause-cause
-returns-in_ok-flow-in-Some-clause-cause g c = λ x are. IfErr-weaker c.breaks_row.result _ _ (λ p h. of_most c.in-Some.row c.in-Some.ensures.0 h) c.breaks_row.ensures.cause
+pub returns-in_ok-flow-in-Some-clause-stops : goal.returns-in_ok-flow-in-Some-clause-stops
+returns-in_ok-flow-in-Some-clause-stops g c = λ x are. IfErr-weaker c.breaks_row.result _ _ (λ p h. of_most c.in-Some.row c.in-Some.ensures.0 h) c.breaks_row.ensures.stops
 
 pub returns-in-None-clause-slack : goal.returns-in-None-clause-slack
 returns-in-None-clause-slack g c =

@@ -21,7 +21,7 @@ pub returns-clause-first : goal.returns-clause-first
 returns-clause-first g c = λ x are.
     item_none (λ (e : Dual Fraction). reason.Slack e.row) (has_slack c.args.market.now x) (dual_at g.N.Exact.value) c.args.limits.now c.loop-dual.dual-index (c.loop-dual.invariant x are) (omega (arith, c.loop-dual-test.false))
 
-pub returns-in_err-slack-clause-cause : goal.returns-in_err-slack-clause-cause
-returns-in_err-slack-clause-cause g c =
+pub returns-in_err-slack-clause-stops : goal.returns-in_err-slack-clause-stops
+returns-in_err-slack-clause-stops g c =
     let given : c.from_residual.result ≡ Err c.in_err-slack.field-0.0 = search rules in
-    λ x are. rw given (c.in_err-slack.ensures.cause x are)
+    λ x are. rw given (c.in_err-slack.ensures.stops x are)

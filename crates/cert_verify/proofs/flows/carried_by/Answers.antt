@@ -15,12 +15,12 @@ returns-clause-carried g c = λ reserve puts.
     IfOk-weaker c.carried_flows.result _ _ (λ carried e. carried_of_blocks m xs reserve (map value carried.items) e)
     (c.carried_flows.ensures.carried (injections_by_blocks m xs reserve (map value c.args.by_bus.now) puts))
 
-pub returns-clause-cause : goal.returns-clause-cause
-returns-clause-cause g c = λ reserve puts.
+pub returns-clause-stops : goal.returns-clause-stops
+returns-clause-stops g c = λ reserve puts.
     let value = g.N.Exact.value in
     let m = c.args.market.now in
     let xs = map value c.args.blocks.now in
     let bound = g.N.Exact.bound in
     IfErr-weaker c.carried_flows.result _ _
     (λ stop h. on_passed_weaker stop _ _ (λ p why. carried_pair m (dispatch_with xs reserve) bound (passed_at value p) (carried_refusal m xs reserve bound (passed_at value p) why)) h)
-    (c.carried_flows.ensures.cause (injections_by_blocks m xs reserve (map value c.args.by_bus.now) puts))
+    (c.carried_flows.ensures.stops (injections_by_blocks m xs reserve (map value c.args.by_bus.now) puts))

@@ -11,10 +11,10 @@ returns-clause-injections g c = λ reserve.
     let value = g.N.Exact.value in
     IfOk-weaker c.injections.result _ _ (λ mws e. injections_of_blocks c.args.market.now (map value c.args.blocks.now) reserve (map value mws.items) e) c.injections.ensures.injections
 
-pub returns-clause-cause : goal.returns-clause-cause
-returns-clause-cause g c = λ reserve.
+pub returns-clause-stops : goal.returns-clause-stops
+returns-clause-stops g c = λ reserve.
     let value = g.N.Exact.value in
     IfErr-weaker c.injections.result _ _
     (λ stop h. on_passed_weaker stop _ _
     (λ p why. let r = injection_refusal c.args.market.now (map value c.args.blocks.now) reserve g.N.Exact.bound (passed_at value p) why in (r.0, balance_from_bus r.0 r.1, r.2)) h)
-    c.injections.ensures.cause
+    c.injections.ensures.stops

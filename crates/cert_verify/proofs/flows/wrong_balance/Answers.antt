@@ -5,10 +5,10 @@ use Rattle.cert_verify.specs.declared.verdicts.Reason.TheVariants as reason
 use Rattle.cert_verify.specs.Reasons.{differ, where_so}
 use Rattle.cert_verify.proofs.flows.wrong_balance.Goals as goal
 
-pub returns-in_err-sum-clause-cause : goal.returns-in_err-sum-clause-cause
-returns-in_err-sum-clause-cause g c =
+pub returns-in_err-sum-clause-stops : goal.returns-in_err-sum-clause-stops
+returns-in_err-sum-clause-stops g c =
     let given : c.from_residual.result ≡ Err c.in_err-sum.field-0.0 = search rules in
-    λ x puts. rw given (_, balance_of_all, c.in_err-sum.ensures.cause x puts)
+    λ x puts. rw given (_, balance_of_all, c.in_err-sum.ensures.stops x puts)
 
 pub returns-then-differ-clause-first : goal.returns-then-differ-clause-first
 returns-then-differ-clause-first g c = λ x puts.

@@ -7,10 +7,10 @@ use Rattle.cert_verify.proofs.PlacesLemmas.{first_behind}
 use Rattle.cert_verify.proofs.TestLemmas.{first_at, or_none}
 use Rattle.cert_verify.proofs.flows.wrong_price.Goals as goal
 
-pub returns-in_err-reason-clause-cause : goal.returns-in_err-reason-clause-cause
-returns-in_err-reason-clause-cause g c =
+pub returns-in_err-reason-clause-stops : goal.returns-in_err-reason-clause-stops
+returns-in_err-reason-clause-stops g c =
     let given : c.from_residual.result ≡ Err (why.Passed c.in_err-reason.field-0.0) = search rules in
-    λ x carried. rw given (c.in_err-reason.ensures.cause x carried)
+    λ x carried. rw given (c.in_err-reason.ensures.stops x carried)
 
 pub returns-in-Some-clause-first : goal.returns-in-Some-clause-first
 returns-in-Some-clause-first g c = λ x carried.

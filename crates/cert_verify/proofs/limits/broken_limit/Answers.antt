@@ -32,10 +32,10 @@ name_at-requires-clause-lost g c =
     (c.rows-row-items.ensures.stand c.in-Some.row
     (taken_listed c.args.market.now _ _ _ c.loop-row.yielded (c.into_iter-row-iterator.ensures.into_iter_gives ∙ c.rows-row-items.ensures.rows) c.loop-row.yielded_by c.next.result c.in-Some.row c.in-Some.is c.next.ensures.steps)).1
 
-pub returns-in_err-is_overloaded-clause-cause : goal.returns-in_err-is_overloaded-clause-cause
-returns-in_err-is_overloaded-clause-cause g c =
+pub returns-in_err-is_overloaded-clause-stops : goal.returns-in_err-is_overloaded-clause-stops
+returns-in_err-is_overloaded-clause-stops g c =
     let given : c.from_residual.result ≡ Err c.in_err-is_overloaded.field-0.0 = search rules in
-    λ x are. rw given (c.in_err-is_overloaded.ensures.cause x are)
+    λ x are. rw given (c.in_err-is_overloaded.ensures.stops x are)
 
 pub returns-then-branch-clause-first : goal.returns-then-branch-clause-first
 returns-then-branch-clause-first g c =

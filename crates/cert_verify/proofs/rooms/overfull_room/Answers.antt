@@ -14,14 +14,14 @@ use Rattle.cert_verify.proofs.rooms.overfull_room.Goals as goal
 pub room_quantity-requires : goal.room_quantity-requires
 room_quantity-requires g c = omega (arith, c.loop-at-test.true, ap length (c.slice-unit-items.ensures ∙ c.units.ensures.list))
 
-pub returns-in_err-used-clause-cause : goal.returns-in_err-used-clause-cause
-returns-in_err-used-clause-cause g c =
+pub returns-in_err-used-clause-stops : goal.returns-in_err-used-clause-stops
+returns-in_err-used-clause-stops g c =
     let m = c.args.market.now in
     let k = c.loop-at.at in
     let x = dispatch_with (map g.N.Exact.value c.args.blocks.now) (map g.N.Exact.value c.args.quantities.now) in
     let inside : k < length m.units = omega (arith, c.loop-at-test.true, ap length (c.slice-unit-items.ensures ∙ c.units.ensures.list)) in
     let given : c.from_residual.result ≡ Err c.in_err-used.field-0.0 = search rules in
-    rw given (room_terms m x k, used_of_room k (offers-listed m k inside (sym c.offers_reserve.ensures ∙ c.if-offers_reserve.true)), c.in_err-used.ensures.cause)
+    rw given (room_terms m x k, used_of_room k (offers-listed m k inside (sym c.offers_reserve.ensures ∙ c.if-offers_reserve.true)), c.in_err-used.ensures.stops)
 
 pub returns-then-is_below-clause-first : goal.returns-then-is_below-clause-first
 returns-then-is_below-clause-first g c =

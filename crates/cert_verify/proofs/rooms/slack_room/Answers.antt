@@ -22,7 +22,7 @@ pub returns-clause-first : goal.returns-clause-first
 returns-clause-first g c =
     item_none (λ (e : RoomDual Fraction). reason.RoomSlack e.unit) (has_room_slack c.args.market.now (dispatch_with (map g.N.Exact.value c.args.blocks.now) (map g.N.Exact.value c.args.quantities.now))) (room_dual_at g.N.Exact.value) c.args.rooms.now c.loop-dual.dual-index c.loop-dual.invariant (omega (arith, c.loop-dual-test.false))
 
-pub returns-in_err-slack-clause-cause : goal.returns-in_err-slack-clause-cause
-returns-in_err-slack-clause-cause g c =
+pub returns-in_err-slack-clause-stops : goal.returns-in_err-slack-clause-stops
+returns-in_err-slack-clause-stops g c =
     let given : c.from_residual.result ≡ Err c.in_err-slack.field-0.0 = search rules in
-    rw given c.in_err-slack.ensures.cause
+    rw given c.in_err-slack.ensures.stops

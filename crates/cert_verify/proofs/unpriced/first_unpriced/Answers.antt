@@ -30,11 +30,11 @@ name_at-requires-clause-lost g c =
     (c.rows-row-items.ensures.stand c.in-Some.row
     (taken_listed c.args.market.now _ _ _ c.loop-row.yielded (c.into_iter-row-iterator.ensures.into_iter_gives ∙ c.rows-row-items.ensures.rows) c.loop-row.yielded_by c.next.result c.in-Some.row c.in-Some.is c.next.ensures.steps)).1
 
-pub returns-in_err-is_unpriced-clause-cause : goal.returns-in_err-is_unpriced-clause-cause
-returns-in_err-is_unpriced-clause-cause g c =
+pub returns-in_err-is_unpriced-clause-stops : goal.returns-in_err-is_unpriced-clause-stops
+returns-in_err-is_unpriced-clause-stops g c =
     let given : c.from_residual.result ≡ Err c.in_err-is_unpriced.field-0.0 = search rules in
     let listed = taken_listed c.args.market.now _ _ _ c.loop-row.yielded (c.into_iter-row-iterator.ensures.into_iter_gives ∙ c.rows-row-items.ensures.rows) c.loop-row.yielded_by c.next.result c.in-Some.row c.in-Some.is c.next.ensures.steps in
-    λ x are. rw given (limit_pair c.args.market.now x c.in-Some.row g.N.Exact.bound (passed_at g.N.Exact.value c.in_err-is_unpriced.field-0.0) listed (c.in_err-is_unpriced.ensures.cause x are))
+    λ x are. rw given (limit_pair c.args.market.now x c.in-Some.row g.N.Exact.bound (passed_at g.N.Exact.value c.in_err-is_unpriced.field-0.0) listed (c.in_err-is_unpriced.ensures.stops x are))
 
 pub returns-then-branch-clause-first : goal.returns-then-branch-clause-first
 returns-then-branch-clause-first g c =

@@ -21,10 +21,10 @@ returns-then-is_some-clause-unpriced g c = λ x ds are is.
     let named = names_by g.N.Exact.value m (energy_duals zero limits) c.args.row c.named_at.result (c.named_at.ensures ds zero zero [] is) in
     sym (unpriced_named m x limits c.args.row (named ∙ sym c.is_some.ensures ∙ c.if-is_some.true))
 
-pub returns-in_err-flow-clause-cause : goal.returns-in_err-flow-clause-cause
-returns-in_err-flow-clause-cause g c =
+pub returns-in_err-flow-clause-stops : goal.returns-in_err-flow-clause-stops
+returns-in_err-flow-clause-stops g c =
     let given : c.from_residual.result ≡ Err c.in_err-flow.field-0.0 = search rules in
-    λ x are. rw given (refused_there c.args.market.now x (map g.N.Exact.value c.args.carried.now) are c.args.row c.requires.line c.requires.lost g.N.Exact.bound (passed_at g.N.Exact.value c.in_err-flow.field-0.0) c.in_err-flow.ensures.cause)
+    λ x are. rw given (refused_there c.args.market.now x (map g.N.Exact.value c.args.carried.now) are c.args.row c.requires.line c.requires.lost g.N.Exact.bound (passed_at g.N.Exact.value c.in_err-flow.field-0.0) c.in_err-flow.ensures.stops)
 
 pub returns-clause-unpriced : goal.returns-clause-unpriced
 returns-clause-unpriced g c = λ x ds are is.

@@ -17,14 +17,14 @@ use Rattle.clear_loop.proofs.SolvedLemmas.{best_for, block_count, offer_count, p
 use Rattle.clear_loop.proofs.StopLemmas.{money_stop, price_stop}
 use Rattle.clear_loop.proofs.answering.answer_of.Goals as goal
 
-pub returns-in_err-prices-clause-cause : goal.returns-in_err-prices-clause-cause
-returns-in_err-prices-clause-cause g c = λ ts solution.
+pub returns-in_err-prices-clause-stops : goal.returns-in_err-prices-clause-stops
+returns-in_err-prices-clause-stops g c = λ ts solution.
     let value = g.N.Exact.value in
     let p = err_from_is_err_and c.from_residual.result c.from_residual.ensures.1 in
     let given : c.from_residual.result ≡ Err c.in_err-prices.field-0.0 = p.1 ∙ ap Err p.2 in
     rw given
     (price_stop value g.N.Exact.bound c.args.market.now ts (dispatch_with (map value c.args.dispatch) (map value c.args.reserve)) (duals_at value c.args.duals) c.lines-lines.ensures.market solution.solved solution.kept
-    c.in_err-prices.field-0.0 c.in_err-prices.ensures.cause)
+    c.in_err-prices.field-0.0 c.in_err-prices.ensures.stops)
 
 pub welfare-requires-clause-flows : goal.welfare-requires-clause-flows
 welfare-requires-clause-flows g c =
@@ -32,8 +32,8 @@ welfare-requires-clause-flows g c =
     let m = c.args.market.now in
     c.requires.flows ∙ sym (flows_of_blocks m (map value c.args.dispatch) (map value c.args.reserve)) ∙ ap (λ xs. flows_at m (dispatch_of value xs)) (sym c.slice.ensures)
 
-pub returns-in_err-welfare-clause-cause : goal.returns-in_err-welfare-clause-cause
-returns-in_err-welfare-clause-cause g c = λ ts solution.
+pub returns-in_err-welfare-clause-stops : goal.returns-in_err-welfare-clause-stops
+returns-in_err-welfare-clause-stops g c = λ ts solution.
     let value = g.N.Exact.value in
     let m = c.args.market.now in
     let p = err_from_is_err_and c.from_residual-in_err-welfare.result c.from_residual-in_err-welfare.ensures.1 in
@@ -41,7 +41,7 @@ returns-in_err-welfare-clause-cause g c = λ ts solution.
     rw given
     (welfare_range m ts (dispatch_with (map value c.args.dispatch) (map value c.args.reserve)) (duals_at value c.args.duals) c.lines-lines.ensures.market solution.solved g.N.Exact.bound (passed_at value c.in_err-welfare.field-0.0) solution.kept
     (subst (λ x. IsWelfareRefusal m x g.N.Exact.bound (passed_at value c.in_err-welfare.field-0.0))
-    (ap₂ (λ xs rs. dispatch_with (map value xs) (map value rs)) c.slice.ensures c.slice-2.ensures) c.in_err-welfare.ensures.cause))
+    (ap₂ (λ xs rs. dispatch_with (map value xs) (map value rs)) c.slice.ensures c.slice-2.ensures) c.in_err-welfare.ensures.stops))
 
 pub settle_flows-requires-clause-flows : goal.settle_flows-requires-clause-flows
 settle_flows-requires-clause-flows g c =
@@ -52,8 +52,8 @@ settle_flows-requires-clause-flows g c =
 pub settle_flows-requires-clause-prices : goal.settle_flows-requires-clause-prices
 settle_flows-requires-clause-prices g c = ap length c.slice-5.ensures ∙ price_count g.N.Exact.value c.args.market.now (duals_at g.N.Exact.value c.args.duals) c.in_ok-prices.prices c.in_ok-prices.ensures.prices
 
-pub returns-in_err-money-clause-cause : goal.returns-in_err-money-clause-cause
-returns-in_err-money-clause-cause g c = λ ts solution.
+pub returns-in_err-money-clause-stops : goal.returns-in_err-money-clause-stops
+returns-in_err-money-clause-stops g c = λ ts solution.
     let value = g.N.Exact.value in
     let m = c.args.market.now in
     let d = duals_at value c.args.duals in
@@ -65,7 +65,7 @@ returns-in_err-money-clause-cause g c = λ ts solution.
     (prices_of value m d c.in_ok-prices.prices c.in_ok-prices.ensures.prices) stop
     (subst (λ x. IsMoneyStop value g.N.Exact.bound m x (total_at value c.in_ok-prices.prices) d stop)
     (ap₂ (λ xs rs. dispatch_with (map value xs) (map value rs)) c.slice-3.ensures c.slice-4.ensures)
-    (subst (λ ps. IsMoneyStop value g.N.Exact.bound m (dispatch_with (map value c.slice-3.result.now) (map value c.slice-4.result.now)) (total_at value ps) d stop) c.slice-5.ensures c.in_err-money.ensures.cause)))
+    (subst (λ ps. IsMoneyStop value g.N.Exact.bound m (dispatch_with (map value c.slice-3.result.now) (map value c.slice-4.result.now)) (total_at value ps) d stop) c.slice-5.ensures c.in_err-money.ensures.stops)))
 
 pub returns-clause-fits : goal.returns-clause-fits
 returns-clause-fits g c =

@@ -13,14 +13,14 @@ use Rattle.clear_loop.proofs.bounding.left_of_energy.Goals as goal
 pub bus_injections-requires : goal.bus_injections-requires
 bus_injections-requires g c = sym (length-map c.args.flows.now g.N.Exact.value) ∙ flow_count c.args.market.now (empty c.args.market.now) (map g.N.Exact.value c.args.flows.now) c.requires.flows
 
-pub returns-in_err-all-clause-cause : goal.returns-in_err-all-clause-cause
-returns-in_err-all-clause-cause g c =
+pub returns-in_err-all-clause-stops : goal.returns-in_err-all-clause-stops
+returns-in_err-all-clause-stops g c =
     let m = c.args.market.now in
     let given : c.from_residual.result ≡ Err c.in_err-all.field-0.0 = search rules in
-    rw given (in_flow (_, flow_in_balance _ balance_of_all, c.in_err-all.ensures.cause (empty m) (c.bus_injections.ensures (empty m) c.requires.flows)))
+    rw given (in_flow (_, flow_in_balance _ balance_of_all, c.in_err-all.ensures.stops (empty m) (c.bus_injections.ensures (empty m) c.requires.flows)))
 
-pub returns-in_err-of_energy-clause-cause : goal.returns-in_err-of_energy-clause-cause
-returns-in_err-of_energy-clause-cause g c =
+pub returns-in_err-of_energy-clause-stops : goal.returns-in_err-of_energy-clause-stops
+returns-in_err-of_energy-clause-stops g c =
     let m = c.args.market.now in
     let value = g.N.Exact.value in
     let energy = c.args.duals.now.energy in

@@ -39,8 +39,8 @@ loop-dual-preserved g c =
     limits_step m d k (dual_at value c.dual-item.result) r.0 r.1 (value c.loop-dual.sum) _ c.loop-dual.invariant
     (c.in_ok-sum.ensures.sum d (ap (up_of m d) is ∙ r.1.up) (ap (down_of m d) is ∙ r.1.down) ∙ ap (λ (t : Row). value c.loop-dual.sum +ℚ total (limit_terms m d t)) is)
 
-pub returns-in_err-sum-clause-cause : goal.returns-in_err-sum-clause-cause
-returns-in_err-sum-clause-cause g c =
+pub returns-in_err-sum-clause-stops : goal.returns-in_err-sum-clause-stops
+returns-in_err-sum-clause-stops g c =
     let m = c.args.market.now in
     let value = g.N.Exact.value in
     let d = duals_at value c.args.duals.now in
@@ -52,7 +52,7 @@ returns-in_err-sum-clause-cause g c =
     let given : c.from_residual.result ≡ Err c.in_err-sum.field-0.0 = search rules in
     rw given
     (limit_refused m d k e r.0 r.1 (value c.loop-dual.sum) g.N.Exact.bound p c.loop-dual.invariant
-    (subst (λ (t : Row). IsRowStepRefusal m t e.up e.down (value c.loop-dual.sum) g.N.Exact.bound p) is c.in_err-sum.ensures.cause))
+    (subst (λ (t : Row). IsRowStepRefusal m t e.up e.down (value c.loop-dual.sum) g.N.Exact.bound p) is c.in_err-sum.ensures.stops))
 
 pub returns-clause-sum : goal.returns-clause-sum
 returns-clause-sum g c =

@@ -18,8 +18,8 @@ returns-then-reserve-clause-sum g c =
     MatchResult-weaker c.plus_product.result c.plus_product.ensures
     (λ r is. need_made m d listed (value c.args.of_energy) (value r) c.requires (is.exact ∙ ap (λ t. value c.args.of_energy +ℚ d.reserve *ℚ t) need)) (λ _ _. tt)
 
-pub returns-then-reserve-clause-cause : goal.returns-then-reserve-clause-cause
-returns-then-reserve-clause-cause g c =
+pub returns-then-reserve-clause-stops : goal.returns-then-reserve-clause-stops
+returns-then-reserve-clause-stops g c =
     let m = c.args.market.now in
     let value = g.N.Exact.value in
     let d = duals_at value c.args.duals.now in

@@ -12,8 +12,8 @@ use Rattle.clear_loop.proofs.bounding_reserve.with_offers.Goals as goal
 pub loop-offer-init : goal.loop-offer-init
 loop-offer-init g c = offers_none c.args.market.now (duals_at g.N.Exact.value c.args.duals.now) (g.N.Exact.value c.args.of_blocks) c.requires
 
-pub returns-in_err-worth-clause-cause : goal.returns-in_err-worth-clause-cause
-returns-in_err-worth-clause-cause g c =
+pub returns-in_err-worth-clause-stops : goal.returns-in_err-worth-clause-stops
+returns-in_err-worth-clause-stops g c =
     let m = c.args.market.now in
     let value = g.N.Exact.value in
     let k = c.loop-offer.offer-index in
@@ -23,7 +23,7 @@ returns-in_err-worth-clause-cause g c =
     let inside = subst (λ (o : ReserveOffer). o.unit < length m.units) (sym offer) (offer_unit-in m c.units-units.ensures.market k below) in
     let given : c.from_residual.result ≡ Err c.in_err-worth.field-0.0 = search rules in
     rw given
-    (reserve_refused_there m (duals_at value c.args.duals.now) _ inside c.in_err-worth.ensures.offers g.N.Exact.bound (passed_at value c.in_err-worth.field-0.0) c.in_err-worth.ensures.cause)
+    (reserve_refused_there m (duals_at value c.args.duals.now) _ inside c.in_err-worth.ensures.offers g.N.Exact.bound (passed_at value c.in_err-worth.field-0.0) c.in_err-worth.ensures.stops)
 
 pub loop-offer-preserved : goal.loop-offer-preserved
 loop-offer-preserved g c =
@@ -37,8 +37,8 @@ loop-offer-preserved g c =
     (c.in_ok-worth.ensures.less ∙ ap (λ (o : ReserveOffer). reserve_worth m d o.unit) offer)
     (c.offer_quantity.ensures ∙ ap (λ (o : ReserveOffer). whole o.quantity) offer) (value c.loop-offer.sum) _ c.loop-offer.invariant c.in_ok-sum.ensures.sum
 
-pub returns-in_err-sum-clause-cause : goal.returns-in_err-sum-clause-cause
-returns-in_err-sum-clause-cause g c =
+pub returns-in_err-sum-clause-stops : goal.returns-in_err-sum-clause-stops
+returns-in_err-sum-clause-stops g c =
     let m = c.args.market.now in
     let value = g.N.Exact.value in
     let d = duals_at value c.args.duals.now in
@@ -50,7 +50,7 @@ returns-in_err-sum-clause-cause g c =
     rw given
     (offer_refused m d k (value c.in_ok-worth.worth) (value c.offer_quantity.result)
     (c.in_ok-worth.ensures.less ∙ ap (λ (o : ReserveOffer). reserve_worth m d o.unit) offer)
-    (c.offer_quantity.ensures ∙ ap (λ (o : ReserveOffer). whole o.quantity) offer) (value c.loop-offer.sum) g.N.Exact.bound (passed_at value c.in_err-sum.field-0.0) below c.loop-offer.invariant c.in_err-sum.ensures.cause)
+    (c.offer_quantity.ensures ∙ ap (λ (o : ReserveOffer). whole o.quantity) offer) (value c.loop-offer.sum) g.N.Exact.bound (passed_at value c.in_err-sum.field-0.0) below c.loop-offer.invariant c.in_err-sum.ensures.stops)
 
 pub returns-clause-bound : goal.returns-clause-bound
 returns-clause-bound g c =

@@ -17,8 +17,8 @@ use Rattle.market_dict.proofs.HoldingLaws.{holds_choice}
 use Rattle.clear_loop.proofs.StopLemmas.{pair_stop, taken_stop}
 use Rattle.clear_loop.proofs.hand.take.Goals as goal
 
-pub returns-in-Limit-clause-cause : goal.returns-in-Limit-clause-cause
-returns-in-Limit-clause-cause g c = λ ts holds grown.
+pub returns-in-Limit-clause-stops : goal.returns-in-Limit-clause-stops
+returns-in-Limit-clause-stops g c = λ ts holds grown.
     let value = g.N.Exact.value in
     let m = c.args.market.now in
     let r = c.in-Limit.row in
@@ -27,10 +27,10 @@ returns-in-Limit-clause-cause g c = λ ts holds grown.
     (λ s. OnPassed s (λ p. IsPairOf value g.N.Exact.bound (system_of m (taken_of (ts ++ taking.Limit r ∷ []))) p ⊎ IsRefusedAmong (FactorSum m r) g.N.Exact.bound (passed_at value p))) _
     (λ s. taken_stop value g.N.Exact.bound m ts r (choice_of c.args.dict.now) s c.lines-lines.ensures.market (subst (λ (t : Taking). Growth m (limits_of ts) (limits_of (ts ++ t ∷ []))) c.in-Limit.is grown)
     (holds_choice m ts c.args.dict.now holds) inside)
-    (c.take_limit.ensures.cause ts holds)
+    (c.take_limit.ensures.stops ts holds)
 
-pub returns-in-Room-clause-cause : goal.returns-in-Room-clause-cause
-returns-in-Room-clause-cause g c = λ ts holds grown.
+pub returns-in-Room-clause-stops : goal.returns-in-Room-clause-stops
+returns-in-Room-clause-stops g c = λ ts holds grown.
     let value = g.N.Exact.value in
     let m = c.args.market.now in
     IfErr-weaker c.take_room.result (IsPairOver value g.N.Exact.bound m (ts ++ taking.Room c.in-Room.unit ∷ [])) _

@@ -16,8 +16,8 @@ use Rattle.clear_loop.proofs.rounds.after_best.Given.{Over}
 use Rattle.clear_loop.proofs.rounds.after_best.Goals as goal
 use Rattle.clear_loop.proofs.rounds.after_best.Goals.{In-Worst}
 
-pub returns-in_err-taking-clause-cause : goal.returns-in_err-taking-clause-cause
-returns-in_err-taking-clause-cause g c =
+pub returns-in_err-taking-clause-stops : goal.returns-in_err-taking-clause-stops
+returns-in_err-taking-clause-stops g c =
     let value = g.N.Exact.value in
     let m = c.args.market.now in
     let ts = c.args.taken.takings in
@@ -27,7 +27,7 @@ returns-in_err-taking-clause-cause g c =
     let given : c.from_residual.result ≡ Err stop = p.1 ∙ ap Err p.2 in
     rw given
     (look_stop value g.N.Exact.bound m ts x (choice_duals m (taken_of ts) (choice_of c.args.dict)) c.lines-lines.ensures.market c.requires.found.2 stop
-    (subst (λ y. StopsBy value (IsLookRefusal m y g.N.Exact.bound) stop) (ap₂ (λ xs rs. dispatch_with (map value xs) (map value rs)) c.slice.ensures c.slice-2.ensures) c.in_err-taking.ensures.cause))
+    (subst (λ y. StopsBy value (IsLookRefusal m y g.N.Exact.bound) stop) (ap₂ (λ xs rs. dispatch_with (map value xs) (map value rs)) c.slice.ensures c.slice-2.ensures) c.in_err-taking.ensures.stops))
 
 -- what is passed by the most, of those in hand
 passed_most : (g : Over) (c : In-Worst g) → let m = c.args.market.now in let ts = c.args.taken.takings in

@@ -13,12 +13,12 @@ use Rattle.clear_loop.proofs.rounds.all_rounds.Goals as goal
 pub loop-next-init : goal.loop-next-init
 loop-next-init g c = (c.requires, growth_none c.args.market.now (limits_of c.args.first.taken.takings), none_more)
 
-pub returns-in_err-next-clause-cause : goal.returns-in_err-next-clause-cause
-returns-in_err-next-clause-cause g c =
+pub returns-in_err-next-clause-stops : goal.returns-in_err-next-clause-stops
+returns-in_err-next-clause-stops g c =
     let p = err_from_is_err_and c.from_residual.result c.from_residual.ensures.1 in
     let given : c.from_residual.result ≡ Err c.in_err-next.field-0.0 = p.1 ∙ ap Err p.2 in
     rw given
-    (earlier_stop g.N.Exact.value g.N.Exact.bound c.args.market.now (limits_of c.args.first.taken.takings) (limits_of c.loop-next.hand.taken.takings) c.in_err-next.field-0.0 c.loop-next.invariant.1 c.in_err-next.ensures.cause)
+    (earlier_stop g.N.Exact.value g.N.Exact.bound c.args.market.now (limits_of c.args.first.taken.takings) (limits_of c.loop-next.hand.taken.takings) c.in_err-next.field-0.0 c.loop-next.invariant.1 c.in_err-next.ensures.stops)
 
 pub loop-next-smaller : goal.loop-next-smaller
 loop-next-smaller g c =

@@ -40,9 +40,9 @@ returns-in_ok-bound-in-Nothing-clause-round g c =
       refl,
     )
 
-pub returns-in_err-bound-in-Nothing-clause-cause : goal.returns-in_err-bound-in-Nothing-clause-cause
-returns-in_err-bound-in-Nothing-clause-cause g c =
-    let none = nothing_found g (goal.at.returns-in_err-bound-in-Nothing-clause-cause g c).In-Nothing in
+pub returns-in_err-bound-in-Nothing-clause-stops : goal.returns-in_err-bound-in-Nothing-clause-stops
+returns-in_err-bound-in-Nothing-clause-stops g c =
+    let none = nothing_found g (goal.at.returns-in_err-bound-in-Nothing-clause-stops g c).In-Nothing in
     let p = err_from_is_err_and c.from_residual-in_err-bound-in-Nothing.result c.from_residual-in_err-bound-in-Nothing.ensures.1 in
     let given : c.from_residual-in_err-bound-in-Nothing.result ≡ Err c.in_err-bound-in-Nothing.field-0.0 = p.1 ∙ ap Err p.2 in
-    rw given (c.in_err-bound-in-Nothing.ensures.cause c.args.hand.taken.takings none.1)
+    rw given (c.in_err-bound-in-Nothing.ensures.stops c.args.hand.taken.takings none.1)

@@ -22,14 +22,14 @@ use Rattle.clear_loop.proofs.screen.screened_at.Given.{Over}
 use Rattle.clear_loop.proofs.screen.screened_at.Goals as goal
 use Rattle.clear_loop.proofs.screen.screened_at.Goals.{After-deref-2, In-None}
 
-pub returns-in_err-by_place-clause-cause : goal.returns-in_err-by_place-clause-cause
-returns-in_err-by_place-clause-cause g c =
+pub returns-in_err-by_place-clause-stops : goal.returns-in_err-by_place-clause-stops
+returns-in_err-by_place-clause-stops g c =
     let value = g.N.Exact.value in
     let m = c.args.market.now in
     let given : c.from_residual.result ≡ Err c.in_err-by_place.field-0.0 = search rules in
     rw given
     (on_passed_weaker c.in_err-by_place.field-0.0 (λ p. IsFlowsRefusal m (dispatch_of value c.args.dispatch.now) g.N.Exact.bound (passed_at value p)) _
-    (λ p refused. inl (flows_refusal m (map value c.args.dispatch.now) (map value c.args.reserve.now) g.N.Exact.bound (passed_at value p) refused)) c.in_err-by_place.ensures.cause)
+    (λ p refused. inl (flows_refusal m (map value c.args.dispatch.now) (map value c.args.reserve.now) g.N.Exact.bound (passed_at value p) refused)) c.in_err-by_place.ensures.stops)
 
 pub whole_parts-requires : goal.whole_parts-requires
 whole_parts-requires g c =
@@ -49,14 +49,14 @@ worst_row_by_parts-requires-clause-flows g c =
     let x = dispatch_with (map value c.args.dispatch.now) (map value c.args.reserve.now) in
     sym (length-map c.deref-2.result.now value) ∙ flow_count c.args.market.now x (map value c.deref-2.result.now) (flows_are g (goal.at.worst_row_by_parts-requires-clause-flows g c).After-deref-2)
 
-pub returns-in_err-row-clause-cause : goal.returns-in_err-row-clause-cause
-returns-in_err-row-clause-cause g c =
+pub returns-in_err-row-clause-stops : goal.returns-in_err-row-clause-stops
+returns-in_err-row-clause-stops g c =
     let value = g.N.Exact.value in
     let m = c.args.market.now in
-    let fs = flows_are g (goal.at.returns-in_err-row-clause-cause g c).After-deref-2 in
+    let fs = flows_are g (goal.at.returns-in_err-row-clause-stops g c).After-deref-2 in
     let p = err_from_is_err_and c.from_residual-in_err-row.result c.from_residual-in_err-row.ensures.1 in
     let given : c.from_residual-in_err-row.result ≡ Err (stop.Passed c.in_err-row.field-0.0) = p.1 ∙ ap Err p.2 in
-    rw given (inr (inl (subst (λ (ys : List Fraction). IsAnyFlowRefusal m (carried_at m ys) g.N.Exact.bound (passed_at value c.in_err-row.field-0.0)) fs c.in_err-row.ensures.cause)))
+    rw given (inr (inl (subst (λ (ys : List Fraction). IsAnyFlowRefusal m (carried_at m ys) g.N.Exact.bound (passed_at value c.in_err-row.field-0.0)) fs c.in_err-row.ensures.stops)))
 
 pub returns-in-Some-clause-screened : goal.returns-in-Some-clause-screened
 returns-in-Some-clause-screened g c =
@@ -79,14 +79,14 @@ none_broken g c =
     all_kept m c.lines-lines.ensures.market taken x (map value c.deref-2.result.now) (flows_are g (goal.at.In-None g c).After-deref-2)
     (subst (λ (o : Option Row). MatchOption o (AllKeep m taken f) (IsWorstBy m taken f)) c.in-None.is c.in_ok-row.ensures.worst)
 
-pub returns-in_err-unit-in-None-clause-cause : goal.returns-in_err-unit-in-None-clause-cause
-returns-in_err-unit-in-None-clause-cause g c =
+pub returns-in_err-unit-in-None-clause-stops : goal.returns-in_err-unit-in-None-clause-stops
+returns-in_err-unit-in-None-clause-stops g c =
     let value = g.N.Exact.value in
     let m = c.args.market.now in
     let x = dispatch_with (map value c.args.dispatch.now) (map value c.args.reserve.now) in
     let given : c.from_residual-in_err-unit-in-None.result ≡ Err c.in_err-unit-in-None.field-0.0 = search rules in
     rw given
-    (on_passed_weaker c.in_err-unit-in-None.field-0.0 (λ p. IsRefusedAmong (RoomSum m x) g.N.Exact.bound (passed_at value p)) _ (λ p refused. inr (inr refused)) c.in_err-unit-in-None.ensures.cause)
+    (on_passed_weaker c.in_err-unit-in-None.field-0.0 (λ p. IsRefusedAmong (RoomSum m x) g.N.Exact.bound (passed_at value p)) _ (λ p refused. inr (inr refused)) c.in_err-unit-in-None.ensures.stops)
 
 pub returns-in-Some-2-clause-screened : goal.returns-in-Some-2-clause-screened
 returns-in-Some-2-clause-screened g c =

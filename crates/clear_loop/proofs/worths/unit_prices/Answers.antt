@@ -23,11 +23,11 @@ returns-clause-own g c =
     IfOk-weaker c.own_prices.result _ _
     (λ own is. is ∙ map_same (own_price m d (total_at value c.slice.result.now)) (unit_price m d) (length m.units) (own_same m d (total_at value c.slice.result.now) are c.units-units.ensures.market)) c.own_prices.ensures.own
 
-pub returns-clause-cause : goal.returns-clause-cause
-returns-clause-cause g c =
+pub returns-clause-stops : goal.returns-clause-stops
+returns-clause-stops g c =
     let m = c.args.market.now in
     let value = g.N.Exact.value in
     let d = duals_at value c.args.duals.now in
     let are = subst (λ (ps : List _). ArePricesOf m d (total_at value ps)) (sym c.slice.ensures) (prices_of value m d c.in_ok-prices.prices c.in_ok-prices.ensures.prices) in
     IfErr-weaker c.own_prices.result _ _
-    (λ stop why. on_passed_weaker stop _ _ (λ p h. own_refused m d (total_at value c.slice.result.now) are c.units-units.ensures.market g.N.Exact.bound (passed_at value p) h) why) c.own_prices.ensures.cause
+    (λ stop why. on_passed_weaker stop _ _ (λ p h. own_refused m d (total_at value c.slice.result.now) are c.units-units.ensures.market g.N.Exact.bound (passed_at value p) h) why) c.own_prices.ensures.stops

@@ -31,8 +31,8 @@ bounds-own-block g c =
 pub offset_bounds-own-block : goal.offset_bounds-own-block
 offset_bounds-own-block g c = let lt = bounds-own-block g c in omega (arith, lt)
 
-pub returns-in_err-worth-clause-cause : goal.returns-in_err-worth-clause-cause
-returns-in_err-worth-clause-cause g c =
+pub returns-in_err-worth-clause-stops : goal.returns-in_err-worth-clause-stops
+returns-in_err-worth-clause-stops g c =
     let m = c.args.market.now in
     let value = g.N.Exact.value in
     let d = duals_at value c.args.duals.now in
@@ -44,7 +44,7 @@ returns-in_err-worth-clause-cause g c =
     let count : length c.args.own.now ≡ length m.units = sym (length-map c.args.own.now value) ∙ ap length c.requires.own ∙ length-map-range_with_len (unit_price m d) 0 (length m.units) in
     let price = own_read value (unit_price m d) (length m.units) _ c.args.own.now c.index-own-block.result count inside c.requires.own c.index-own-block.is in
     let given : c.from_residual.result ≡ Err c.in_err-worth.field-0.0 = search rules in
-    rw given (energy_refused_there m d _ inside c.in_err-worth.ensures.offers g.N.Exact.bound (passed_at value c.in_err-worth.field-0.0) (value c.index-own-block.result) price c.in_err-worth.ensures.cause)
+    rw given (energy_refused_there m d _ inside c.in_err-worth.ensures.offers g.N.Exact.bound (passed_at value c.in_err-worth.field-0.0) (value c.index-own-block.result) price c.in_err-worth.ensures.stops)
 
 pub loop-at-preserved : goal.loop-at-preserved
 loop-at-preserved g c =
@@ -63,8 +63,8 @@ loop-at-preserved g c =
     block_step m d k (value c.by_side.result) _ (c.by_side.ensures ∙ ap (λ (b : Block). signed_by_side b.side (value c.in_ok-worth.worth)) block ∙ ap (signed_by_side (block_at m k).side) worth)
     (c.block_quantity.ensures ∙ ap (λ (b : Block). whole b.quantity) block) (value c.loop-at.sum) _ c.loop-at.invariant c.in_ok-sum.ensures.sum
 
-pub returns-in_err-sum-clause-cause : goal.returns-in_err-sum-clause-cause
-returns-in_err-sum-clause-cause g c =
+pub returns-in_err-sum-clause-stops : goal.returns-in_err-sum-clause-stops
+returns-in_err-sum-clause-stops g c =
     let m = c.args.market.now in
     let value = g.N.Exact.value in
     let d = duals_at value c.args.duals.now in
@@ -80,7 +80,7 @@ returns-in_err-sum-clause-cause g c =
     let given : c.from_residual-in_err-sum.result ≡ Err c.in_err-sum.field-0.0 = search rules in
     rw given
     (block_refused m d k (value c.by_side.result) _ (c.by_side.ensures ∙ ap (λ (b : Block). signed_by_side b.side (value c.in_ok-worth.worth)) block ∙ ap (signed_by_side (block_at m k).side) worth)
-    (c.block_quantity.ensures ∙ ap (λ (b : Block). whole b.quantity) block) (value c.loop-at.sum) g.N.Exact.bound (passed_at value c.in_err-sum.field-0.0) below c.loop-at.invariant c.in_err-sum.ensures.cause)
+    (c.block_quantity.ensures ∙ ap (λ (b : Block). whole b.quantity) block) (value c.loop-at.sum) g.N.Exact.bound (passed_at value c.in_err-sum.field-0.0) below c.loop-at.invariant c.in_err-sum.ensures.stops)
 
 pub returns-clause-sum : goal.returns-clause-sum
 returns-clause-sum g c =

@@ -22,6 +22,6 @@ returns-in_ok-word-in-Err-Passed-clause-tells g c =
     let value = g.N.Exact.value in
     let p = passed_at value c.in-Err-Passed.passed in
     let within : ArePassedWithin g.N.Exact.bound p = passed_within value g.N.Exact.bound g.met.N.Exact.value_fits c.in-Err-Passed.passed in
-    let refused = subst (StopsBy value (IsRightsRefusal c.args.market.now c.args.rights.now (total_at value c.args.prices.now) g.N.Exact.bound)) c.in-Err-Passed.field-0-is c.in-Err-Passed.ensures.cause in
+    let refused = subst (StopsBy value (IsRightsRefusal c.args.market.now c.args.rights.now (total_at value c.args.prices.now) g.N.Exact.bound)) c.in-Err-Passed.field-0-is c.in-Err-Passed.ensures.stops in
     passed p refused within
     (ap (uncertified status.Range) (c.in_ok-word-in-Err-Passed.ensures ∙ ap (λ t. c.args.text.now ++ t) (c.as_slice.ensures.value ∙ c.in_ok-range-in-Err-Passed.ensures)))

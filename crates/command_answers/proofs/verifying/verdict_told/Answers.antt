@@ -15,5 +15,5 @@ returns-in_ok-text-in-Err-Range-clause-verifies g c =
     let p = passed_at g.N.Exact.value c.in-Err-Range.passed in
     let within : ArePassedWithin g.N.Exact.bound p = passed_within g.N.Exact.value g.N.Exact.bound g.met.N.Exact.value_fits c.in-Err-Range.passed in
     let is : telling_of c.uncertified-in-Err-Range.result ≡ uncertified status.Range (range_text p) = search rules in
-    let cause = subst (IsVerifyStop g.N.Exact.value c.args.market.now g.N.Exact.bound (cert_at g.N.Exact.value c.args.certificate.now)) c.in-Err-Range.field-0-is c.in-Err-Range.ensures.cause in
+    let cause = subst (IsVerifyStop g.N.Exact.value c.args.market.now g.N.Exact.bound (cert_at g.N.Exact.value c.args.certificate.now)) c.in-Err-Range.field-0-is c.in-Err-Range.ensures.stops in
     passed p cause within is

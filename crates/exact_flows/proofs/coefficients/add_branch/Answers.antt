@@ -24,8 +24,8 @@ returns-clause-sum g c =
     (λ more is. is.exact ∙ ap (λ t. value c.args.sum +ℚ t) (term_taken c.args.bus c.args.other b (value c.at_end-through.result) (value c.at_end-term.result) c.at_end-through.ensures c.at_end-term.ensures))
     (λ _ _. tt)
 
-pub returns-clause-cause : goal.returns-clause-cause
-returns-clause-cause g c =
+pub returns-clause-stops : goal.returns-clause-stops
+returns-clause-stops g c =
     let value = g.N.Exact.value in
     let b : Branch = line_branch value c.args.line in
     MatchResult-weaker c.exact_sum.result c.exact_sum.ensures (λ _ _. tt)

@@ -20,10 +20,10 @@ loop-k-preserved g c =
 pub returns-clause-sum : goal.returns-clause-sum
 returns-clause-sum g c = c.loop-k.invariant ∙ sum_all g.N.Exact.value c.args.lines.now c.args.bus c.args.other c.loop-k.k c.loop-k-test.false
 
-pub returns-in_err-sum-clause-cause : goal.returns-in_err-sum-clause-cause
-returns-in_err-sum-clause-cause g c =
+pub returns-in_err-sum-clause-stops : goal.returns-in_err-sum-clause-stops
+returns-in_err-sum-clause-stops g c =
     let value = g.N.Exact.value in
     let p = err_from_is_err_and c.from_residual.result c.from_residual.ensures.1 in
     rw (p.1, p.2)
     (sum_pair value c.args.lines.now c.args.bus c.args.other g.N.Exact.bound c.loop-k.k c.loop-k.sum c.index-lines-k.result c.in_err-sum.field-0.0 c.loop-k-test.true c.index-lines-k.is c.loop-k.invariant
-    c.in_err-sum.ensures.cause)
+    c.in_err-sum.ensures.stops)

@@ -10,7 +10,7 @@ use Rattle.exact_flows.proofs.coefficients.coefficients.Goals as goal
 pub returns-in_err-row_coefficient-clause-pair : goal.returns-in_err-row_coefficient-clause-pair
 returns-in_err-row_coefficient-clause-pair g c =
     let n : Network = line_network g.N.Exact.value c.args.buses c.args.lines.now in
-    let h = c.in_err-row_coefficient.ensures.cause in
+    let h = c.in_err-row_coefficient.ensures.stops in
     let inside : c.loop-column.column + 1 < c.args.buses = Prim.omega (arith, c.loop-column-test.true, c.loop-column.auto.column-end, c.requires.reference) in
     let p = err_from_is_err_and c.from_residual.result c.from_residual.ensures.1 in
     rw (p.1, p.2)

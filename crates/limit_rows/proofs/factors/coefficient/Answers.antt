@@ -11,7 +11,7 @@ returns-clause-factor g c =
     λ r is named.
     subst (λ (s : Row). IfOk c.row_factor.result (λ factor. g.N.Exact.value factor ≡ row_factor c.args.market.now s c.args.bus)) (c.found_row.ensures.is r is named) c.row_factor.ensures.factor
 
-pub returns-clause-cause : goal.returns-clause-cause
-returns-clause-cause g c =
+pub returns-clause-stops : goal.returns-clause-stops
+returns-clause-stops g c =
     λ r is named.
-    subst (λ (s : Row). IfErr c.row_factor.result (λ passed. IsRefusedIn (factor_terms c.args.market.now s c.args.bus) g.N.Exact.bound (passed_at g.N.Exact.value passed))) (c.found_row.ensures.is r is named) c.row_factor.ensures.cause
+    subst (λ (s : Row). IfErr c.row_factor.result (λ passed. IsRefusedIn (factor_terms c.args.market.now s c.args.bus) g.N.Exact.bound (passed_at g.N.Exact.value passed))) (c.found_row.ensures.is r is named) c.row_factor.ensures.stops

@@ -38,8 +38,8 @@ returns-in-Branch-clause-factor g c =
     ∙ ap (λ (o : Cause). row_factor m (record { line = c.args.row.line; cause = o }) c.args.bus) (sym c.in-Branch.is))
     c.with_share.ensures.sum
 
-pub returns-in-Branch-clause-cause : goal.returns-in-Branch-clause-cause
-returns-in-Branch-clause-cause g c =
+pub returns-in-Branch-clause-stops : goal.returns-in-Branch-clause-stops
+returns-in-Branch-clause-stops g c =
     let m = c.args.market.now in
     let value = g.N.Exact.value in
     let shift : to_z w64 (of_z w64 c.shift_of.result) ≡ c.shift_of.result = to_z-of_z w64 c.shift_of.result (record { sfits = c.shift_of.type_inv }) in
@@ -51,7 +51,7 @@ returns-in-Branch-clause-cause g c =
     (λ e h.
     subst (λ (o : Cause). IsRefusedIn (factor_terms m (record { line = c.args.row.line; cause = o }) c.args.bus) g.N.Exact.bound (passed_at value e)) (sym c.in-Branch.is)
     (factor_refused m c.args.row.line c.args.bus _ own c.in-Branch.lost _ _ (ap (λ (z : ℤ). over z factor_one) (loss ∙ c.loss_of.ensures.is)) gone g.N.Exact.bound (passed_at value e) h))
-    c.with_share.ensures.cause
+    c.with_share.ensures.stops
 
 pub returns-in-Branch-clause-wide : goal.returns-in-Branch-clause-wide
 returns-in-Branch-clause-wide g c =
@@ -66,4 +66,4 @@ returns-in-Branch-clause-wide g c =
     (subst (λ (z : ℤ). unsigned_abs z ≤ most_factor) (sym loss) c.loss_of.ensures.size)
     (subst (λ (z : ℤ). unsigned_abs z ≤ most_factor) (sym lost) c.shift_of-in-Branch.ensures.size)
     c.as_number-own.ensures c.as_number.ensures h.too_large)
-    c.with_share.ensures.cause
+    c.with_share.ensures.stops

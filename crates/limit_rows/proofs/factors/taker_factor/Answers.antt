@@ -37,8 +37,8 @@ returns-clause-factor g c =
     ∙ ap (λ (ps : List Pickup). total (map (taker_term m c.args.line) (filter (λ (q : Pickup). q.outage == c.args.outage) ps)))
     (take_all c.loop-pickup.pickup-index c.slice-pickup-items.result.now c.loop-pickup-test.false ∙ listed)
 
-pub returns-in_err-sum-clause-cause : goal.returns-in_err-sum-clause-cause
-returns-in_err-sum-clause-cause g c =
+pub returns-in_err-sum-clause-stops : goal.returns-in_err-sum-clause-stops
+returns-in_err-sum-clause-stops g c =
     let m = c.args.market.now in
     let ps = c.slice-pickup-items.result.now in
     let p : Pickup = get_or ps c.loop-pickup.pickup-index nothing in
@@ -49,9 +49,9 @@ returns-in_err-sum-clause-cause g c =
     (passing_refused {T = Pickup} (λ (q : Pickup). q.outage == c.args.outage) (taker_term m c.args.line) ps c.loop-pickup.pickup-index p c.loop-pickup-test.true
     (same_default ps c.loop-pickup.pickup-index nothing p c.loop-pickup-test.true)
     (share_value p) (shift_factor m c.args.line (unit_at m p.taker).bus) (g.N.Exact.value c.loop-pickup.sum) g.N.Exact.bound (passed_at g.N.Exact.value c.in_err-sum.field-0.0)
-    c.in_err-sum.ensures.belongs refl c.loop-pickup.invariant c.in_err-sum.ensures.cause))
+    c.in_err-sum.ensures.belongs refl c.loop-pickup.invariant c.in_err-sum.ensures.stops))
 
 pub returns-in_err-sum-clause-wide : goal.returns-in_err-sum-clause-wide
 returns-in_err-sum-clause-wide g c = λ wide.
     IfErr-weaker c.from_residual.result _ _
-    (λ p why. takers_fit g.N.Exact.bound wide (passed_at g.N.Exact.value p) c.args.market.now c.pickups.ensures.market c.args.line c.args.outage why) (returns-in_err-sum-clause-cause g c)
+    (λ p why. takers_fit g.N.Exact.bound wide (passed_at g.N.Exact.value p) c.args.market.now c.pickups.ensures.market c.args.line c.args.outage why) (returns-in_err-sum-clause-stops g c)

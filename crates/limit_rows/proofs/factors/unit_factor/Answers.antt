@@ -17,8 +17,8 @@ pub returns-in-Some-clause-factor : goal.returns-in-Some-clause-factor
 returns-in-Some-clause-factor g c =
     IfOk-weaker c.taker_factor.result _ _ (λ factor e. e ∙ factor_lost c.args.market.now c.args.row c.args.unit c.in-Some.outage c.in-Some.ensures.0 c.in-Some.ensures.2) c.taker_factor.ensures.factor
 
-pub returns-in-Some-clause-cause : goal.returns-in-Some-clause-cause
-returns-in-Some-clause-cause g c =
+pub returns-in-Some-clause-stops : goal.returns-in-Some-clause-stops
+returns-in-Some-clause-stops g c =
     let m = c.args.market.now in
     let l = c.args.row.line in
     let k = c.in-Some.outage in
@@ -28,7 +28,7 @@ returns-in-Some-clause-cause g c =
       factor_of_pickup _ (pickup_of_row k c.in-Some.ensures.0),
       refused_in_front (taker_terms m l k) (Plain (neg_ℚ (shift_factor m l (unit_at m (lost_unit m k)).bus)) ∷ []) g.N.Exact.bound (passed_at g.N.Exact.value e) why,
     ))
-    c.taker_factor.ensures.cause
+    c.taker_factor.ensures.stops
 
 pub row_factor-requires-clause-bus : goal.row_factor-requires-clause-bus
 row_factor-requires-clause-bus g c =
@@ -43,9 +43,9 @@ returns-in-None-clause-factor g c =
     IfOk-weaker c.row_factor.result _ _
     (λ factor e. e ∙ ap (λ (v : unit.Unit). row_factor m c.args.row v.bus) read ∙ factor_not_lost m c.args.row c.args.unit c.in-None.ensures) c.row_factor.ensures.factor
 
-pub returns-in-None-clause-cause : goal.returns-in-None-clause-cause
-returns-in-None-clause-cause g c =
+pub returns-in-None-clause-stops : goal.returns-in-None-clause-stops
+returns-in-None-clause-stops g c =
     let m = c.args.market.now in
     let read = unit_read m c.units.result.now c.args.unit c.args.unit c.at.result.now c.units.ensures.list refl c.at.ensures in
     let inside = subst (λ (v : unit.Unit). v.bus < length m.buses) (sym read) (unit_bus-in m c.units.ensures.market c.args.unit c.requires.unit) in
-    IfErr-weaker c.row_factor.result _ _ (λ e why. (_, factor_of_bus _ (factor_at_bus c.at.result.now.bus inside), why)) c.row_factor.ensures.cause
+    IfErr-weaker c.row_factor.result _ _ (λ e why. (_, factor_of_bus _ (factor_at_bus c.at.result.now.bus inside), why)) c.row_factor.ensures.stops

@@ -28,8 +28,8 @@ returns-clause-flow g c =
     let all : c.loop-bus.bus ≡ length c.args.market.now.buses = omega (arith, c.requires.injections) in
     rw all at c.loop-bus.invariant
 
-pub returns-in_err-flow-clause-cause : goal.returns-in_err-flow-clause-cause
-returns-in_err-flow-clause-cause g c =
+pub returns-in_err-flow-clause-stops : goal.returns-in_err-flow-clause-stops
+returns-in_err-flow-clause-stops g c =
     let given : c.from_residual.result ≡ Err c.in_err-flow.field-0.0 = search rules in
     let known : to_z w64 (of_z w64 c.shift_of.result) ≡ c.shift_of.result = to_z-of_z w64 c.shift_of.result (record { sfits = c.shift_of.type_inv }) in
     rw given
@@ -38,4 +38,4 @@ returns-in_err-flow-clause-cause g c =
     (omega (arith, c.loop-bus-test.true, c.requires.injections))
     (ap (λ (z : ℤ). over z factor_one) (known ∙ c.shift_of.ensures.is))
     (put_read g.N.Exact.value c.args.injections.now c.loop-bus.bus c.index-injections-bus.result c.loop-bus-test.true c.index-injections-bus.is)
-    c.loop-bus.invariant c.in_err-flow.ensures.cause)
+    c.loop-bus.invariant c.in_err-flow.ensures.stops)

@@ -16,8 +16,8 @@ returns-clause-flows g c =
     all_put g.N.Exact.value (line_flow c.args.market.now (put_in (map g.N.Exact.value c.args.injections.now))) c.loop-line.out c.loop-line.line (length c.args.market.now.lines)
     (c.loop-line.auto.out ∙ c.requires.out) (omega (arith, c.loop-line-test.false, c.requires.out)) c.loop-line.invariant
 
-pub returns-in_err-mw-clause-cause : goal.returns-in_err-mw-clause-cause
-returns-in_err-mw-clause-cause g c =
+pub returns-in_err-mw-clause-stops : goal.returns-in_err-mw-clause-stops
+returns-in_err-mw-clause-stops g c =
     let told = err_from_is_err_and c.from_residual.result c.from_residual.ensures.1 in
     let inside : c.loop-line.line < length c.args.market.now.lines = omega (arith, c.loop-line-test.true, c.requires.out) in
-    rw (told.1, told.2) (_, flow_of_line c.loop-line.line inside, c.in_err-mw.ensures.cause)
+    rw (told.1, told.2) (_, flow_of_line c.loop-line.line inside, c.in_err-mw.ensures.stops)

@@ -20,8 +20,8 @@ returns-clause-outputs g c =
     all_put g.N.Exact.value (lost_output c.args.market.now (dispatch_of g.N.Exact.value c.args.dispatch.now)) c.loop-outage.out c.loop-outage.outage (length c.args.market.now.unit_outages)
     (c.loop-outage.auto.out ∙ c.requires.out) (omega (arith, c.loop-outage-test.false, c.requires.out)) c.loop-outage.invariant
 
-pub returns-in_err-mw-clause-cause : goal.returns-in_err-mw-clause-cause
-returns-in_err-mw-clause-cause g c =
+pub returns-in_err-mw-clause-stops : goal.returns-in_err-mw-clause-stops
+returns-in_err-mw-clause-stops g c =
     let m = c.args.market.now in
     let x = dispatch_of g.N.Exact.value c.args.dispatch.now in
     let given : c.from_residual.result ≡ Err c.in_err-mw.field-0.0 = search rules in
@@ -29,5 +29,5 @@ returns-in_err-mw-clause-cause g c =
     rw given (
       _,
       output_of_lost c.loop-outage.outage inside,
-      subst (λ (u : ℕ). IsRefusedIn (output_terms m x u) g.N.Exact.bound (passed_at g.N.Exact.value c.in_err-mw.field-0.0)) c.lost_unit.ensures.is c.in_err-mw.ensures.cause,
+      subst (λ (u : ℕ). IsRefusedIn (output_terms m x u) g.N.Exact.bound (passed_at g.N.Exact.value c.in_err-mw.field-0.0)) c.lost_unit.ensures.is c.in_err-mw.ensures.stops,
     )

@@ -41,10 +41,10 @@ returns-in-Branch-clause-flow g c =
     c.with_share.ensures.sum
 
 pub returns-in-Branch-clause-after : goal.returns-in-Branch-clause-after
-returns-in-Branch-clause-after g c = IfErr-weaker c.with_share.result _ _ (λ e h. not_base c.args.row.cause c.in-Branch.lost c.in-Branch.is) c.with_share.ensures.cause
+returns-in-Branch-clause-after g c = IfErr-weaker c.with_share.result _ _ (λ e h. not_base c.args.row.cause c.in-Branch.lost c.in-Branch.is) c.with_share.ensures.stops
 
-pub returns-in-Branch-clause-cause : goal.returns-in-Branch-clause-cause
-returns-in-Branch-clause-cause g c =
+pub returns-in-Branch-clause-stops : goal.returns-in-Branch-clause-stops
+returns-in-Branch-clause-stops g c =
     let m = c.args.market.now in
     let value = g.N.Exact.value in
     let fs = c.args.carried.now in
@@ -63,17 +63,17 @@ returns-in-Branch-clause-cause g c =
       subst (λ (o : Cause). IsRefusedIn (flow_terms m f (record { line = l; cause = o })) g.N.Exact.bound (passed_at value e)) (sym c.in-Branch.is)
           (flow_refused m f l k _ _ _ own (ap (λ (z : ℤ). over z factor_one) (known ∙ c.loss_of.ensures.is)) gone g.N.Exact.bound (passed_at value e) h),
     ))
-    c.with_share.ensures.cause
+    c.with_share.ensures.stops
 
 pub returns-in_err-factor-in-UnitOutage-clause-after : goal.returns-in_err-factor-in-UnitOutage-clause-after
 returns-in_err-factor-in-UnitOutage-clause-after g c =
     let given : c.from_residual.result ≡ Err c.in_err-factor-in-UnitOutage.field-0.0 = search rules in
     rw given (unit_not_base c.args.row.cause c.in-UnitOutage.outage c.in-UnitOutage.is)
 
-pub returns-in_err-factor-in-UnitOutage-clause-cause : goal.returns-in_err-factor-in-UnitOutage-clause-cause
-returns-in_err-factor-in-UnitOutage-clause-cause g c =
+pub returns-in_err-factor-in-UnitOutage-clause-stops : goal.returns-in_err-factor-in-UnitOutage-clause-stops
+returns-in_err-factor-in-UnitOutage-clause-stops g c =
     let given : c.from_residual.result ≡ Err c.in_err-factor-in-UnitOutage.field-0.0 = search rules in
-    rw given (inr (_, pickup_of_row c.in-UnitOutage.outage c.in-UnitOutage.is, c.in_err-factor-in-UnitOutage.ensures.cause))
+    rw given (inr (_, pickup_of_row c.in-UnitOutage.outage c.in-UnitOutage.is, c.in_err-factor-in-UnitOutage.ensures.stops))
 
 pub returns-in_ok-factor-in-UnitOutage-clause-flow : goal.returns-in_ok-factor-in-UnitOutage-clause-flow
 returns-in_ok-factor-in-UnitOutage-clause-flow g c =
@@ -95,8 +95,8 @@ returns-in_ok-factor-in-UnitOutage-clause-flow g c =
     ∙ ap (λ (o : Cause). flow_by m f (record { line = l; cause = o })) (sym c.in-UnitOutage.is))
     c.with_product.ensures.sum
 
-pub returns-in_ok-factor-in-UnitOutage-clause-cause : goal.returns-in_ok-factor-in-UnitOutage-clause-cause
-returns-in_ok-factor-in-UnitOutage-clause-cause g c =
+pub returns-in_ok-factor-in-UnitOutage-clause-stops : goal.returns-in_ok-factor-in-UnitOutage-clause-stops
+returns-in_ok-factor-in-UnitOutage-clause-stops g c =
     let m = c.args.market.now in
     let value = g.N.Exact.value in
     let fs = c.args.carried.now in
@@ -117,4 +117,4 @@ returns-in_ok-factor-in-UnitOutage-clause-cause g c =
       subst (λ (o : Cause). IsRefusedIn (flow_terms m f (record { line = l; cause = o })) g.N.Exact.bound (passed_at value e)) (sym c.in-UnitOutage.is)
           (picked_refused m f l k _ _ _ own c.in_ok-factor-in-UnitOutage.ensures.factor gone g.N.Exact.bound (passed_at value e) h),
     ))
-    c.with_product.ensures.cause
+    c.with_product.ensures.stops

@@ -31,8 +31,8 @@ returns-in-Branch-clause-offset g c =
     ∙ ap (λ (o : Cause). row_offset m (record { line = c.args.row.line; cause = o })) (sym c.in-Branch.is))
     c.with_share.ensures.sum
 
-pub returns-in-Branch-clause-cause : goal.returns-in-Branch-clause-cause
-returns-in-Branch-clause-cause g c =
+pub returns-in-Branch-clause-stops : goal.returns-in-Branch-clause-stops
+returns-in-Branch-clause-stops g c =
     let m = c.args.market.now in
     let value = g.N.Exact.value in
     let known : to_z w64 (of_z w64 c.loss_of.result) ≡ c.loss_of.result = to_z-of_z w64 c.loss_of.result (record { sfits = c.loss_of.type_inv }) in
@@ -40,4 +40,4 @@ returns-in-Branch-clause-cause g c =
     (λ e h.
     subst (λ (o : Cause). IsRefusedIn (offset_terms m (record { line = c.args.row.line; cause = o })) g.N.Exact.bound (passed_at value e)) (sym c.in-Branch.is)
     (offset_refused m c.args.row.line c.in-Branch.lost _ _ _ c.offset_of-own.ensures (ap (λ (z : ℤ). over z factor_one) (known ∙ c.loss_of.ensures.is)) c.offset_of.ensures g.N.Exact.bound (passed_at value e) h))
-    c.with_share.ensures.cause
+    c.with_share.ensures.stops

@@ -20,23 +20,23 @@ returns-clause-flows g c =
     ∙ ap₂ ◌++◌ c.in_ok-injections.ensures.injections (map-append value c.put_line_flows.new.out c.put_lost_outputs.new.out ∙ ap₂ ◌++◌ lines e))
     c.put_lost_outputs.ensures.outputs
 
-pub returns-clause-cause : goal.returns-clause-cause
-returns-clause-cause g c =
+pub returns-clause-stops : goal.returns-clause-stops
+returns-clause-stops g c =
     IfErr-weaker c.put_lost_outputs.result _ _
     (λ e why. (why.0, carried_by_network why.0 (carried_by_unit why.0 why.1), why.2))
-    c.put_lost_outputs.ensures.cause
+    c.put_lost_outputs.ensures.stops
 
-pub returns-in_err-injections-clause-cause : goal.returns-in_err-injections-clause-cause
-returns-in_err-injections-clause-cause g c =
+pub returns-in_err-injections-clause-stops : goal.returns-in_err-injections-clause-stops
+returns-in_err-injections-clause-stops g c =
     let given : c.from_residual.result ≡ Err c.in_err-injections.field-0.0 = search rules in
-    let why = c.in_err-injections.ensures.cause in
+    let why = c.in_err-injections.ensures.stops in
     rw given (why.0, put_in_at_bus why.0 why.1, why.2)
 
-pub returns-in_err-put_line_flows-clause-cause : goal.returns-in_err-put_line_flows-clause-cause
-returns-in_err-put_line_flows-clause-cause g c =
+pub returns-in_err-put_line_flows-clause-stops : goal.returns-in_err-put_line_flows-clause-stops
+returns-in_err-put_line_flows-clause-stops g c =
     let m = c.args.market.now in
     let x = dispatch_of g.N.Exact.value c.args.dispatch.now in
     let mws = map g.N.Exact.value c.injections.new.out in
     let given : c.from_residual-in_err-put_line_flows.result ≡ Err c.in_err-put_line_flows.field-0.0 = search rules in
-    let why = line_refusal m x mws c.in_ok-injections.ensures.injections g.N.Exact.bound (passed_at g.N.Exact.value c.in_err-put_line_flows.field-0.0) c.in_err-put_line_flows.ensures.cause in
+    let why = line_refusal m x mws c.in_ok-injections.ensures.injections g.N.Exact.bound (passed_at g.N.Exact.value c.in_err-put_line_flows.field-0.0) c.in_err-put_line_flows.ensures.stops in
     rw given (why.0, carried_by_network why.0 (carried_on_line why.0 why.1), why.2)

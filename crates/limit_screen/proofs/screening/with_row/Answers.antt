@@ -26,20 +26,20 @@ row_flow-requires-clause-lost g c = (at_places c.args.market.now c.lines-lines.e
 pub limit_at-requires : goal.limit_at-requires
 limit_at-requires g c = (at_places c.args.market.now c.lines-lines.ensures.market c.args.row c.requires.row).0
 
-pub returns-in_err-flow-clause-cause : goal.returns-in_err-flow-clause-cause
-returns-in_err-flow-clause-cause g c =
+pub returns-in_err-flow-clause-stops : goal.returns-in_err-flow-clause-stops
+returns-in_err-flow-clause-stops g c =
     let m = c.args.market.now in
     let given : c.from_residual.result ≡ Err c.in_err-flow.field-0.0 = search rules in
     rw given
-    (subst (λ (f : Carried). IsFlowRefusal m f c.args.row g.N.Exact.bound (passed_at g.N.Exact.value c.in_err-flow.field-0.0)) c.carried_flows.ensures.is c.in_err-flow.ensures.cause)
+    (subst (λ (f : Carried). IsFlowRefusal m f c.args.row g.N.Exact.bound (passed_at g.N.Exact.value c.in_err-flow.field-0.0)) c.carried_flows.ensures.is c.in_err-flow.ensures.stops)
 
 pub beyond-requires : goal.beyond-requires
 beyond-requires g c =
     let known : to_z w64 (of_z w64 c.limit_at.result) ≡ c.limit_at.result = to_z-of_z w64 c.limit_at.result (record { sfits = c.limit_at.type_inv }) in
     (c.limit_at.result, c.limit_at.ensures.sign, c.datum.ensures ∙ ap whole known)
 
-pub returns-in_err-overrun-clause-cause : goal.returns-in_err-overrun-clause-cause
-returns-in_err-overrun-clause-cause g c = absurd c.in_err-overrun.ensures.fits
+pub returns-in_err-overrun-clause-stops : goal.returns-in_err-overrun-clause-stops
+returns-in_err-overrun-clause-stops g c = absurd c.in_err-overrun.ensures.fits
 
 -- the flow passes the limit by the overrun
 is_overrun : (g : Over) (c : After-keeps_excess g) → let m = c.args.market.now in

@@ -14,12 +14,12 @@ with_row_by_parts-requires-clause-row g c =
 pub loop-row-preserved : goal.loop-row-preserved
 loop-row-preserved g c = c.in_ok-worst.ensures.worst c.loop-row.yielded c.loop-row.invariant
 
-pub returns-in_err-worst-clause-cause : goal.returns-in_err-worst-clause-cause
-returns-in_err-worst-clause-cause g c =
+pub returns-in_err-worst-clause-stops : goal.returns-in_err-worst-clause-stops
+returns-in_err-worst-clause-stops g c =
     let m = c.args.market.now in
     let listed = taken_listed m _ _ _ c.loop-row.yielded (c.into_iter-row-iterator.ensures.into_iter_gives ∙ c.rows-row-items.ensures.rows) c.loop-row.yielded_by c.next.result c.in-Some.row c.in-Some.is c.next.ensures.steps in
     let given : c.from_residual.result ≡ Err c.in_err-worst.field-0.0 = search rules in
-    rw given (c.in-Some.row, listed, c.in_err-worst.ensures.cause)
+    rw given (c.in-Some.row, listed, c.in_err-worst.ensures.stops)
 
 pub returns-in-Some-worst-clause-worst : goal.returns-in-Some-worst-clause-worst
 returns-in-Some-worst-clause-worst g c =

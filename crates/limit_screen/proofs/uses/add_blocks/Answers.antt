@@ -52,8 +52,8 @@ returns-clause-sums g c = λ reserve.
     let all : c.loop-at.at ≡ length m.blocks = omega (arith, c.loop-at-test.false, c.loop-at.auto.at-end, ap length blocks) in
     rw all at c.loop-at.invariant
 
-pub returns-in_err-add_use-clause-cause : goal.returns-in_err-add_use-clause-cause
-returns-in_err-add_use-clause-cause g c =
+pub returns-in_err-add_use-clause-stops : goal.returns-in_err-add_use-clause-stops
+returns-in_err-add_use-clause-stops g c =
     let m = c.args.market.now in
     let value = g.N.Exact.value in
     let k = c.loop-at.at in
@@ -65,7 +65,7 @@ returns-in_err-add_use-clause-cause g c =
     let inside : k < length ds = omega (arith, below, c.requires.dispatch) in
     let part = c.by_side.ensures ∙ ap (λ (d : Block). signed_by_side d.side (value c.index-dispatch-at.result)) block ∙ ap (signed_by_side (block_at m k).side) (sym (accepted_is value ds k c.index-dispatch-at.result inside c.index-dispatch-at.is)) in
     let sum = λ (u : _). total (counted_to [] (λ j. (block_at m j).unit == u) (raised_by m (dispatch_of value ds)) k) in
-    let why = c.in_err-add_use.ensures.cause (offers_reserve m) sum (length m.units) c.loop-at.invariant in
+    let why = c.in_err-add_use.ensures.stops (offers_reserve m) sum (length m.units) c.loop-at.invariant in
     let unit_inside = subst (λ (bs : List Block). (slice_index_or bs k nothing).unit < length m.units) (sym blocks) (c.blocks-2.ensures.market.blocks k nothing below).unit in
     let given : c.from_residual.result ≡ Err c.in_err-add_use.field-0.0 = search rules in
     λ reserve. rw given (

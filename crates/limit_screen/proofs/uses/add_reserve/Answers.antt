@@ -58,8 +58,8 @@ returns-clause-sums g c = λ blocks have.
     let all : c.loop-at.at ≡ length m.reserve.offers = omega (arith, c.loop-at-test.false, c.loop-at.auto.at-end, ap length offers) in
     rw all at c.loop-at.invariant blocks have
 
-pub returns-in_err-add_use-clause-cause : goal.returns-in_err-add_use-clause-cause
-returns-in_err-add_use-clause-cause g c =
+pub returns-in_err-add_use-clause-stops : goal.returns-in_err-add_use-clause-stops
+returns-in_err-add_use-clause-stops g c =
     let m = c.args.market.now in
     let value = g.N.Exact.value in
     let k = c.loop-at.at in
@@ -75,7 +75,7 @@ returns-in_err-add_use-clause-cause g c =
     (let x = dispatch_with blocks (map value rs) in
     let front = map (block_term m x) (blocks_of m o.unit) in
     let sum = λ (u : _). total (counted_to (map (block_term m x) (blocks_of m u)) (λ j. (offer_at m j).unit == u) (reserved x) k) in
-    let why = c.in_err-add_use.ensures.cause (offers_reserve m) sum (length m.units) (c.loop-at.invariant blocks have) in (
+    let why = c.in_err-add_use.ensures.stops (offers_reserve m) sum (length m.units) (c.loop-at.invariant blocks have) in (
       _,
       used_of_room o.unit (offers-listed m o.unit unit_inside why.0),
       counted_refused front (λ j. (offer_at m j).unit == o.unit) (reserved x) [] (room_terms m x o.unit) (length m.reserve.offers) k (o.unit == o.unit)

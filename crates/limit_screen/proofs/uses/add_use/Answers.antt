@@ -6,8 +6,8 @@ use Rattle.market_model.proofs.SumSteps.{refusal}
 use Rattle.limit_screen.proofs.UseLemmas.{more_nowhere, more_put, none_counts, some_counts, sum_read}
 use Rattle.limit_screen.proofs.uses.add_use.Goals as goal
 
-pub returns-in_err-exact_sum-in-Some-clause-cause : goal.returns-in_err-exact_sum-in-Some-clause-cause
-returns-in_err-exact_sum-in-Some-clause-cause g c = λ counts sum units have.
+pub returns-in_err-exact_sum-in-Some-clause-stops : goal.returns-in_err-exact_sum-in-Some-clause-stops
+returns-in_err-exact_sum-in-Some-clause-stops g c = λ counts sum units have.
     let value = g.N.Exact.value in
     let i = c.args.unit in
     let read = sum_read value counts sum units i c.args.used.now c.index-used-unit.result have c.requires c.index-used-unit.is in

@@ -42,8 +42,8 @@ loop-c-preserved g c =
 pub returns-clause-added : goal.returns-clause-added
 returns-clause-added g c = λ f s. added_end g.N.Exact.value c.args.columns f _ c.loop-c.sums.items c.loop-c.c (c.loop-c.invariant.1 f s) c.loop-c-test.false
 
-pub returns-in_err-sum-clause-cause : goal.returns-in_err-sum-clause-cause
-returns-in_err-sum-clause-cause g c =
+pub returns-in_err-sum-clause-stops : goal.returns-in_err-sum-clause-stops
+returns-in_err-sum-clause-stops g c =
     let value : g.row.N.Denot → Fraction = g.N.Exact.value in
     let n : ℕ = c.args.columns in
     let a : Fraction = value c.args.factor in

@@ -38,8 +38,8 @@ returns-in_ok-sum-in-Column-place-clause-added g c = λ f s.
     c.index-entries-j.result c.index.result.now c.in_ok-sum-in-Column-place.sum c.in-Column.is c.in-Column-place.is hj hk c.index-entries-j.is c.index.ensures
     c.in_ok-sum-in-Column-place.ensures.exact
 
-pub returns-in_err-sum-in-Column-place-clause-cause : goal.returns-in_err-sum-in-Column-place-clause-cause
-returns-in_err-sum-in-Column-place-clause-cause g c =
+pub returns-in_err-sum-in-Column-place-clause-stops : goal.returns-in_err-sum-in-Column-place-clause-stops
+returns-in_err-sum-in-Column-place-clause-stops g c =
     let value : g.row.N.Denot → Fraction = g.N.Exact.value in
     let entries : List g.row.N.Denot = c.args.entries.now in
     let entry = c.index-entries-j.result in
@@ -53,8 +53,8 @@ returns-in_err-sum-in-Column-place-clause-cause g c =
     (ap value c.index-entries-j.is ∙ sym (get_or-map value entries c.in-Column.j entry (whole (pos 0)) hj) ∙ sym (ring_ℚ.times_one (get_or (map value entries) c.in-Column.j (whole (pos 0)))))
     (of_other c.in-Column.j c.in-Column-place.c c.in-Column.is c.in-Column-place.is))
 
-pub returns-in-Row-place-clause-cause : goal.returns-in-Row-place-clause-cause
-returns-in-Row-place-clause-cause g c =
+pub returns-in-Row-place-clause-stops : goal.returns-in-Row-place-clause-stops
+returns-in-Row-place-clause-stops g c =
     let value : g.row.N.Denot → Fraction = g.N.Exact.value in
     let entries : List g.row.N.Denot = c.args.entries.now in
     let entry = c.index-entries-j.result in
@@ -64,4 +64,4 @@ returns-in-Row-place-clause-cause g c =
     IfErr-weaker c.add_multiple.result _ _ (λ e h f s.
     refused_as value g.N.Exact.bound (MultipleShare c.args.columns f (value entry) t) (TermShare value c.args.columns c.args.table.now entries c.args.variable f) e
     (λ x a b o. of_basic c.in-Column.j c.in-Row-place.r x a b c.in-Column.is c.in-Row-place.is (subst (λ n. MultipleShare c.args.columns f n t x a b) number o))
-    (h f s)) c.add_multiple.ensures.cause
+    (h f s)) c.add_multiple.ensures.stops

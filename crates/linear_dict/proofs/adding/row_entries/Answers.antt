@@ -25,8 +25,8 @@ returns-clause-sums g c =
     sums_same g.N.Exact.value c.loop-k.sums.items c.args.columns _ _ c.loop-k.invariant
     (λ k h. ap (sum_by (row_term g.N.Exact.value c.args.columns c.args.table.now c.args.entries.now k)) (take_all c.loop-k.k c.args.variables.now c.loop-k-test.false))
 
-pub returns-in_err-add_term-clause-cause : goal.returns-in_err-add_term-clause-cause
-returns-in_err-add_term-clause-cause g c =
+pub returns-in_err-add_term-clause-stops : goal.returns-in_err-add_term-clause-stops
+returns-in_err-add_term-clause-stops g c =
     let value = g.N.Exact.value in
     let vs : List (Variable g.row.N.Denot) = c.args.variables.now in
     let table : List g.row.N.Denot = c.args.table.now in
@@ -38,4 +38,4 @@ returns-in_err-add_term-clause-cause g c =
     rw (p.1, p.2)
     (refused_as value g.N.Exact.bound (TermShare value c.args.columns table entries v f) (RowShare value c.args.columns table entries vs) c.in_err-add_term.field-0.0
     (λ x a b o. of_variable k v x a b (slice_get-get_or vs k v c.loop-k-test.true ∙ ap Some (sym c.index-variables-k.is)) o)
-    (c.in_err-add_term.ensures.cause f c.loop-k.invariant))
+    (c.in_err-add_term.ensures.stops f c.loop-k.invariant))

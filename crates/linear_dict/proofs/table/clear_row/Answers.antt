@@ -74,8 +74,8 @@ returns-clause-cleared g c = λ rows e.
     (read_stage value c.args.columns old c.loop-j.table.items number c.args.row c.args.column c.loop-j.j c.args.solved c.args.column c.index-2.result.now
     c.requires.within c.requires.solved_room c.requires.within (inl (λ d. c.requires.other (sym d))) c.loop-j.invariant c.index-2.ensures rows e))
 
-pub returns-in_err-entry-clause-cause : goal.returns-in_err-entry-clause-cause
-returns-in_err-entry-clause-cause g c =
+pub returns-in_err-entry-clause-stops : goal.returns-in_err-entry-clause-stops
+returns-in_err-entry-clause-stops g c =
     let value : g.row.N.Denot → Fraction = g.N.Exact.value in
     let old : List g.row.N.Denot = c.args.table.now.items in
     let cur : List g.row.N.Denot = c.loop-j.table.items in
@@ -95,8 +95,8 @@ returns-in_err-entry-clause-cause g c =
     (read_stage value columns old cur number row column j solved j c.index-other.result.now c.requires.within c.requires.solved_room c.loop-j-test.true (inl (λ d. c.requires.other (sym d))) c.loop-j.invariant c.index-other.ensures rows e)
     (add j c.loop-j-test.true c.if-j-column.true))
 
-pub returns-in_err-last-clause-cause : goal.returns-in_err-last-clause-cause
-returns-in_err-last-clause-cause g c =
+pub returns-in_err-last-clause-stops : goal.returns-in_err-last-clause-stops
+returns-in_err-last-clause-stops g c =
     let value : g.row.N.Denot → Fraction = g.N.Exact.value in
     let old : List g.row.N.Denot = c.args.table.now.items in
     let cur : List g.row.N.Denot = c.loop-j.table.items in

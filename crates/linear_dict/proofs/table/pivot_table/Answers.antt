@@ -40,17 +40,17 @@ returns-clause-pivoted g c =
     shows_is c.args.rows c.args.columns (map g.N.Exact.value c.loop-i.table.items) (pivoted_cell f c.args.row c.args.column)
     (pivoting_end f c.args.row c.args.column c.args.rows c.args.columns (map g.N.Exact.value c.loop-i.table.items) c.loop-i.i c.loop-i.invariant.1 c.loop-i-test.false)
 
-pub returns-in_err-solve_row-clause-cause : goal.returns-in_err-solve_row-clause-cause
-returns-in_err-solve_row-clause-cause g c =
+pub returns-in_err-solve_row-clause-stops : goal.returns-in_err-solve_row-clause-stops
+returns-in_err-solve_row-clause-stops g c =
     let value : g.row.N.Denot → Fraction = g.N.Exact.value in
     let f : ℕ → ℕ → Fraction = cell c.args.columns (map value c.args.table.now.items) in
     let p = err_from_is_err_and c.from_residual.result c.from_residual.ensures.1 in
     rw (p.1, p.2)
     (refused_as value g.N.Exact.bound (SolveShare c.args.columns f c.args.row c.args.column) (PivotShare c.args.rows c.args.columns f c.args.row c.args.column) c.in_err-solve_row.field-0.0
-    (solve_of_pivot c.args.rows c.args.columns f c.args.row c.args.column) (c.in_err-solve_row.ensures.cause c.args.rows c.requires.size))
+    (solve_of_pivot c.args.rows c.args.columns f c.args.row c.args.column) (c.in_err-solve_row.ensures.stops c.args.rows c.requires.size))
 
-pub returns-in_err-clear_row-clause-cause : goal.returns-in_err-clear_row-clause-cause
-returns-in_err-clear_row-clause-cause g c =
+pub returns-in_err-clear_row-clause-stops : goal.returns-in_err-clear_row-clause-stops
+returns-in_err-clear_row-clause-stops g c =
     let value : g.row.N.Denot → Fraction = g.N.Exact.value in
     let f : ℕ → ℕ → Fraction = cell c.args.columns (map value c.args.table.now.items) in
     let cur : ℕ → ℕ → Fraction = cell c.args.columns (map value c.loop-i.table.items) in
@@ -62,4 +62,4 @@ returns-in_err-clear_row-clause-cause g c =
     (clear_of_pivot c.args.rows c.args.columns f cur i c.args.row c.args.column c.loop-i-test.true c.if-i-row.true c.requires.within
     (λ j hj. s.at i j c.loop-i-test.true hj ∙ pivoting-yet f c.args.row c.args.column i i j c.if-i-row.true (Prim.omega arith))
     (λ j hj. s.at c.args.row j c.requires.row hj ∙ pivoting-solved f c.args.row c.args.column i c.args.row j refl))
-    (c.in_err-clear_row.ensures.cause c.args.rows (c.loop-i.invariant.0 ∙ c.requires.size)))
+    (c.in_err-clear_row.ensures.stops c.args.rows (c.loop-i.invariant.0 ∙ c.requires.size)))

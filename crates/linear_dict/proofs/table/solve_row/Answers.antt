@@ -60,8 +60,8 @@ returns-clause-solved g c = λ rows e.
     c.requires.within c.requires.room c.loop-j-test.false c.loop-j.invariant rows e
     (c.recip-inverse.ensures ∙ ap recip_ℚ (cell_read_within g.N.Exact.value c.args.table.now.items c.args.columns c.args.row c.args.column c.index.result.now (Prim.omega (arith, c.requires.room, c.requires.within)) c.index.ensures))
 
-pub returns-in_err-divided-clause-cause : goal.returns-in_err-divided-clause-cause
-returns-in_err-divided-clause-cause g c =
+pub returns-in_err-divided-clause-stops : goal.returns-in_err-divided-clause-stops
+returns-in_err-divided-clause-stops g c =
     let value : g.row.N.Denot → Fraction = g.N.Exact.value in
     let old : List g.row.N.Denot = c.args.table.now.items in
     let columns : ℕ = c.args.columns in

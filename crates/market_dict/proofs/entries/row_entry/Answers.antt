@@ -12,7 +12,7 @@ unit_factor-requires-clause-lost g c = (at_places c.args.market.now c.lines-line
 pub returns-clause-entry : goal.returns-clause-entry
 returns-clause-entry g c = c.by_side.ensures ∙ ap (signed_by_side c.args.block.now.side) c.in_ok-unit_factor.ensures.factor
 
-pub returns-in_err-unit_factor-clause-cause : goal.returns-in_err-unit_factor-clause-cause
-returns-in_err-unit_factor-clause-cause g c =
+pub returns-in_err-unit_factor-clause-stops : goal.returns-in_err-unit_factor-clause-stops
+returns-in_err-unit_factor-clause-stops g c =
     let given : c.from_residual.result ≡ Err c.in_err-unit_factor.field-0.0 = search rules in
-    rw given c.in_err-unit_factor.ensures.cause
+    rw given c.in_err-unit_factor.ensures.stops

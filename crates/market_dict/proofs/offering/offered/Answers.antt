@@ -28,8 +28,8 @@ loop-offer-preserved g c =
     let read = ap (λ (os : List ReserveOffer). slice_index_or os k (record { unit = 0; quantity = pos 0; price = pos 0 })) offers in
     offered_step m k (g.N.Exact.value c.loop-offer.mw) _ (g.N.Exact.value c.offer_quantity.result) c.loop-offer.invariant (c.offer_quantity.ensures ∙ ap (λ (o : ReserveOffer). whole o.quantity) read) c.in_ok-mw.ensures.exact
 
-pub returns-in_err-mw-clause-cause : goal.returns-in_err-mw-clause-cause
-returns-in_err-mw-clause-cause g c =
+pub returns-in_err-mw-clause-stops : goal.returns-in_err-mw-clause-stops
+returns-in_err-mw-clause-stops g c =
     let m = c.args.market.now in
     let value = g.N.Exact.value in
     let k = c.loop-offer.offer-index in

@@ -16,8 +16,8 @@ returns-clause-flows g c =
     let same = ap (λ (xs : List Fraction). flows_at m (dispatch_with xs [])) nothing ∙ flows_same m (replicate (length m.blocks) zero) [] (replicate (length m.reserve.offers) zero) in
     IfOk-weaker c.flows_made.result _ _ (λ flows is. is ∙ same) c.flows_made.ensures.flows
 
-pub returns-clause-cause : goal.returns-clause-cause
-returns-clause-cause g c =
+pub returns-clause-stops : goal.returns-clause-stops
+returns-clause-stops g c =
     let m = c.args.market.now in
     let blocks = c.len.ensures ∙ ap length c.blocks-2.ensures.list in
     let nothing = ap (map g.N.Exact.value) c.deref.ensures.value ∙ c.in_ok-nothing.ensures.zeros ∙ ap (λ (n : ℕ). replicate n zero) blocks in
@@ -25,4 +25,4 @@ returns-clause-cause g c =
     (λ stop why. on_passed_weaker stop _ _
     (λ p h. flows_refused_same m (replicate (length m.blocks) zero) [] (replicate (length m.reserve.offers) zero) g.N.Exact.bound (passed_at g.N.Exact.value p)
     (subst (λ (xs : List Fraction). IsFlowsRefusal m (dispatch_with xs []) g.N.Exact.bound (passed_at g.N.Exact.value p)) nothing h)) why)
-    c.flows_made.ensures.cause
+    c.flows_made.ensures.stops

@@ -14,11 +14,11 @@ use Rattle.market_dict.specs.Refusals.{of_sum}
 use Rattle.market_dict.proofs.posing.first_row_bounds.Goals as goal
 use Rattle.market_dict.proofs.posing.first_row_bounds.Goals.{then-reserve+in_ok-need_bounds+in_ok-push-2, else-reserve}
 
-pub returns-in_err-residual_demand-clause-cause : goal.returns-in_err-residual_demand-clause-cause
-returns-in_err-residual_demand-clause-cause g c =
+pub returns-in_err-residual_demand-clause-stops : goal.returns-in_err-residual_demand-clause-stops
+returns-in_err-residual_demand-clause-stops g c =
     let p = err_from_is_err_and c.from_residual.result c.from_residual.ensures.1 in
     let given : c.from_residual.result ≡ Err (StoppedBy c.in_err-residual_demand.field-0.0) = p.1 ∙ ap Err p.2 in
-    rw given (of_sum (_, flow_in_balance _ balance_of_all, c.in_err-residual_demand.ensures.cause))
+    rw given (of_sum (_, flow_in_balance _ balance_of_all, c.in_err-residual_demand.ensures.stops))
 
 pub returns-clause-bounds : goal.returns-clause-bounds
 returns-clause-bounds g c =

@@ -17,11 +17,11 @@ use Rattle.market_dict.proofs.RefusalLaws.{bounds_among}
 use Rattle.market_dict.proofs.TakingLists.{limits_within}
 use Rattle.market_dict.proofs.posing.prices_and_bounds.Goals as goal
 
-pub returns-in_err-base_flows-clause-cause : goal.returns-in_err-base_flows-clause-cause
-returns-in_err-base_flows-clause-cause g c =
+pub returns-in_err-base_flows-clause-stops : goal.returns-in_err-base_flows-clause-stops
+returns-in_err-base_flows-clause-stops g c =
     let p = err_from_is_err_and c.from_residual-in_err-base_flows.result c.from_residual-in_err-base_flows.ensures.1 in
     let given : c.from_residual-in_err-base_flows.result ≡ Err c.in_err-base_flows.field-0.0 = p.1 ∙ ap Err p.2 in
-    rw given (on_passed_weaker c.in_err-base_flows.field-0.0 _ _ (λ q h. of_sum (h.0, flow_carried c.args.market.now (empty c.args.market.now) h.0 h.1, h.2)) c.in_err-base_flows.ensures.cause)
+    rw given (on_passed_weaker c.in_err-base_flows.field-0.0 _ _ (λ q h. of_sum (h.0, flow_carried c.args.market.now (empty c.args.market.now) h.0 h.1, h.2)) c.in_err-base_flows.ensures.stops)
 
 pub loop-taking-preserved : goal.loop-taking-preserved
 loop-taking-preserved g c =
@@ -32,8 +32,8 @@ loop-taking-preserved g c =
     let more : take (k + 1) taken ≡ take k taken ++ slice_index_or taken k none ∷ [] = take_more taken k none c.loop-taking-test.true in
     subst (λ (ts : List Taking). ArePricesAndBounds g.N.Exact.value m ts c.take_bounds.new.posing) (sym more) (c.in_ok-take_bounds.ensures.taken (take k taken) c.loop-taking.invariant)
 
-pub returns-in_err-take_bounds-clause-cause : goal.returns-in_err-take_bounds-clause-cause
-returns-in_err-take_bounds-clause-cause g c =
+pub returns-in_err-take_bounds-clause-stops : goal.returns-in_err-take_bounds-clause-stops
+returns-in_err-take_bounds-clause-stops g c =
     let m = c.args.market.now in
     let taken = c.args.taken.now in
     let none : Taking = Limit (record { line = 0; cause = Base }) in
@@ -42,4 +42,4 @@ returns-in_err-take_bounds-clause-cause g c =
     let p = err_from_is_err_and c.from_residual-in_err-take_bounds.result c.from_residual-in_err-take_bounds.ensures.1 in
     let given : c.from_residual-in_err-take_bounds.result ≡ Err c.in_err-take_bounds.field-0.0 = p.1 ∙ ap Err p.2 in
     rw given
-    (on_passed_weaker c.in_err-take_bounds.field-0.0 _ _ (λ q h. bounds_among m (limits_of (taking ∷ [])) (limits_of taken) g.N.Exact.bound (passed_at g.N.Exact.value q) among h) c.in_err-take_bounds.ensures.cause)
+    (on_passed_weaker c.in_err-take_bounds.field-0.0 _ _ (λ q h. bounds_among m (limits_of (taking ∷ [])) (limits_of taken) g.N.Exact.bound (passed_at g.N.Exact.value q) among h) c.in_err-take_bounds.ensures.stops)

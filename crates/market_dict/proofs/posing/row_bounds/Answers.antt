@@ -29,19 +29,19 @@ row_flow-requires-clause-lost g c = (at_places c.args.market.now c.lines-lines.e
 pub limit_at-requires : goal.limit_at-requires
 limit_at-requires g c = (at_places c.args.market.now c.lines-lines.ensures.market c.args.row c.requires.row).0
 
-pub returns-in_err-flow-clause-cause : goal.returns-in_err-flow-clause-cause
-returns-in_err-flow-clause-cause g c =
+pub returns-in_err-flow-clause-stops : goal.returns-in_err-flow-clause-stops
+returns-in_err-flow-clause-stops g c =
     let m = c.args.market.now in
     let given : c.from_residual.result ≡ Err c.in_err-flow.field-0.0 = search rules in
     let p = passed_at g.N.Exact.value c.in_err-flow.field-0.0 in
     let here : IsFlowRefusal m (carried_at m (map g.N.Exact.value c.args.base_flows.now)) c.args.row g.N.Exact.bound p =
-    subst (λ (k : Carried). IsFlowRefusal m k c.args.row g.N.Exact.bound p) c.carried_flows.ensures.is c.in_err-flow.ensures.cause in
+    subst (λ (k : Carried). IsFlowRefusal m k c.args.row g.N.Exact.bound p) c.carried_flows.ensures.is c.in_err-flow.ensures.stops in
     rw given
     (bounds_refused m (carried_at m (map g.N.Exact.value c.args.base_flows.now)) c.args.row g.N.Exact.bound p c.requires.row
     (row_terms m (empty m) (map g.N.Exact.value c.args.base_flows.now) c.requires.base_flows c.args.row c.lines-lines.ensures.market c.requires.row) here)
 
-pub returns-in_err-high-clause-cause : goal.returns-in_err-high-clause-cause
-returns-in_err-high-clause-cause g c =
+pub returns-in_err-high-clause-stops : goal.returns-in_err-high-clause-stops
+returns-in_err-high-clause-stops g c =
     let m = c.args.market.now in
     let r = c.args.row in
     let known : to_z w64 (of_z w64 c.limit_at.result) ≡ c.limit_at.result = to_z-of_z w64 c.limit_at.result (record { sfits = c.limit_at.type_inv }) in
@@ -50,8 +50,8 @@ returns-in_err-high-clause-cause g c =
     let given : c.from_residual-in_err-high.result ≡ Err c.in_err-high.field-0.0 = search rules in
     rw given (of_bound c.args.row c.requires.row (Contains-head c.args.row []) (of_high (refusal g.N.Exact.value g.N.Exact.bound Minus c.datum-limit.result c.in_ok-flow.flow (limit m r) (flow m (empty m) r) c.in_err-high.field-0.0 limit_is flow_is c.in_err-high.ensures)))
 
-pub returns-in_err-low-clause-cause : goal.returns-in_err-low-clause-cause
-returns-in_err-low-clause-cause g c =
+pub returns-in_err-low-clause-stops : goal.returns-in_err-low-clause-stops
+returns-in_err-low-clause-stops g c =
     let m = c.args.market.now in
     let r = c.args.row in
     let known : to_z w64 (of_z w64 c.limit_at.result) ≡ c.limit_at.result = to_z-of_z w64 c.limit_at.result (record { sfits = c.limit_at.type_inv }) in

@@ -11,11 +11,11 @@ use Rattle.market_dict.proofs.ColumnLists.{mapped_limit, mapped_rows}
 use Rattle.market_dict.proofs.ListedLemmas.{map-pushed}
 use Rattle.market_dict.proofs.posing.take_limit_bounds.Goals as goal
 
-pub returns-in_err-bounds-clause-cause : goal.returns-in_err-bounds-clause-cause
-returns-in_err-bounds-clause-cause g c =
+pub returns-in_err-bounds-clause-stops : goal.returns-in_err-bounds-clause-stops
+returns-in_err-bounds-clause-stops g c =
     let p = err_from_is_err_and c.from_residual.result c.from_residual.ensures.1 in
     let given : c.from_residual.result ≡ Err (StoppedBy c.in_err-bounds.field-0.0) = p.1 ∙ ap Err p.2 in
-    rw given c.in_err-bounds.ensures.cause
+    rw given c.in_err-bounds.ensures.stops
 
 pub returns-clause-taken : goal.returns-clause-taken
 returns-clause-taken g c = λ ts are.

@@ -57,8 +57,8 @@ returns-in-Ok-clause-taken g c = λ ts holds.
     g.N.Exact.value c.slice.result.now (ap (map g.N.Exact.value) c.slice.ensures ∙ c.in_ok-entries.ensures.entries ts absent count) c.add_row.new.self
     (subst (λ (n : ℕ). AddsRow g.N.Exact.value c.put_columns.new.dict n c.slice.result.now c.add_row.new.self) c.name_of-name.ensures c.in-Ok.ensures.added)
 
-pub returns-in-Err-Passed-clause-cause : goal.returns-in-Err-Passed-clause-cause
-returns-in-Err-Passed-clause-cause g c = λ ts holds.
+pub returns-in-Err-Passed-clause-stops : goal.returns-in-Err-Passed-clause-stops
+returns-in-Err-Passed-clause-stops g c = λ ts holds.
     let m = c.args.market.now in
     let market = c.lines-lines.ensures.market in
     let h = c.requires.holds in
@@ -71,8 +71,8 @@ returns-in-Err-Passed-clause-cause g c = λ ts holds.
     g.N.Exact.value c.slice.result.now (ap (map g.N.Exact.value) c.slice.ensures ∙ c.in_ok-entries.ensures.entries ts absent count) g.N.Exact.bound c.in-Err-Passed.passed
     (subst (λ (n : ℕ). IsPairWith g.N.Exact.value g.N.Exact.bound c.put_columns.new.dict n c.slice.result.now c.in-Err-Passed.passed) c.name_of-name.ensures pair))
 
-pub returns-in_err-entries-clause-cause : goal.returns-in_err-entries-clause-cause
-returns-in_err-entries-clause-cause g c = λ ts holds.
+pub returns-in_err-entries-clause-stops : goal.returns-in_err-entries-clause-stops
+returns-in_err-entries-clause-stops g c = λ ts holds.
     let p = err_from_is_err_and c.from_residual.result c.from_residual.ensures.1 in
     let given : c.from_residual.result ≡ Err c.in_err-entries.field-0.0 = p.1 ∙ ap Err p.2 in
-    rw given (on_passed_weaker c.in_err-entries.field-0.0 _ _ (λ pair why. inr why) c.in_err-entries.ensures.cause)
+    rw given (on_passed_weaker c.in_err-entries.field-0.0 _ _ (λ pair why. inr why) c.in_err-entries.ensures.stops)

@@ -12,8 +12,8 @@ loop-mw-preserved g c = sum_step g.N.Exact.value c.args.injections.now c.loop-mw
 pub returns-clause-sum : goal.returns-clause-sum
 returns-clause-sum g c = λ x puts. c.loop-mw.invariant ∙ sum_end g.N.Exact.value c.args.injections.now c.loop-mw.mw-index c.loop-mw-test.false ∙ balance_is g.N.Exact.value c.args.market.now x c.args.injections.now puts
 
-pub returns-in_err-sum-clause-cause : goal.returns-in_err-sum-clause-cause
-returns-in_err-sum-clause-cause g c =
+pub returns-in_err-sum-clause-stops : goal.returns-in_err-sum-clause-stops
+returns-in_err-sum-clause-stops g c =
     let given : c.from_residual.result ≡ Err c.in_err-sum.field-0.0 = search rules in
     λ x puts. rw given
     (balance_refused g.N.Exact.value c.args.market.now x c.args.injections.now puts c.loop-mw.mw-index c.mw-item.result (g.N.Exact.value c.loop-mw.sum) g.N.Exact.bound

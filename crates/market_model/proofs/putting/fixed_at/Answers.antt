@@ -18,8 +18,8 @@ returns-clause-sum g c =
     let all : c.loop-at.at ≡ length c.args.market.now.units = omega (arith, ap length units) in
     rw all at c.loop-at.invariant
 
-pub returns-in_err-mw-clause-cause : goal.returns-in_err-mw-clause-cause
-returns-in_err-mw-clause-cause g c =
+pub returns-in_err-mw-clause-stops : goal.returns-in_err-mw-clause-stops
+returns-in_err-mw-clause-stops g c =
     let m = c.args.market.now in
     let k = c.loop-at.at in
     let units = c.slice-unit-items.ensures ∙ c.units.ensures.list in
@@ -28,4 +28,4 @@ returns-in_err-mw-clause-cause g c =
     rw given
     (fixed_refused m c.args.bus k _ (g.N.Exact.value c.loop-at.mw) g.N.Exact.bound (passed_at g.N.Exact.value c.in_err-mw.field-0.0) below
     (ap (λ (us : List unit.Unit). slice_index_or {A = unit.Unit} us k (record { row = 0; bus = 0; fixed = pos 0; up = pos 0; down = pos 0 })) units)
-    c.in_err-mw.ensures.counts c.loop-at.invariant (rw c.fixed_of.ensures at c.in_err-mw.ensures.cause))
+    c.in_err-mw.ensures.counts c.loop-at.invariant (rw c.fixed_of.ensures at c.in_err-mw.ensures.stops))

@@ -15,7 +15,7 @@ returns-clause-injections g c =
     all_put g.N.Exact.value (injection c.args.market.now (dispatch_of g.N.Exact.value c.args.dispatch.now)) c.loop-bus.out c.loop-bus.bus (length c.args.market.now.buses)
     (c.loop-bus.auto.out ∙ c.requires.out) (omega (arith, c.loop-bus-test.false, c.requires.out)) c.loop-bus.invariant
 
-pub returns-in_err-mw-clause-cause : goal.returns-in_err-mw-clause-cause
-returns-in_err-mw-clause-cause g c =
+pub returns-in_err-mw-clause-stops : goal.returns-in_err-mw-clause-stops
+returns-in_err-mw-clause-stops g c =
     let given : c.from_residual.result ≡ Err c.in_err-mw.field-0.0 = search rules in
-    rw given (_, injection_at c.loop-bus.bus (omega (arith, c.loop-bus-test.true, c.requires.out)), c.in_err-mw.ensures.cause)
+    rw given (_, injection_at c.loop-bus.bus (omega (arith, c.loop-bus-test.true, c.requires.out)), c.in_err-mw.ensures.stops)

@@ -25,8 +25,8 @@ returns-clause-output g c =
     let all : c.loop-at.at ≡ length c.args.market.now.blocks = omega (arith, ap length blocks) in
     rw all at c.loop-at.invariant
 
-pub returns-in_err-mw-clause-cause : goal.returns-in_err-mw-clause-cause
-returns-in_err-mw-clause-cause g c =
+pub returns-in_err-mw-clause-stops : goal.returns-in_err-mw-clause-stops
+returns-in_err-mw-clause-stops g c =
     let m = c.args.market.now in
     let k = c.loop-at.at in
     let blocks = c.slice-block-items.ensures ∙ c.blocks-2.ensures.list in
@@ -36,4 +36,4 @@ returns-in_err-mw-clause-cause g c =
     (output_refused g.N.Exact.value m c.args.dispatch.now g.N.Exact.bound (passed_at g.N.Exact.value c.in_err-mw.field-0.0) c.args.unit k _ c.index-dispatch-at.result (g.N.Exact.value c.loop-at.mw)
     below (omega (arith, below, c.requires.dispatch)) c.index-dispatch-at.is
     (ap (λ bs. slice_index_or bs k (record { unit = 0; side = Sell; quantity = pos 0; price = pos 0 })) blocks)
-    c.in_err-mw.ensures.counts c.loop-at.invariant (rw c.by_side.ensures at c.in_err-mw.ensures.cause))
+    c.in_err-mw.ensures.counts c.loop-at.invariant (rw c.by_side.ensures at c.in_err-mw.ensures.stops))

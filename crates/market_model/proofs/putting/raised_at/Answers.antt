@@ -30,8 +30,8 @@ returns-clause-sum g c =
     let all : c.loop-at.at ≡ length c.args.market.now.blocks = omega (arith, ap length blocks) in
     rw all at c.loop-at.invariant
 
-pub returns-in_err-mw-clause-cause : goal.returns-in_err-mw-clause-cause
-returns-in_err-mw-clause-cause g c =
+pub returns-in_err-mw-clause-stops : goal.returns-in_err-mw-clause-stops
+returns-in_err-mw-clause-stops g c =
     let m = c.args.market.now in
     let k = c.loop-at.at in
     let blocks = c.slice-block-items.ensures ∙ c.blocks-2.ensures.list in
@@ -44,4 +44,4 @@ returns-in_err-mw-clause-cause g c =
     (passed_at g.N.Exact.value c.in_err-mw.field-0.0) below block
     (ap (λ (v : unit.Unit). v.bus == c.args.bus) u) c.in_err-mw.ensures.counts
     (accepted_is g.N.Exact.value c.args.dispatch.now k c.index-dispatch-at.result (omega (arith, below, c.requires.dispatch)) c.index-dispatch-at.is)
-    c.loop-at.invariant (rw c.by_side.ensures at c.in_err-mw.ensures.cause))
+    c.loop-at.invariant (rw c.by_side.ensures at c.in_err-mw.ensures.stops))

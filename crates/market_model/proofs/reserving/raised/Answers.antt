@@ -24,8 +24,8 @@ loop-at-preserved g c =
     (c.by_side.ensures ∙ ap (λ (b : Block). signed_by_side b.side (value c.index-dispatch-at.result)) block ∙ ap (signed_by_side (block_at m k).side) (sym (accepted_is value c.args.dispatch.now k c.index-dispatch-at.result inside c.index-dispatch-at.is)))
     c.loop-at.invariant c.in_ok-mw.ensures.sum
 
-pub returns-in_err-mw-clause-cause : goal.returns-in_err-mw-clause-cause
-returns-in_err-mw-clause-cause g c =
+pub returns-in_err-mw-clause-stops : goal.returns-in_err-mw-clause-stops
+returns-in_err-mw-clause-stops g c =
     let m = c.args.market.now in
     let value = g.N.Exact.value in
     let k = c.loop-at.at in
@@ -41,4 +41,4 @@ returns-in_err-mw-clause-cause g c =
     (length m.blocks) k _ (value c.by_side.result) (value c.loop-at.mw) g.N.Exact.bound (passed_at value c.in_err-mw.field-0.0) refl below
     (ap (λ (b : Block). b.unit == u) block) c.in_err-mw.ensures.counts
     (c.by_side.ensures ∙ ap (λ (b : Block). signed_by_side b.side (value c.index-dispatch-at.result)) block ∙ ap (signed_by_side (block_at m k).side) (sym (accepted_is value c.args.dispatch.now k c.index-dispatch-at.result inside c.index-dispatch-at.is)))
-    c.loop-at.invariant c.in_err-mw.ensures.cause)
+    c.loop-at.invariant c.in_err-mw.ensures.stops)

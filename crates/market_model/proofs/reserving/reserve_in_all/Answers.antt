@@ -25,8 +25,8 @@ returns-clause-sum g c = λ m blocks count.
     let all : c.loop-mw.mw-index ≡ length m.reserve.offers = omega (arith, c.loop-mw-test.false, c.loop-mw.auto.mw-index-end, count) in
     c.loop-mw.invariant ∙ ap (λ n. total (map (reserved_term (dispatch_with [] (map value c.args.reserve.now))) (places n))) all
 
-pub returns-in_err-sum-clause-cause : goal.returns-in_err-sum-clause-cause
-returns-in_err-sum-clause-cause g c =
+pub returns-in_err-sum-clause-stops : goal.returns-in_err-sum-clause-stops
+returns-in_err-sum-clause-stops g c =
     let value = g.N.Exact.value in
     let k = c.loop-mw.mw-index in
     let rs = c.args.reserve.now in

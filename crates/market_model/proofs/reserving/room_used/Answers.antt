@@ -36,8 +36,8 @@ returns-clause-used g c =
     let x = dispatch_with (map value c.args.dispatch.now) (map value c.args.reserve.now) in
     c.loop-at.invariant ∙ ap (λ n. total (counted_to (map (block_term m x) (blocks_of m c.args.unit)) (λ n. (offer_at m n).unit == c.args.unit) (reserved x) n)) all
 
-pub returns-in_err-mw-2-clause-cause : goal.returns-in_err-mw-2-clause-cause
-returns-in_err-mw-2-clause-cause g c =
+pub returns-in_err-mw-2-clause-stops : goal.returns-in_err-mw-2-clause-stops
+returns-in_err-mw-2-clause-stops g c =
     let m = c.args.market.now in
     let value = g.N.Exact.value in
     let k = c.loop-at.at in
@@ -53,4 +53,4 @@ returns-in_err-mw-2-clause-cause g c =
     (counted_refused (map (block_term m x) (blocks_of m u)) (λ n. (offer_at m n).unit == u) (reserved x) [] (room_terms m x u) (length m.reserve.offers) k _
     (value c.index-reserve-at.result) (value c.loop-at.mw) g.N.Exact.bound (passed_at value c.in_err-mw-2.field-0.0) (sym (append-nil (room_terms m x u))) below
     (ap (λ (o : ReserveOffer). o.unit == u) offer) c.in_err-mw-2.ensures.counts (sym (accepted_is value rs k c.index-reserve-at.result inside c.index-reserve-at.is))
-    c.loop-at.invariant c.in_err-mw-2.ensures.cause)
+    c.loop-at.invariant c.in_err-mw-2.ensures.stops)

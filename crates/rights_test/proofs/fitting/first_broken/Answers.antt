@@ -32,12 +32,12 @@ name_at-requires-clause-lost g c =
     let m = c.args.market.now in
     (at_places m c.lines-lines.ensures.market c.in-Some.row (taken_listed m _ _ _ c.loop-row.yielded (c.into_iter-row-iterator.ensures.into_iter_gives ∙ c.rows-row-items.ensures.rows) c.loop-row.yielded_by c.next.result c.in-Some.row c.in-Some.is c.next.ensures.steps)).1
 
-pub returns-in_err-flow-clause-cause : goal.returns-in_err-flow-clause-cause
-returns-in_err-flow-clause-cause g c =
+pub returns-in_err-flow-clause-stops : goal.returns-in_err-flow-clause-stops
+returns-in_err-flow-clause-stops g c =
     let m = c.args.market.now in
     let listed = taken_listed m _ _ _ c.loop-row.yielded (c.into_iter-row-iterator.ensures.into_iter_gives ∙ c.rows-row-items.ensures.rows) c.loop-row.yielded_by c.next.result c.in-Some.row c.in-Some.is c.next.ensures.steps in
     let given : c.from_residual.result ≡ Err c.in_err-flow.field-0.0 = search rules in
-    rw given (c.in-Some.row, listed, c.in_err-flow.ensures.cause)
+    rw given (c.in-Some.row, listed, c.in_err-flow.ensures.stops)
 
 pub returns-then-not-is_within-clause-fit : goal.returns-then-not-is_within-clause-fit
 returns-then-not-is_within-clause-fit g c =

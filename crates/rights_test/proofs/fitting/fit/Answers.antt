@@ -11,13 +11,13 @@ use Rattle.rights_test.proofs.fitting.fit.Goals as goal
 pub first_broken-requires : goal.first_broken-requires
 first_broken-requires g c = carried_count g.N.Exact.value c.args.market.now c.args.rights.now c.deref.result.now (ap (map g.N.Exact.value) c.deref.ensures.value ∙ c.in_ok-carried.ensures.flows)
 
-pub returns-in_err-fit-clause-cause : goal.returns-in_err-fit-clause-cause
-returns-in_err-fit-clause-cause g c =
+pub returns-in_err-fit-clause-stops : goal.returns-in_err-fit-clause-stops
+returns-in_err-fit-clause-stops g c =
     let m = c.args.market.now in
     let value = g.N.Exact.value in
     let given : c.from_residual-in_err-fit.result ≡ Err (why.Passed c.in_err-fit.field-0.0) = search rules in
     let are = ap (map value) c.deref.ensures.value ∙ c.in_ok-carried.ensures.flows in
-    let refused = c.in_err-fit.ensures.cause in
+    let refused = c.in_err-fit.ensures.stops in
     rw given (inr (refused.0, refused.1, row_refusal m c.args.rights.now (map value c.deref.result.now) are c.lines-lines.ensures.market refused.0 g.N.Exact.bound (passed_at value c.in_err-fit.field-0.0) refused.1 refused.2))
 
 pub returns-clause-fit : goal.returns-clause-fit

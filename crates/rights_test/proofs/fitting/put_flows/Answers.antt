@@ -7,10 +7,10 @@ use Rattle.rights_test.specs.Fits.{rights_at_bus, rights_on_line}
 use Rattle.rights_test.proofs.FitLemmas.{flows_put, line_refusal, lines_put}
 use Rattle.rights_test.proofs.fitting.put_flows.Goals as goal
 
-pub returns-in_err-put_rights-clause-cause : goal.returns-in_err-put_rights-clause-cause
-returns-in_err-put_rights-clause-cause g c =
+pub returns-in_err-put_rights-clause-stops : goal.returns-in_err-put_rights-clause-stops
+returns-in_err-put_rights-clause-stops g c =
     let given : c.from_residual.result ≡ Err c.in_err-put_rights.field-0.0 = search rules in
-    let sum = rw c.requires.by_bus at c.in_err-put_rights.ensures.cause in
+    let sum = rw c.requires.by_bus at c.in_err-put_rights.ensures.stops in
     rw given (sum.0, rights_at_bus sum.0 sum.1, sum.2)
 
 pub returns-clause-flows : goal.returns-clause-flows
@@ -26,11 +26,11 @@ returns-clause-flows g c =
     (split.front_len ∙ c.len.ensures ∙ ap length c.lines.ensures.list) (lines_put m rights mws puts (map value c.put_line_flows.new.out) e))
     c.put_line_flows.ensures.flows
 
-pub returns-clause-cause : goal.returns-clause-cause
-returns-clause-cause g c =
+pub returns-clause-stops : goal.returns-clause-stops
+returns-clause-stops g c =
     let m = c.args.market.now in
     let mws = map g.N.Exact.value c.put_rights.new.out in
     let puts : mws ≡ map (rights_injection c.args.rights.now) (places (length m.buses)) = rw c.requires.by_bus at c.in_ok-put_rights.ensures.injections in
     IfErr-weaker c.put_line_flows.result _ _
     (λ e h. let why = line_refusal m c.args.rights.now mws puts g.N.Exact.bound (passed_at g.N.Exact.value e) h in (why.0, rights_on_line why.0 why.1, why.2))
-    c.put_line_flows.ensures.cause
+    c.put_line_flows.ensures.stops

@@ -14,7 +14,7 @@ returns-clause-injections g c =
     all_put g.N.Exact.value (rights_injection c.args.rights.now) c.loop-bus.out c.loop-bus.bus (length c.args.out.now)
     c.loop-bus.auto.out (omega (arith, c.loop-bus-test.false)) c.loop-bus.invariant
 
-pub returns-in_err-mw-clause-cause : goal.returns-in_err-mw-clause-cause
-returns-in_err-mw-clause-cause g c =
+pub returns-in_err-mw-clause-stops : goal.returns-in_err-mw-clause-stops
+returns-in_err-mw-clause-stops g c =
     let given : c.from_residual.result ≡ Err c.in_err-mw.field-0.0 = search rules in
-    rw given (_, put_by_rights c.loop-bus.bus (omega (arith, c.loop-bus-test.true)), c.in_err-mw.ensures.cause)
+    rw given (_, put_by_rights c.loop-bus.bus (omega (arith, c.loop-bus-test.true)), c.in_err-mw.ensures.stops)

@@ -10,18 +10,18 @@ use Rattle.rights_test.proofs.BusSteps.{nothing}
 use Rattle.rights_test.proofs.PaySteps.{all_paid, paid_more, payment_refused, sum_refused, ArePaid}
 use Rattle.rights_test.proofs.paying.pay.Goals as goal
 
-pub returns-in_err-paid-clause-cause : goal.returns-in_err-paid-clause-cause
-returns-in_err-paid-clause-cause g c =
+pub returns-in_err-paid-clause-stops : goal.returns-in_err-paid-clause-stops
+returns-in_err-paid-clause-stops g c =
     let rights = c.args.rights.now in
     let k = c.loop-right.right-index in
     let t : TransmissionRight = get_or rights k nothing in
     let given : c.from_residual.result ≡ Err (why.Passed c.in_err-paid.field-0.0) = search rules in
     rw given
     (payment_refused (total_at g.N.Exact.value c.args.prices.now) rights k t c.loop-right-test.true (same_default rights k nothing t c.loop-right-test.true) g.N.Exact.bound (passed_at g.N.Exact.value c.in_err-paid.field-0.0)
-    c.in_err-paid.ensures.cause)
+    c.in_err-paid.ensures.stops)
 
-pub returns-in_err-total-clause-cause : goal.returns-in_err-total-clause-cause
-returns-in_err-total-clause-cause g c =
+pub returns-in_err-total-clause-stops : goal.returns-in_err-total-clause-stops
+returns-in_err-total-clause-stops g c =
     let value = g.N.Exact.value in
     let rights = c.args.rights.now in
     let k = c.loop-right.right-index in

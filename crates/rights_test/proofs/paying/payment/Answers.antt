@@ -5,8 +5,8 @@ use Rattle.market_model.proofs.SumSteps.{product_too_large, refusal}
 use Rattle.rights_test.proofs.PaySteps.{price_read}
 use Rattle.rights_test.proofs.paying.payment.Goals as goal
 
-pub returns-in_err-paid-clause-cause : goal.returns-in_err-paid-clause-cause
-returns-in_err-paid-clause-cause g c =
+pub returns-in_err-paid-clause-stops : goal.returns-in_err-paid-clause-stops
+returns-in_err-paid-clause-stops g c =
     let value = g.N.Exact.value in
     let t = c.args.right.now in
     let prices = c.args.prices.now in

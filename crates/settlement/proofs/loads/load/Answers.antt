@@ -6,8 +6,8 @@ use Rattle.exact_fraction.specs.declared.Op.TheVariants.{Times}
 use Rattle.market_model.proofs.SumSteps.{product_too_large, refusal}
 use Rattle.settlement.proofs.loads.load.Goals as goal
 
-pub returns-in_err-pays-clause-cause : goal.returns-in_err-pays-clause-cause
-returns-in_err-pays-clause-cause g c =
+pub returns-in_err-pays-clause-stops : goal.returns-in_err-pays-clause-stops
+returns-in_err-pays-clause-stops g c =
     let given : c.from_residual-in_err-pays.result ≡ Err c.in_err-pays.field-0.0 = search rules in
     let pd = c.datum-pd.ensures ∙ ap whole (to_z-of_z w64 c.args.bus.now.pd (datum_fits c.args.bus.now.pd c.requires.load)) in
     let gs = c.datum.ensures ∙ ap whole (to_z-of_z w64 c.args.bus.now.gs (datum_fits c.args.bus.now.gs c.requires.shunt)) in

@@ -27,8 +27,8 @@ returns-clause-loads g c =
     let all : c.loop-place.place ≡ length c.args.market.now.buses = omega (arith, ap length buses) in
     rw all at c.loop-place.invariant
 
-pub returns-in_err-load-clause-cause : goal.returns-in_err-load-clause-cause
-returns-in_err-load-clause-cause g c =
+pub returns-in_err-load-clause-stops : goal.returns-in_err-load-clause-stops
+returns-in_err-load-clause-stops g c =
     let m = c.args.market.now in
     let i = c.loop-place.place in
     let value = g.N.Exact.value in
@@ -39,4 +39,4 @@ returns-in_err-load-clause-cause g c =
     let at = ap (λ (bs : List Bus). slice_index_or bs i (record { number = 0; pd = pos 0; gs = pos 0 })) buses in
     let price = sym (price_is value prices i c.index-prices-place.result (omega (arith, c.requires, ap length buses))) in
     λ x d. rw given
-    (load_refusal m x (total_at value prices) d g.N.Exact.bound (passed_at value c.in_err-load.field-0.0) i _ _ below at price c.in_err-load.ensures.cause)
+    (load_refusal m x (total_at value prices) d g.N.Exact.bound (passed_at value c.in_err-load.field-0.0) i _ _ below at price c.in_err-load.ensures.stops)

@@ -25,8 +25,8 @@ returns-clause-pays g c =
     let all : c.loop-mw.mw-index ≡ length c.args.reserve.now = omega (arith, c.loop-mw-test.false, c.loop-mw.auto.mw-index-end) in
     rw all at c.loop-mw.invariant
 
-pub returns-in_err-paid-clause-cause : goal.returns-in_err-paid-clause-cause
-returns-in_err-paid-clause-cause g c =
+pub returns-in_err-paid-clause-stops : goal.returns-in_err-paid-clause-stops
+returns-in_err-paid-clause-stops g c =
     let value = g.N.Exact.value in
     let k = c.loop-mw.mw-index in
     let rs = c.args.reserve.now in

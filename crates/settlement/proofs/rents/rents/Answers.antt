@@ -46,8 +46,8 @@ returns-clause-rents g c =
     ∙ all_put_next (rent_of m x d) (named_rows m d) c.args.duals.now.limits (dual_at value) c.loop-dual.dual-index
     (named_count m c.lines-lines.ensures.market d c.requires.duals.named) (omega (arith, c.loop-dual-test.false, ap length c.slice-dual-items.ensures))
 
-pub returns-in_err-rent-clause-cause : goal.returns-in_err-rent-clause-cause
-returns-in_err-rent-clause-cause g c =
+pub returns-in_err-rent-clause-stops : goal.returns-in_err-rent-clause-stops
+returns-in_err-rent-clause-stops g c =
     let m = c.args.market.now in
     let value = g.N.Exact.value in
     let d = duals_at value c.args.duals.now in
@@ -60,4 +60,4 @@ returns-in_err-rent-clause-cause g c =
     let given : c.from_residual.result ≡ Err (why.Passed c.in_err-rent.field-0.0) = search rules in
     λ x price are. rw given
     (row_refusal m x fs are d k e r.0 r.1 c.lines-lines.ensures.market price g.N.Exact.bound p
-    (subst (λ (t : Row). IsRefusedAmong (PaidRowSum m (carried_at m fs) t) g.N.Exact.bound p ⊎ IsRefusedIn (rent_terms_by m (carried_at m fs) t e.up e.down) g.N.Exact.bound p ⊎ IsRefusedAmong (PickupSum m t) g.N.Exact.bound p) is c.in_err-rent.ensures.cause))
+    (subst (λ (t : Row). IsRefusedAmong (PaidRowSum m (carried_at m fs) t) g.N.Exact.bound p ⊎ IsRefusedIn (rent_terms_by m (carried_at m fs) t e.up e.down) g.N.Exact.bound p ⊎ IsRefusedAmong (PickupSum m t) g.N.Exact.bound p) is c.in_err-rent.ensures.stops))

@@ -20,8 +20,8 @@ returns-in_ok-room-in-Zero-clause-rent g c =
     ∙ upper_earned e (value c.args.priced) (value c.args.offset) (sign_of_is e.down Zero c.in-Zero.ensures))
     (λ _ _. tt)
 
-pub returns-in_ok-room-in-Zero-clause-cause : goal.returns-in_ok-room-in-Zero-clause-cause
-returns-in_ok-room-in-Zero-clause-cause g c =
+pub returns-in_ok-room-in-Zero-clause-stops : goal.returns-in_ok-room-in-Zero-clause-stops
+returns-in_ok-room-in-Zero-clause-stops g c =
     let value = g.N.Exact.value in
     let e = dual_at value c.args.dual.now in
     MatchResult-weaker c.times.result c.times.ensures (λ _ _. tt)
@@ -30,16 +30,16 @@ returns-in_ok-room-in-Zero-clause-cause g c =
     (refusal value g.N.Exact.bound Times c.args.dual.now.up c.in_ok-room-in-Zero.room _ _ p refl c.in_ok-room-in-Zero.ensures.exact
     (product_too_large value g.N.Exact.bound c.args.dual.now.up c.in_ok-room-in-Zero.room p is)))))
 
-pub returns-in_err-room-in-Zero-clause-cause : goal.returns-in_err-room-in-Zero-clause-cause
-returns-in_err-room-in-Zero-clause-cause g c =
+pub returns-in_err-room-in-Zero-clause-stops : goal.returns-in_err-room-in-Zero-clause-stops
+returns-in_err-room-in-Zero-clause-stops g c =
     let value = g.N.Exact.value in
     let given : c.from_residual.result ≡ Err c.in_err-room-in-Zero.field-0.0 = search rules in
     rw given
     (inl (less_refused (dual_at value c.args.dual.now) (value c.args.priced) (value c.args.offset) g.N.Exact.bound (passed_at value c.in_err-room-in-Zero.field-0.0)
     (refusal value g.N.Exact.bound Minus c.args.priced c.args.offset _ _ c.in_err-room-in-Zero.field-0.0 refl refl c.in_err-room-in-Zero.ensures)))
 
-pub returns-in_err-room-in-Below-clause-cause : goal.returns-in_err-room-in-Below-clause-cause
-returns-in_err-room-in-Below-clause-cause g c =
+pub returns-in_err-room-in-Below-clause-stops : goal.returns-in_err-room-in-Below-clause-stops
+returns-in_err-room-in-Below-clause-stops g c =
     let value = g.N.Exact.value in
     let given : c.from_residual-in_err-room-in-Below.result ≡ Err c.in_err-room-in-Below.field-0.0 = search rules in
     rw given

@@ -23,46 +23,46 @@ use Rattle.settlement.proofs.PayLemmas.{own_refusal}
 use Rattle.settlement.proofs.MoneyLemmas.{surplus_is, surplus_refused, rents_are_left, left_not_negative, count_fits, rows_fit}
 use Rattle.settlement.proofs.settling.settle_flows.Goals as goal
 
-pub returns-in_err-by_unit-clause-cause : goal.returns-in_err-by_unit-clause-cause
-returns-in_err-by_unit-clause-cause g c =
+pub returns-in_err-by_unit-clause-stops : goal.returns-in_err-by_unit-clause-stops
+returns-in_err-by_unit-clause-stops g c =
     let value = g.N.Exact.value in
     let x = dispatch_with (map value c.args.dispatch.now) (map value c.args.reserve.now) in
     let given : c.from_residual.result ≡ Err c.in_err-by_unit.field-0.0 = search rules in
     rw given
     (on_passed_weaker c.in_err-by_unit.field-0.0 _ _
-    (λ p why. own_refusal c.args.market.now x (total_at value c.args.prices.now) (duals_at value c.args.duals.now) g.N.Exact.bound (passed_at value p) why) c.in_err-by_unit.ensures.cause)
+    (λ p why. own_refusal c.args.market.now x (total_at value c.args.prices.now) (duals_at value c.args.duals.now) g.N.Exact.bound (passed_at value p) why) c.in_err-by_unit.ensures.stops)
 
 pub unit_pays-requires-clause-own : goal.unit_pays-requires-clause-own
 unit_pays-requires-clause-own g c = count_fits g.N.Exact.value _ _ _ (ap (map g.N.Exact.value) c.deref.ensures.value ∙ c.in_ok-by_unit.ensures.own)
 
-pub returns-in_err-units-clause-cause : goal.returns-in_err-units-clause-cause
-returns-in_err-units-clause-cause g c =
+pub returns-in_err-units-clause-stops : goal.returns-in_err-units-clause-stops
+returns-in_err-units-clause-stops g c =
     let given : c.from_residual-in_err-units.result ≡ Err c.in_err-units.field-0.0 = search rules in
     rw given
-    (c.in_err-units.ensures.cause (map g.N.Exact.value c.args.reserve.now) (total_at g.N.Exact.value c.args.prices.now) (duals_at g.N.Exact.value c.args.duals.now)
+    (c.in_err-units.ensures.stops (map g.N.Exact.value c.args.reserve.now) (total_at g.N.Exact.value c.args.prices.now) (duals_at g.N.Exact.value c.args.duals.now)
     (ap (map g.N.Exact.value) c.deref.ensures.value ∙ c.in_ok-by_unit.ensures.own))
 
 pub lost_prices-requires : goal.lost_prices-requires
 lost_prices-requires g c = count_fits g.N.Exact.value _ _ _ (ap (map g.N.Exact.value) c.deref-2.ensures.value ∙ c.in_ok-by_unit.ensures.own)
 
-pub returns-in_err-loads-clause-cause : goal.returns-in_err-loads-clause-cause
-returns-in_err-loads-clause-cause g c =
+pub returns-in_err-loads-clause-stops : goal.returns-in_err-loads-clause-stops
+returns-in_err-loads-clause-stops g c =
     let given : c.from_residual-in_err-loads.result ≡ Err c.in_err-loads.field-0.0 = search rules in
-    rw given (c.in_err-loads.ensures.cause (dispatch_with (map g.N.Exact.value c.args.dispatch.now) (map g.N.Exact.value c.args.reserve.now)) (duals_at g.N.Exact.value c.args.duals.now))
+    rw given (c.in_err-loads.ensures.stops (dispatch_with (map g.N.Exact.value c.args.dispatch.now) (map g.N.Exact.value c.args.reserve.now)) (duals_at g.N.Exact.value c.args.duals.now))
 
 pub rents-requires-clause-flows : goal.rents-requires-clause-flows
 rents-requires-clause-flows g c =
     sym (length-map c.args.flows.now g.N.Exact.value) ∙ flow_count c.args.market.now (dispatch_of g.N.Exact.value c.args.dispatch.now) (map g.N.Exact.value c.args.flows.now) c.requires.flows
 
-pub returns-in_err-rents-clause-cause : goal.returns-in_err-rents-clause-cause
-returns-in_err-rents-clause-cause g c =
+pub returns-in_err-rents-clause-stops : goal.returns-in_err-rents-clause-stops
+returns-in_err-rents-clause-stops g c =
     let given : c.from_residual-in_err-rents.result ≡ Err c.in_err-rents.field-0.0 = search rules in
     rw given
-    (c.in_err-rents.ensures.cause (dispatch_with (map g.N.Exact.value c.args.dispatch.now) (map g.N.Exact.value c.args.reserve.now)) (total_at g.N.Exact.value c.args.prices.now)
+    (c.in_err-rents.ensures.stops (dispatch_with (map g.N.Exact.value c.args.dispatch.now) (map g.N.Exact.value c.args.reserve.now)) (total_at g.N.Exact.value c.args.prices.now)
     (c.requires.flows ∙ flows_of_blocks c.args.market.now (map g.N.Exact.value c.args.dispatch.now) (map g.N.Exact.value c.args.reserve.now)))
 
-pub returns-in_err-surplus-clause-cause : goal.returns-in_err-surplus-clause-cause
-returns-in_err-surplus-clause-cause g c =
+pub returns-in_err-surplus-clause-stops : goal.returns-in_err-surplus-clause-stops
+returns-in_err-surplus-clause-stops g c =
     let m = c.args.market.now in
     let value = g.N.Exact.value in
     let x = dispatch_with (map value c.args.dispatch.now) (map value c.args.reserve.now) in
@@ -76,7 +76,7 @@ returns-in_err-surplus-clause-cause g c =
       surplus_terms_by m x price d,
       payment _ left_of_all,
       surplus_refused value m x price d c.in_ok-loads.loads c.in_ok-units.units c.in_ok-loads.ensures.loads pays g.N.Exact.bound p
-          (subst₂ (λ (ls : List (Load g.row.N.Denot)) (us : List (UnitPay g.row.N.Denot)). IsRefusedIn (paid_terms (map (load_at value) ls) (map (unit_pay_at value) us)) g.N.Exact.bound p) c.slice.ensures c.slice-2.ensures c.in_err-surplus.ensures.cause),
+          (subst₂ (λ (ls : List (Load g.row.N.Denot)) (us : List (UnitPay g.row.N.Denot)). IsRefusedIn (paid_terms (map (load_at value) ls) (map (unit_pay_at value) us)) g.N.Exact.bound p) c.slice.ensures c.slice-2.ensures c.in_err-surplus.ensures.stops),
     ))
 
 pub returns-clause-money : goal.returns-clause-money
@@ -137,9 +137,9 @@ returns-clause-not_negative g c =
     λ best.
     left_not_negative m x (duals_at value c.args.duals.now) (total_at value c.args.prices.now) c.lines-lines.ensures.market (money_at value money) (returns-clause-money g c) best
 
-pub returns-in_err-reserve-clause-cause : goal.returns-in_err-reserve-clause-cause
-returns-in_err-reserve-clause-cause g c =
+pub returns-in_err-reserve-clause-stops : goal.returns-in_err-reserve-clause-stops
+returns-in_err-reserve-clause-stops g c =
     let value = g.N.Exact.value in
     let given : c.from_residual-in_err-reserve.result ≡ Err c.in_err-reserve.field-0.0 = search rules in
     rw given
-    (c.in_err-reserve.ensures.cause c.args.market.now (map value c.args.dispatch.now) (total_at value c.args.prices.now) (duals_at value c.args.duals.now) c.requires.reserve refl)
+    (c.in_err-reserve.ensures.stops c.args.market.now (map value c.args.dispatch.now) (total_at value c.args.prices.now) (duals_at value c.args.duals.now) c.requires.reserve refl)

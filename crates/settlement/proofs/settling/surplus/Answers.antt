@@ -33,16 +33,16 @@ returns-clause-left g c =
     (sum_end (λ (unit : UnitPay g.row.N.Denot). neg_ℚ (g.N.Exact.value unit.paid)) c.args.units.now c.loop-unit.unit-index c.loop-unit-test.false)
     ∙ paid_total g.N.Exact.value c.args.loads.now c.args.units.now
 
-pub returns-in_err-surplus-clause-cause : goal.returns-in_err-surplus-clause-cause
-returns-in_err-surplus-clause-cause g c =
+pub returns-in_err-surplus-clause-stops : goal.returns-in_err-surplus-clause-stops
+returns-in_err-surplus-clause-stops g c =
     let given : c.from_residual.result ≡ Err c.in_err-surplus.field-0.0 = search rules in
     rw given
     (load_refused g.N.Exact.value c.args.loads.now c.args.units.now g.N.Exact.bound (passed_at g.N.Exact.value c.in_err-surplus.field-0.0) c.loop-load.load-index c.load-item.result (g.N.Exact.value c.loop-load.surplus)
     c.loop-load-test.true c.load-item.is c.loop-load.invariant
     (refusal g.N.Exact.value g.N.Exact.bound Op.Plus c.loop-load.surplus _ _ _ c.in_err-surplus.field-0.0 refl refl c.in_err-surplus.ensures))
 
-pub returns-in_err-surplus-2-clause-cause : goal.returns-in_err-surplus-2-clause-cause
-returns-in_err-surplus-2-clause-cause g c =
+pub returns-in_err-surplus-2-clause-stops : goal.returns-in_err-surplus-2-clause-stops
+returns-in_err-surplus-2-clause-stops g c =
     let given : c.from_residual-in_err-surplus-2.result ≡ Err c.in_err-surplus-2.field-0.0 = search rules in
     rw given
     (unit_refused g.N.Exact.value c.args.loads.now c.args.units.now g.N.Exact.bound (passed_at g.N.Exact.value c.in_err-surplus-2.field-0.0) c.loop-unit.unit-index c.unit-item.result (g.N.Exact.value c.loop-unit.surplus)

@@ -29,8 +29,8 @@ returns-clause-pays g c =
     let all : c.loop-place.place ≡ length c.args.market.now.units = omega (arith, c.requires.own) in
     rw all at c.loop-place.invariant
 
-pub returns-in_err-unit_pay-clause-cause : goal.returns-in_err-unit_pay-clause-cause
-returns-in_err-unit_pay-clause-cause g c =
+pub returns-in_err-unit_pay-clause-stops : goal.returns-in_err-unit_pay-clause-stops
+returns-in_err-unit_pay-clause-stops g c =
     let m = c.args.market.now in
     let i = c.loop-place.place in
     let value = g.N.Exact.value in
@@ -39,4 +39,4 @@ returns-in_err-unit_pay-clause-cause g c =
     λ reserve price d own. rw given
     (pay_refusal m (map value c.args.dispatch.now) reserve price d g.N.Exact.bound (passed_at value c.in_err-unit_pay.field-0.0) i _ below
     (put_read value c.args.own.now i c.index-own-place.result c.loop-place-test.true c.index-own-place.is ∙ filled_at (own_price m d price) _ (length m.units) (whole (pos 0)) own i below)
-    c.in_err-unit_pay.ensures.cause)
+    c.in_err-unit_pay.ensures.stops)

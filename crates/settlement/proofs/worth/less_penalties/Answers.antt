@@ -39,8 +39,8 @@ loop-row-preserved-then-is_soft g c = λ x are is.
     worth_less m x c.loop-row.yielded c.in-Some.row (sym c.is_soft.ensures ∙ c.if-is_soft.true) (map value c.args.flows.now) are c.buses-buses.ensures.market listed
     (value c.loop-row.sum) (value c.in_ok-sum.sum) (c.loop-row.invariant x are is) c.in_ok-sum.ensures.less
 
-pub returns-in_err-sum-clause-cause : goal.returns-in_err-sum-clause-cause
-returns-in_err-sum-clause-cause g c =
+pub returns-in_err-sum-clause-stops : goal.returns-in_err-sum-clause-stops
+returns-in_err-sum-clause-stops g c =
     let m = c.args.market.now in
     let value = g.N.Exact.value in
     let start = c.into_iter-row-iterator.ensures.into_iter_gives ∙ c.rows-row-items.ensures.rows in
@@ -49,7 +49,7 @@ returns-in_err-sum-clause-cause g c =
     λ x are is. rw given
     (cost_refused m x c.loop-row.yielded c.in-Some.row (sym c.is_soft.ensures ∙ c.if-is_soft.true) (map value c.args.flows.now) are c.buses-buses.ensures.market listed
     _ (value c.loop-row.sum) g.N.Exact.bound (passed_at value c.in_err-sum.field-0.0)
-    (taken_next m _ _ _ c.loop-row.yielded start c.loop-row.yielded_by c.next.result c.in-Some.row c.in-Some.is c.next.ensures.steps) (c.loop-row.invariant x are is) c.in_err-sum.ensures.cause)
+    (taken_next m _ _ _ c.loop-row.yielded start c.loop-row.yielded_by c.next.result c.in-Some.row c.in-Some.is c.next.ensures.steps) (c.loop-row.invariant x are is) c.in_err-sum.ensures.stops)
 
 pub returns-clause-worth : goal.returns-clause-worth
 returns-clause-worth g c =

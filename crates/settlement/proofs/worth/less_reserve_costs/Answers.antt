@@ -33,8 +33,8 @@ returns-clause-worth g c =
     costs_all value m c.args.reserve.now blocks (value c.args.of_energy) (value c.loop-place.sum) of_energy
     (c.loop-place.invariant ∙ ap (λ n. value c.args.of_energy +ℚ total (costs_to value m c.args.reserve.now n)) all)
 
-pub returns-in_err-sum-clause-cause : goal.returns-in_err-sum-clause-cause
-returns-in_err-sum-clause-cause g c =
+pub returns-in_err-sum-clause-stops : goal.returns-in_err-sum-clause-stops
+returns-in_err-sum-clause-stops g c =
     let m = c.args.market.now in
     let value = g.N.Exact.value in
     let k = c.loop-place.place in

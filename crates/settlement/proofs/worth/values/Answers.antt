@@ -20,8 +20,8 @@ returns-clause-values g c =
     let all : c.loop-place.place ≡ length c.args.market.now.blocks = omega (arith, ap length blocks) in
     rw all at c.loop-place.invariant
 
-pub returns-in_err-sum-clause-cause : goal.returns-in_err-sum-clause-cause
-returns-in_err-sum-clause-cause g c =
+pub returns-in_err-sum-clause-stops : goal.returns-in_err-sum-clause-stops
+returns-in_err-sum-clause-stops g c =
     let value = g.N.Exact.value in
     let m = c.args.market.now in
     let k = c.loop-place.place in

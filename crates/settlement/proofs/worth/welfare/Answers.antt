@@ -11,18 +11,18 @@ pub less_penalties-requires : goal.less_penalties-requires
 less_penalties-requires g c =
     sym (length-map c.args.flows.now g.N.Exact.value) ∙ flow_count c.args.market.now (dispatch_of g.N.Exact.value c.args.dispatch.now) (map g.N.Exact.value c.args.flows.now) c.requires.flows
 
-pub returns-in_err-of_blocks-clause-cause : goal.returns-in_err-of_blocks-clause-cause
-returns-in_err-of_blocks-clause-cause g c =
+pub returns-in_err-of_blocks-clause-stops : goal.returns-in_err-of_blocks-clause-stops
+returns-in_err-of_blocks-clause-stops g c =
     let given : c.from_residual.result ≡ Err c.in_err-of_blocks.field-0.0 = search rules in
-    rw given (inl (c.in_err-of_blocks.ensures.cause (map g.N.Exact.value c.args.reserve.now)))
+    rw given (inl (c.in_err-of_blocks.ensures.stops (map g.N.Exact.value c.args.reserve.now)))
 
-pub returns-in_err-of_energy-clause-cause : goal.returns-in_err-of_energy-clause-cause
-returns-in_err-of_energy-clause-cause g c =
+pub returns-in_err-of_energy-clause-stops : goal.returns-in_err-of_energy-clause-stops
+returns-in_err-of_energy-clause-stops g c =
     let m = c.args.market.now in
     let value = g.N.Exact.value in
     let given : c.from_residual-in_err-of_energy.result ≡ Err c.in_err-of_energy.field-0.0 = search rules in
     rw given
-    (c.in_err-of_energy.ensures.cause (dispatch_with (map value c.args.dispatch.now) (map value c.args.reserve.now))
+    (c.in_err-of_energy.ensures.stops (dispatch_with (map value c.args.dispatch.now) (map value c.args.reserve.now))
     (c.requires.flows ∙ flows_of_blocks m (map value c.args.dispatch.now) (map value c.args.reserve.now)) c.in_ok-of_blocks.ensures.values)
 
 pub returns-clause-worth : goal.returns-clause-worth
@@ -33,11 +33,11 @@ returns-clause-worth g c =
     (c.in_ok-of_energy.ensures.worth (dispatch_with (map value c.args.dispatch.now) (map value c.args.reserve.now))
     (c.requires.flows ∙ flows_of_blocks m (map value c.args.dispatch.now) (map value c.args.reserve.now)) c.in_ok-of_blocks.ensures.values)
 
-pub returns-clause-cause : goal.returns-clause-cause
-returns-clause-cause g c =
+pub returns-clause-stops : goal.returns-clause-stops
+returns-clause-stops g c =
     let m = c.args.market.now in
     let value = g.N.Exact.value in
     IfErr-weaker c.less_reserve_costs.result _ _ (λ passed refused. inl refused)
-    (c.less_reserve_costs.ensures.cause (map value c.args.dispatch.now)
+    (c.less_reserve_costs.ensures.stops (map value c.args.dispatch.now)
     (c.in_ok-of_energy.ensures.worth (dispatch_with (map value c.args.dispatch.now) (map value c.args.reserve.now))
     (c.requires.flows ∙ flows_of_blocks m (map value c.args.dispatch.now) (map value c.args.reserve.now)) c.in_ok-of_blocks.ensures.values))

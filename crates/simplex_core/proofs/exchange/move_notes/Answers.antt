@@ -68,8 +68,8 @@ returns-clause-notes g c =
     let f : ℕ → Noted = moved_note c.args.dict.now s.leaving s.entering s.above (g.N.Exact.value s.bound) (g.N.Exact.value s.displacement) (g.N.Exact.value s.price) in
     moving_end c.args.dict.now c.requires.sound f c.loop-rank.rank c.loop-rank.dict c.loop-rank.invariant (Prim.omega (arith, c.loop-rank-test.false, c.name_count-rank-end.ensures))
 
-pub returns-in_err-note-clause-cause : goal.returns-in_err-note-clause-cause
-returns-in_err-note-clause-cause g c =
+pub returns-in_err-note-clause-stops : goal.returns-in_err-note-clause-stops
+returns-in_err-note-clause-stops g c =
     let s = c.args.step.now in
     let value = g.N.Exact.value in
     let e : Dictionary = c.args.dict.now in
@@ -88,4 +88,4 @@ returns-in_err-note-clause-cause g c =
     (move_same e m.notes s.leaving s.entering far price (slice_index e.names k) (moving_note e c.requires.sound f k d m hk) x a b
     (subst (λ (z : Dictionary). MoveShare z s.leaving s.entering far price (slice_index e.names k) x a b) m.is
     (subst (λ (w : ℕ). MoveShare d s.leaving s.entering far price w x a b) name o))))
-    c.in_err-note.ensures.cause)
+    c.in_err-note.ensures.stops)

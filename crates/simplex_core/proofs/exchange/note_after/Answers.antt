@@ -60,9 +60,9 @@ returns-else-name-step-clause-note g c =
     ∙ sym (moved-staying d c.requires.sound s.leaving s.entering s.above (value s.bound) (value s.displacement) (value s.price) name
     (subst (Contains d.others) c.in-Column.ensures.1 (Contains-at d.others c.in-Column.column c.in-Column.ensures.0)) (λ q. c.if-name-step.false (c.ranked-name.ensures ∙ q)))
 
-pub returns-in_err-value-in-Row-clause-cause : goal.returns-in_err-value-in-Row-clause-cause
+pub returns-in_err-value-in-Row-clause-stops : goal.returns-in_err-value-in-Row-clause-stops
 unfolding choice_of
-returns-in_err-value-in-Row-clause-cause g c =
+returns-in_err-value-in-Row-clause-stops g c =
     let value = g.N.Exact.value in
     let d : Dictionary = c.args.dict.now in
     let name : ℕ = slice_index d.names c.args.rank in
@@ -74,9 +74,9 @@ returns-in_err-value-in-Row-clause-cause g c =
     (refused_share value g.N.Exact.bound (MoveShare d s.leaving s.entering (value s.displacement) (value s.price) name) c.note_at-note.result.value c.entry-entry.result s.displacement c.in_err-value-in-Row.field-0.0
     (note_of d name).value (entry_of d name s.leaving) (value s.displacement) c.in_err-value-in-Row.ensures (ap Noted.value c.note_at-note.ensures) entry refl (adding_rise basic))
 
-pub returns-in_err-reduced-in-Column-clause-cause : goal.returns-in_err-reduced-in-Column-clause-cause
+pub returns-in_err-reduced-in-Column-clause-stops : goal.returns-in_err-reduced-in-Column-clause-stops
 unfolding choice_of
-returns-in_err-reduced-in-Column-clause-cause g c =
+returns-in_err-reduced-in-Column-clause-stops g c =
     let value = g.N.Exact.value in
     let d : Dictionary = c.args.dict.now in
     let name : ℕ = slice_index d.names c.args.rank in

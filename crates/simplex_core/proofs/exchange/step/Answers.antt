@@ -112,4 +112,4 @@ returns-clause-pair g c =
     move_pair d c.requires.ready v k a c.requires.leaves c.requires.enters g.N.Exact.bound e.op (value e.left) (value e.right) r.x r.a r.b
     (subst (λ (x : Dictionary). MovesShare x v k (displacement (system_in d) (state_of d) v a) (note_of d k).reduced r.x r.a r.b) pivot
     (subst₂ (λ (x y : Fraction). MovesShare c.pivot.new.self v k x y r.x r.a r.b) far price r.asked)) r.refused)
-    c.move_notes.ensures.cause
+    c.move_notes.ensures.stops

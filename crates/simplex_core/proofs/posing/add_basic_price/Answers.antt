@@ -91,8 +91,8 @@ returns-clause-notes g c =
       | inr o ↦ absurd (apart o)
     ])
 
-pub returns-in_err-reduced-clause-cause : goal.returns-in_err-reduced-clause-cause
-returns-in_err-reduced-clause-cause g c =
+pub returns-in_err-reduced-clause-stops : goal.returns-in_err-reduced-clause-stops
+returns-in_err-reduced-clause-stops g c =
     let value = g.N.Exact.value in
     let d : Dictionary = c.args.dict.now in
     let e : Dictionary = c.loop-column.dict in

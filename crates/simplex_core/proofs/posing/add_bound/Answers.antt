@@ -106,8 +106,8 @@ returns-clause-notes g c =
       | inr o ↦ sym (bound_added-other d s b w o)
     ])
 
-pub returns-in_err-value-clause-cause : goal.returns-in_err-value-clause-cause
-returns-in_err-value-clause-cause g c =
+pub returns-in_err-value-clause-stops : goal.returns-in_err-value-clause-stops
+returns-in_err-value-clause-stops g c =
     let value = g.N.Exact.value in
     let d : Dictionary = c.args.dict.now in
     let e : Dictionary = c.loop-row.dict in

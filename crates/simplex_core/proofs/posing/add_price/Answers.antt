@@ -37,8 +37,8 @@ returns-in_ok-reduced-in-Column-clause-notes g c =
     (ap₂ with_reduced c.note-note.ensures
     (c.in_ok-reduced-in-Column.ensures.exact ∙ ap₂ ◌+ℚ◌ (ap Noted.reduced c.note-note.ensures) (price_is d j r c.note-note.ensures)))
 
-pub returns-in_err-reduced-in-Column-clause-cause : goal.returns-in_err-reduced-in-Column-clause-cause
-returns-in_err-reduced-in-Column-clause-cause g c =
+pub returns-in_err-reduced-in-Column-clause-stops : goal.returns-in_err-reduced-in-Column-clause-stops
+returns-in_err-reduced-in-Column-clause-stops g c =
     let value = g.N.Exact.value in
     let d : Dictionary = c.args.dict.now in
     let j : ℕ = c.args.name in

@@ -21,7 +21,7 @@ returns-in_err-dict-clause-clear g c =
     let given : c.from_residual-in_err-dict.result ≡ Err (fault_of c.in_err-dict.field-0.0) = p.1 ∙ ap Err p.2 in
     rw given
     (stopped_clear value g.N.Exact.bound m before.taken.rows c.replace-before.new.dest.taken.rows (start_rows m before.taken before.dict c.requires.frame) c.in_err-dict.field-0.0
-    (ap (λ (k : Kept). k.taken.rows) (c.replace-before.ensures.after ∙ c.unused.ensures)) (subst (λ rs. StopsInRange value g.N.Exact.bound m rs c.in_err-dict.field-0.0) first c.in_err-dict.ensures.cause))
+    (ap (λ (k : Kept). k.taken.rows) (c.replace-before.ensures.after ∙ c.unused.ensures)) (subst (λ rs. StopsInRange value g.N.Exact.bound m rs c.in_err-dict.field-0.0) first c.in_err-dict.ensures.stops))
 
 pub returns-in_err-hand-clause-clear : goal.returns-in_err-hand-clause-clear
 returns-in_err-hand-clause-clear g c =
@@ -34,7 +34,7 @@ returns-in_err-hand-clause-clear g c =
     let given : c.from_residual.result ≡ Err (fault_of c.in_err-hand.field-0.0) = p.1 ∙ ap Err p.2 in
     rw given
     (stopped_clear value g.N.Exact.bound m before.taken.rows c.replace-before.new.dest.taken.rows (start_rows m before.taken before.dict c.requires.frame) c.in_err-hand.field-0.0
-    (ap (λ (k : Kept). k.taken.rows) (c.replace-before.ensures.after ∙ c.unused.ensures)) (subst (λ rs. StopsInRange value g.N.Exact.bound m rs c.in_err-hand.field-0.0) first c.in_err-hand.ensures.cause))
+    (ap (λ (k : Kept). k.taken.rows) (c.replace-before.ensures.after ∙ c.unused.ensures)) (subst (λ rs. StopsInRange value g.N.Exact.bound m rs c.in_err-hand.field-0.0) first c.in_err-hand.ensures.stops))
 
 pub returns-in_err-dict-clause-kept : goal.returns-in_err-dict-clause-kept
 returns-in_err-dict-clause-kept g c =

@@ -86,8 +86,8 @@ returns-clause-added g c =
     (c.append-2.ensures ∙ ap₂ ◌++◌ same.3 c.deref-3.ensures.value) in
     adds_row_to c.self.view_is p.1
 
-pub returns-in_err-fresh-clause-cause : goal.returns-in_err-fresh-clause-cause
-returns-in_err-fresh-clause-cause g c =
+pub returns-in_err-fresh-clause-stops : goal.returns-in_err-fresh-clause-stops
+returns-in_err-fresh-clause-stops g c =
     let value = g.N.Exact.value in
     let s = c.self.inside in
     let vs : List (Variable g.row.N.Denot) = s.variables.items in
@@ -103,7 +103,7 @@ returns-in_err-fresh-clause-cause g c =
     (subst (λ (m : ℕ). RowShare value m s.table.items entries vs x a b) n
     (subst (λ (t : List g.row.N.Denot). RowShare value c.len.result t entries vs x a b) c.deref-2.ensures.value
     (subst (λ (us : List (Variable g.row.N.Denot)). RowShare value c.len.result c.deref-2.result.now entries us x a b) c.deref.ensures.value o))))) h)
-    c.in_err-fresh.ensures.cause)
+    c.in_err-fresh.ensures.stops)
 
 pub returns-in_err-fresh-clause-pair : goal.returns-in_err-fresh-clause-pair
 returns-in_err-fresh-clause-pair g c =
@@ -125,4 +125,4 @@ returns-in_err-fresh-clause-pair g c =
     (subst (λ (m : ℕ). RowShare value m s.table.items entries vs h.x h.a h.b) n
     (subst (λ (t : List g.row.N.Denot). RowShare value c.len.result t entries vs h.x h.a h.b) c.deref-2.ensures.value
     (subst (λ (us : List (Variable g.row.N.Denot)). RowShare value c.len.result c.deref-2.result.now entries us h.x h.a h.b) c.deref.ensures.value h.asked)))) h.refused))
-    c.in_err-fresh.ensures.cause)
+    c.in_err-fresh.ensures.stops)

@@ -37,7 +37,7 @@ returns-in_err-pivot_table-clause-pair g c =
     let rows : c.len.result ≡ length s.basics.items = Prim.omega (arith, c.len.ensures, s.basics.ok.0) in
     let columns : c.len-2.result ≡ length s.others.items = Prim.omega (arith, c.len-2.ensures, s.others.ok.0) in
     let entry : cell (length s.others.items) (map value s.table.items) c.args.r c.args.c ≢ whole (pos 0) = subst (λ (d : Dictionary). cell (length d.others) d.table c.args.r c.args.c ≢ whole (pos 0)) (sym c.self.view_is) c.requires.entry in
-    let refused = subst₂ (λ (m n : ℕ). IsRefused value g.N.Exact.bound (PivotShare m n (cell n (map value s.table.items)) c.args.r c.args.c) e) rows columns c.in_err-pivot_table.ensures.cause in
+    let refused = subst₂ (λ (m n : ℕ). IsRefused value g.N.Exact.bound (PivotShare m n (cell n (map value s.table.items)) c.args.r c.args.c) e) rows columns c.in_err-pivot_table.ensures.stops in
     let p = err_from_is_err_and c.from_residual.result c.from_residual.ensures.1 in
     rw (p.1, p.2)
     (subst (λ (d : Dictionary). IsPairOf value g.N.Exact.bound (system_in d) e) c.self.view_is
