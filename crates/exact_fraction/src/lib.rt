@@ -16,7 +16,7 @@ pub mod laws;
 mod ratio;
 mod sizes;
 mod sums;
-mod text;
+pub mod text;
 mod wide_sum;
 mod word;
 

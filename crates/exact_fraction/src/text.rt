@@ -1,11 +1,11 @@
-//! The texts of fractions of numbers of 127 bits, in a buffer of the caller.
+//! The texts of fractions of numbers of 127 bits, and the parts that the texts of longer ones are made of too, in a buffer of the caller.
 ghost use Rattle.std.specs.Prelude.{◌≡◌, ℕ, ◌<◌, ◌≤◌, ◌+◌, ◌-◌, ◌*◌, ◌/◌, ◌%◌, ◌^◌, List, [], ◌∷◌, ◌++◌, length, take, if◌then◌else◌, ℤ, pos, ◌<ℤ◌, unsigned_abs};
 ghost use Rattle.exact_fraction.specs.Written.{number_text, last_digits, sign_text, trimmed_places, all_places, rest_text, units_text};
 
 use itoa::Buffer;
 
 /// Puts the bytes behind the first `at` ones, and gives the new end.
-fn append(buf: &mut [u8], at: usize, bytes: &[u8]) -> usize
+pub fn append(buf: &mut [u8], at: usize, bytes: &[u8]) -> usize
     requires { at + length bytes.now ≤ length buf.old }
     ensures end { result ≡ at + length bytes.now }
     ensures text { take result buf.new ≡ take at buf.old ++ bytes.now }
@@ -16,7 +16,7 @@ fn append(buf: &mut [u8], at: usize, bytes: &[u8]) -> usize
 }
 
 /// Puts the sign of a number, which is nothing for one that is 0 or above.
-fn write_sign(negative: bool, buf: &mut [u8]) -> usize
+pub fn write_sign(negative: bool, buf: &mut [u8]) -> usize
     requires { 0 < length buf.old }
     ensures end { result ≤ 1 }
     ensures text { take result buf.new ≡ (if negative then 45 ∷ [] else []) }
@@ -25,7 +25,7 @@ fn write_sign(negative: bool, buf: &mut [u8]) -> usize
 }
 
 /// Puts the digits of `n`.
-fn append_digits(buf: &mut [u8], at: usize, n: u128) -> usize
+pub fn append_digits(buf: &mut [u8], at: usize, n: u128) -> usize
     requires { at + length (number_text n) ≤ length buf.old }
     ensures end { result ≡ at + length (number_text n) }
     ensures text { take result buf.new ≡ take at buf.old ++ number_text n }
@@ -35,7 +35,7 @@ fn append_digits(buf: &mut [u8], at: usize, n: u128) -> usize
 }
 
 /// Puts the last `k` digits of `n`, which has no more.
-fn append_last(buf: &mut [u8], at: usize, k: usize, n: u128) -> usize
+pub fn append_last(buf: &mut [u8], at: usize, k: usize, n: u128) -> usize
     requires space { at + 40 ≤ length buf.old }
     requires places { (0 < k) × (k ≤ 15) }
     requires fits { n < 10 ^ k }
@@ -52,7 +52,7 @@ fn append_last(buf: &mut [u8], at: usize, k: usize, n: u128) -> usize
 }
 
 /// Puts a point and the places `n` without the zeros at their end, or nothing where no place is left.
-fn append_trimmed(buf: &mut [u8], at: usize, places: usize, n: u128) -> usize
+pub fn append_trimmed(buf: &mut [u8], at: usize, places: usize, n: u128) -> usize
     requires space { at + 41 ≤ length buf.old }
     requires places { places ≤ 15 }
     requires fits { n < 10 ^ places }
