@@ -27,7 +27,7 @@ use Rattle.cert_format.specs.declared.certificate.ClearedReserve.{ClearedReserve
 use Rattle.cert_format.specs.declared.certificate.Key.TheVariants as key
 use Rattle.cert_format.specs.declared.certificate.ReserveDuals.{ReserveDuals}
 use Rattle.cert_format.specs.declared.forms.Version.TheVariants as version
-use Rattle.cert_format.specs.Certificates.{CertFits, ClearedReserveFits, DualFits, Fits, NamesFit, NumbersFit, ReserveDualsFit, RoomFits, RowFits, RowsAreDistinct, cert_against, cert_at, cert_of, most_part, reserve_duals_at, rooms_among}
+use Rattle.cert_format.specs.Certificates.{CertFits, ClearedReserveFits, DualFits, Fits, NamesFit, NumbersFit, ReserveDualsFit, RoomFits, RowFits, RowsAreDistinct, cert_against, cert_at, cert_of, reserve_duals_at, rooms_among}
 use Rattle.cert_format.specs.Grammar.{cert_in, cert_read, each, farkas_in, limit_in, optimal_in, places_named}
 use Rattle.cert_format.specs.Written.{cert_data, cert_text, cleared_reserve_data, ending, fraction_data, limit_data, reserve_duals_data, with_unit, with_version}
 use Rattle.cert_format.proofs.NumberTexts.{float-fractions, flat-fractions, fraction-back, fractions-again, fractions-back, key_utf8, plain-fractions}
@@ -180,67 +180,68 @@ pub utf8-cert_text : (c : Cert Fraction) → NamesFit c → IsUtf8 (cert_text c)
 unfolding cert_text
 utf8-cert_text c h = utf8-data (cert_data c) (plain-cert c h)
 
--- ---- the value is in the grammar
-unit-back : (branch outage : ℕ) (up down : Fraction) → branch < 2 ^ 32 → outage < 2 ^ 32 → Fits most_part up → Fits most_part down
-    → (unit : ℕ) → unit < 2 ^ 32 → limit_in most_part version.Second (limit_data (after_unit branch outage up down unit)) ≡ Some (after_unit branch outage up down unit)
-unfolding serde_json_on_literals limit_in
-unit-back branch outage up down b o hu hd zero u = rw (lt-ltb _ _ b, lt-ltb _ _ o, fraction-back most_part up hu, fraction-back most_part down hd) refl
-unit-back branch outage up down b o hu hd (suc unit) u = rw (not_0 unit, lt-ltb _ _ b, lt-ltb _ _ o, lt-ltb _ _ u, fraction-back most_part up hu, fraction-back most_part down hd, not_0 unit, not_0 unit) refl
-
-limit-back : (d : Dual Fraction) → DualFits most_part d → limit_in most_part version.Second (limit_data d) ≡ Some d
-limit-back d h = unit-back d.row.branch d.row.outage d.up d.down h.row.branch h.row.outage h.up h.down d.row.unit h.row.unit
-
-limits-back : (ds : List (Dual Fraction)) → All (DualFits most_part) ds → each (limit_in most_part version.Second) (items_of (map limit_data ds)) ≡ Some ds
-unfolding each
-limits-back [] h = refl
-limits-back (d ∷ ds) h = rw (limit-back d (h 0 d (omega arith)), limits-back ds (λ k x lt. h (suc k) x (omega (arith, lt)))) refl
-
--- limits of the third version are those of the second
-pub one-reader : ◌≡◌ {A = Data → Option (Dual Fraction)} (limit_in most_part version.Third) (limit_in most_part version.Second)
-unfolding limit_in
-one-reader = refl
-
-limits-back-3 : (ds : List (Dual Fraction)) → All (DualFits most_part) ds → each (limit_in most_part version.Third) (items_of (map limit_data ds)) ≡ Some ds
-limits-back-3 ds h = rw one-reader (limits-back ds h)
-
 pub places-back : (p : FactorPlaces) → places_named (place_count p) ≡ Some p
 places-back Six = refl
 places-back Nine = refl
 
-cert-back : (c : Cert Fraction) → CertFits c → cert_in most_part (cert_data c) ≡ Ok c
-unfolding serde_json_on_literals cert_in optimal_in farkas_in
-cert-back (cert.Optimal blocks energy limits places None) h =
-    rw (fraction-back most_part energy h.numbers.1, fractions-back blocks h.numbers.0, limits-back limits h.numbers.2, names-distinct limits h.distinct, places-back places) refl
-cert-back (cert.Optimal blocks energy limits places (Some r)) h =
-    rw (fraction-back most_part energy h.numbers.1, fractions-back blocks h.numbers.0, limits-back-3 limits h.numbers.2, names-distinct limits h.distinct, places-back places, cleared-back r h.numbers.3) refl
-cert-back (cert.Farkas energy limits places None) h =
-    rw (fraction-back most_part energy h.numbers.0, limits-back limits h.numbers.1, names-distinct limits h.distinct, places-back places) refl
-cert-back (cert.Farkas energy limits places (Some d)) h =
-    rw (fraction-back most_part energy h.numbers.0, limits-back-3 limits h.numbers.1, names-distinct limits h.distinct, places-back places, duals-back d h.numbers.2) refl
+module _ (most : ℕ) where
+  -- ---- the value is in the grammar
+  unit-back : (branch outage : ℕ) (up down : Fraction) → branch < 2 ^ 32 → outage < 2 ^ 32 → Fits most up → Fits most down
+      → (unit : ℕ) → unit < 2 ^ 32 → limit_in most version.Second (limit_data (after_unit branch outage up down unit)) ≡ Some (after_unit branch outage up down unit)
+  unfolding serde_json_on_literals limit_in
+  unit-back branch outage up down b o hu hd zero u = rw (lt-ltb _ _ b, lt-ltb _ _ o, fraction-back most up hu, fraction-back most down hd) refl
+  unit-back branch outage up down b o hu hd (suc unit) u = rw (not_0 unit, lt-ltb _ _ b, lt-ltb _ _ o, lt-ltb _ _ u, fraction-back most up hu, fraction-back most down hd, not_0 unit, not_0 unit) refl
 
-names-fit : (c : Cert Fraction) → CertFits c → NamesFit c
-names-fit (cert.Optimal blocks energy limits places None) h = record { limits = λ k d lt. (h.numbers.2 k d lt).row; rooms = All-nil (λ d. d.unit < 2 ^ 32) }
-names-fit (cert.Optimal blocks energy limits places (Some r)) h = record { limits = λ k d lt. (h.numbers.2 k d lt).row; rooms = λ k d lt. (h.numbers.3.duals.rooms k d lt).unit }
-names-fit (cert.Farkas energy limits places None) h = record { limits = λ k d lt. (h.numbers.1 k d lt).row; rooms = All-nil (λ d. d.unit < 2 ^ 32) }
-names-fit (cert.Farkas energy limits places (Some d)) h = record { limits = λ k d lt. (h.numbers.1 k d lt).row; rooms = λ k d lt. (h.numbers.2.rooms k d lt).unit }
+  limit-back : (d : Dual Fraction) → DualFits most d → limit_in most version.Second (limit_data d) ≡ Some d
+  limit-back d h = unit-back d.row.branch d.row.outage d.up d.down h.row.branch h.row.outage h.up h.down d.row.unit h.row.unit
 
-pub reads-back : (c : Cert Fraction) → CertFits c → cert_read (cert_text c) ≡ Ok c
-unfolding cert_read
-reads-back c h = rw (is_utf8-from_IsUtf8 (cert_text c) (utf8-cert_text c (names-fit c h)), read-cert_text c (names-fit c h)) (cert-back c h)
+  limits-back : (ds : List (Dual Fraction)) → All (DualFits most) ds → each (limit_in most version.Second) (items_of (map limit_data ds)) ≡ Some ds
+  unfolding each
+  limits-back [] h = refl
+  limits-back (d ∷ ds) h = rw (limit-back d (h 0 d (omega arith)), limits-back ds (λ k x lt. h (suc k) x (omega (arith, lt)))) refl
 
--- ---- bytes that are no text, or no JSON
-pub json-fault : (bytes : List ℕ) → (IsUtf8 bytes → read bytes ≡ None) → cert_read bytes ≡ Err key.Json
-unfolding cert_read
-json-fault bytes h = by (is_utf8 bytes) refl
-  where
-    by : (b : Bool) → is_utf8 bytes ≡ b → cert_read bytes ≡ Err key.Json
-    by true e = rw (e, h (IsUtf8-from_is_utf8 bytes e)) refl
-    by false e = rw e refl
+  -- limits of the third version are those of the second
+  pub one-reader : ◌≡◌ {A = Data → Option (Dual Fraction)} (limit_in most version.Third) (limit_in most version.Second)
+  unfolding limit_in
+  one-reader = refl
 
--- the value that the bytes read as
-pub json-value : (bytes : List ℕ) (d : Data) → IsUtf8 bytes → read bytes ≡ Some d → cert_read bytes ≡ cert_in most_part d
-unfolding cert_read
-json-value bytes d text e = rw (is_utf8-from_IsUtf8 bytes text, e) refl
+  limits-back-3 : (ds : List (Dual Fraction)) → All (DualFits most) ds → each (limit_in most version.Third) (items_of (map limit_data ds)) ≡ Some ds
+  limits-back-3 ds h = rw one-reader (limits-back ds h)
+
+  cert-back : (c : Cert Fraction) → CertFits most c → cert_in most (cert_data c) ≡ Ok c
+  unfolding serde_json_on_literals cert_in optimal_in farkas_in
+  cert-back (cert.Optimal blocks energy limits places None) h =
+      rw (fraction-back most energy h.numbers.1, fractions-back most blocks h.numbers.0, limits-back limits h.numbers.2, names-distinct limits h.distinct, places-back places) refl
+  cert-back (cert.Optimal blocks energy limits places (Some r)) h =
+      rw (fraction-back most energy h.numbers.1, fractions-back most blocks h.numbers.0, limits-back-3 limits h.numbers.2, names-distinct limits h.distinct, places-back places, cleared-back most r h.numbers.3) refl
+  cert-back (cert.Farkas energy limits places None) h =
+      rw (fraction-back most energy h.numbers.0, limits-back limits h.numbers.1, names-distinct limits h.distinct, places-back places) refl
+  cert-back (cert.Farkas energy limits places (Some d)) h =
+      rw (fraction-back most energy h.numbers.0, limits-back-3 limits h.numbers.1, names-distinct limits h.distinct, places-back places, duals-back most d h.numbers.2) refl
+
+  names-fit : (c : Cert Fraction) → CertFits most c → NamesFit c
+  names-fit (cert.Optimal blocks energy limits places None) h = record { limits = λ k d lt. (h.numbers.2 k d lt).row; rooms = All-nil (λ d. d.unit < 2 ^ 32) }
+  names-fit (cert.Optimal blocks energy limits places (Some r)) h = record { limits = λ k d lt. (h.numbers.2 k d lt).row; rooms = λ k d lt. (h.numbers.3.duals.rooms k d lt).unit }
+  names-fit (cert.Farkas energy limits places None) h = record { limits = λ k d lt. (h.numbers.1 k d lt).row; rooms = All-nil (λ d. d.unit < 2 ^ 32) }
+  names-fit (cert.Farkas energy limits places (Some d)) h = record { limits = λ k d lt. (h.numbers.1 k d lt).row; rooms = λ k d lt. (h.numbers.2.rooms k d lt).unit }
+
+  pub reads-back : (c : Cert Fraction) → CertFits most c → cert_read most (cert_text c) ≡ Ok c
+  unfolding cert_read
+  reads-back c h = rw (is_utf8-from_IsUtf8 (cert_text c) (utf8-cert_text c (names-fit c h)), read-cert_text c (names-fit c h)) (cert-back c h)
+
+  -- ---- bytes that are no text, or no JSON
+  pub json-fault : (bytes : List ℕ) → (IsUtf8 bytes → read bytes ≡ None) → cert_read most bytes ≡ Err key.Json
+  unfolding cert_read
+  json-fault bytes h = by (is_utf8 bytes) refl
+    where
+      by : (b : Bool) → is_utf8 bytes ≡ b → cert_read most bytes ≡ Err key.Json
+      by true e = rw (e, h (IsUtf8-from_is_utf8 bytes e)) refl
+      by false e = rw e refl
+
+  -- the value that the bytes read as
+  pub json-value : (bytes : List ℕ) (d : Data) → IsUtf8 bytes → read bytes ≡ Some d → cert_read most bytes ≡ cert_in most d
+  unfolding cert_read
+  json-value bytes d text e = rw (is_utf8-from_IsUtf8 bytes text, e) refl
 
 -- ---- what is written of numbers of a type
 module _ (less most : ℕ) (small : less ≤ most) where
@@ -305,9 +306,8 @@ module _ {N : Type 0} (value : N → Fraction) (bound : ℕ) (fits : (x : N) →
   numbers-fit (cert.Farkas energy limits places None) h = (within energy, limits-fit limits h.limits, tt)
   numbers-fit (cert.Farkas energy limits places (Some d)) h = (within energy, limits-fit limits h.limits, duals-fit d h.rooms)
 
-  pub written-back : bound ≤ most_part → (c : Cert N) (bytes : List ℕ) → NamesFit c → bytes ≡ cert_text (cert_at value c) → RowsAreDistinct (cert_at value c) → cert_read bytes ≡ Ok (cert_at value c)
-  written-back small c bytes h text once =
-      ap cert_read text ∙ reads-back (cert_at value c) (record { numbers = numbers-more bound most_part small (cert_at value c) (numbers-fit c h); distinct = once })
+  pub written-back : (c : Cert N) (bytes : List ℕ) → NamesFit c → bytes ≡ cert_text (cert_at value c) → RowsAreDistinct (cert_at value c) → cert_read bound bytes ≡ Ok (cert_at value c)
+  written-back c bytes h text once = ap (cert_read bound) text ∙ reads-back bound (cert_at value c) (record { numbers = numbers-fit c h; distinct = once })
 
 -- ---- what is written of an outcome
 -- the certificate of what a clear came to, with each number as the fraction that it stands for
@@ -329,19 +329,19 @@ passed_on (Err e) s P Q h k to = tt
 pub record IsTold {V E : Type 0} (items : V → List ℕ) (bound : ℕ) (c : Cert Fraction) (r : Result (Option V) E) : Type 0 where
   pub text : IfOk r (λ made. option_map items made ≡ Some (cert_text c))
   pub fits : OnOk r (NumbersFit bound c)
-  pub reads_back : (d : Cert Fraction) → Some c ≡ Some d → bound ≤ most_part → RowsAreDistinct d → IfOk r (λ made. option_map (λ v. cert_read (items v)) made ≡ Some (Ok d))
+  pub reads_back : (d : Cert Fraction) → Some c ≡ Some d → RowsAreDistinct d → IfOk r (λ made. option_map (λ v. cert_read bound (items v)) made ≡ Some (Ok d))
 
-module _ {V E : Type 0} (items : V → List ℕ) (bound : ℕ) (small : bound ≤ most_part) (c : Cert Fraction) (once : RowsAreDistinct c) where
-  made_back : (r : Result (Option V) E) → IfOk r (λ made. option_map items made ≡ Some (cert_text c)) → OnOk r (NumbersFit bound c) → IfOk r (λ made. option_map (λ v. cert_read (items v)) made ≡ Some (Ok c))
+module _ {V E : Type 0} (items : V → List ℕ) (bound : ℕ) (c : Cert Fraction) (once : RowsAreDistinct c) where
+  made_back : (r : Result (Option V) E) → IfOk r (λ made. option_map items made ≡ Some (cert_text c)) → OnOk r (NumbersFit bound c) → IfOk r (λ made. option_map (λ v. cert_read bound (items v)) made ≡ Some (Ok c))
   made_back (Ok (Some v)) text fits =
       let is : items v ≡ cert_text c = cc text in
-      ap Some (ap cert_read is ∙ reads-back c (record { numbers = numbers-more bound most_part small c fits; distinct = once }))
+      ap Some (ap (cert_read bound) is ∙ reads-back bound c (record { numbers = fits; distinct = once }))
   made_back (Ok None) text fits = cc text
   made_back (Err e) text fits = tt
 
   -- the certificate that there is
   pub cert_back : (d : Cert Fraction) → Some d ≡ Some c → (r : Result (Option V) E) → IfOk r (λ made. option_map items made ≡ Some (cert_text d)) → OnOk r (NumbersFit bound d)
-      → IfOk r (λ made. option_map (λ v. cert_read (items v)) made ≡ Some (Ok c))
+      → IfOk r (λ made. option_map (λ v. cert_read bound (items v)) made ≡ Some (Ok c))
   cert_back d is r text fits =
       let same : d ≡ c = cc is in
       made_back r (subst (λ (e : Cert Fraction). IfOk r (λ made. option_map items made ≡ Some (cert_text e))) same text) (subst (λ (e : Cert Fraction). OnOk r (NumbersFit bound e)) same fits)
@@ -354,5 +354,5 @@ module _ {N : Type 0} (value : N → Fraction) (bound : ℕ) (fits : (x : N) →
       subst (λ (e : Cert Fraction). IsTold items bound e r) same (record {
         text = text;
         fits = fit;
-        reads_back = λ k is small once. cert_back items bound small k once (cert_at value c) is r text fit;
+        reads_back = λ k is once. cert_back items bound k once (cert_at value c) is r text fit;
       })

@@ -8,7 +8,7 @@ use Rattle.json.proofs.Printed.Utf8.{IsUtf8-are_ascii, are_ascii}
 use Rattle.serde_json.specs.Read.{of_items}
 use Rattle.serde_json.specs.View.{items_of}
 use Rattle.serde_json.specs.Written.{items_have_float, items_outline}
-use Rattle.cert_format.specs.Certificates.{Fits, most_part}
+use Rattle.cert_format.specs.Certificates.{Fits}
 use Rattle.cert_format.specs.FractionTexts.{fraction_of_text}
 use Rattle.cert_format.specs.Grammar.{each, fraction_in}
 use Rattle.cert_format.specs.Written.{fraction_data}
@@ -39,7 +39,7 @@ fractions-again (x ∷ xs) = rw (fractions-again xs) refl
 pub fraction-back : (most : ℕ) (x : Fraction) → Fits most x → fraction_of_text most (parts_text x) ≡ Some x
 fraction-back most x h = fraction_of_text-read most (parts_text x) x (record { spelling = refl; fits = h })
 
-pub fractions-back : (xs : List Fraction) → All (Fits most_part) xs → each (fraction_in most_part) (items_of (map fraction_data xs)) ≡ Some xs
+pub fractions-back : (most : ℕ) (xs : List Fraction) → All (Fits most) xs → each (fraction_in most) (items_of (map fraction_data xs)) ≡ Some xs
 unfolding each
-fractions-back [] h = refl
-fractions-back (x ∷ xs) h = rw (fraction-back most_part x (h 0 x (omega arith)), fractions-back xs (λ k d lt. h (suc k) d (omega (arith, lt)))) refl
+fractions-back most [] h = refl
+fractions-back most (x ∷ xs) h = rw (fraction-back most x (h 0 x (omega arith)), fractions-back most xs (λ k d lt. h (suc k) d (omega (arith, lt)))) refl

@@ -1,5 +1,5 @@
 -- What is written of reserve is read as it.
-use Rattle.std.specs.Prelude.{◌≡◌, ◌<◌, ◌≤◌, ◌^◌, List, [], ◌∷◌, map, codes, false, All, Some}
+use Rattle.std.specs.Prelude.{◌≡◌, ℕ, ◌<◌, ◌≤◌, ◌^◌, List, [], ◌∷◌, map, codes, false, All, Some}
 use Rattle.std.proofs.Common.{suc, arith, refl}
 use Rattle.std.proofs.lemmas.Bool.{lt-ltb}
 use Rattle.fraction_theory.specs.Fraction.{Fraction}
@@ -12,7 +12,7 @@ use Rattle.serde_json.proofs.Numbers.{number_of-decimal}
 use Rattle.serde_json.proofs.OnLiterals.{serde_json_on_literals}
 use Rattle.cert_format.specs.declared.certificate.ClearedReserve.{ClearedReserve}
 use Rattle.cert_format.specs.declared.certificate.ReserveDuals.{ReserveDuals}
-use Rattle.cert_format.specs.Certificates.{ClearedReserveFits, ReserveDualsFit, RoomFits, most_part}
+use Rattle.cert_format.specs.Certificates.{ClearedReserveFits, ReserveDualsFit, RoomFits}
 use Rattle.cert_format.specs.Grammar.{cleared_reserve_in, each, reserve_duals_in, room_dual_in}
 use Rattle.cert_format.specs.Written.{cleared_reserve_data, reserve_duals_data, room_data}
 use Rattle.cert_format.proofs.NumberTexts.{float-fractions, flat-fractions, fraction-back, fractions-again, fractions-back, key_utf8, plain-fractions}
@@ -84,20 +84,21 @@ pub cleared-again : (r : ClearedReserve Fraction) → UnitsFit r.duals.rooms →
 unfolding serde_json_on_literals
 cleared-again r h = rw (fractions-again r.quantities, rooms-again r.duals.rooms h) refl
 
--- ---- which is in the grammar
-room-back : (d : RoomDual Fraction) → RoomFits most_part d → room_dual_in most_part (room_data d) ≡ Some d
-unfolding serde_json_on_literals room_dual_in
-room-back d h = rw (fraction-back most_part d.price h.price, lt-ltb _ _ h.unit) refl
+module _ (most : ℕ) where
+  -- ---- which is in the grammar
+  room-back : (d : RoomDual Fraction) → RoomFits most d → room_dual_in most (room_data d) ≡ Some d
+  unfolding serde_json_on_literals room_dual_in
+  room-back d h = rw (fraction-back most d.price h.price, lt-ltb _ _ h.unit) refl
 
-rooms-back : (ds : Rooms) → All (RoomFits most_part) ds → each (room_dual_in most_part) (items_of (map room_data ds)) ≡ Some ds
-unfolding each
-rooms-back [] h = refl
-rooms-back (d ∷ ds) h = rw (room-back d (h 0 d (omega arith)), rooms-back ds (λ k x lt. h (suc k) x (omega (arith, lt)))) refl
+  rooms-back : (ds : Rooms) → All (RoomFits most) ds → each (room_dual_in most) (items_of (map room_data ds)) ≡ Some ds
+  unfolding each
+  rooms-back [] h = refl
+  rooms-back (d ∷ ds) h = rw (room-back d (h 0 d (omega arith)), rooms-back ds (λ k x lt. h (suc k) x (omega (arith, lt)))) refl
 
-pub duals-back : (d : ReserveDuals Fraction) → ReserveDualsFit most_part d → reserve_duals_in 2 most_part (reserve_duals_data d) ≡ Some d
-unfolding serde_json_on_literals reserve_duals_in
-duals-back d h = rw (fraction-back most_part d.price h.price, rooms-back d.rooms h.rooms) refl
+  pub duals-back : (d : ReserveDuals Fraction) → ReserveDualsFit most d → reserve_duals_in 2 most (reserve_duals_data d) ≡ Some d
+  unfolding serde_json_on_literals reserve_duals_in
+  duals-back d h = rw (fraction-back most d.price h.price, rooms-back d.rooms h.rooms) refl
 
-pub cleared-back : (r : ClearedReserve Fraction) → ClearedReserveFits most_part r → cleared_reserve_in most_part (cleared_reserve_data r) ≡ Some r
-unfolding serde_json_on_literals cleared_reserve_in reserve_duals_in
-cleared-back r h = rw (fractions-back r.quantities h.quantities, fraction-back most_part r.duals.price h.duals.price, rooms-back r.duals.rooms h.duals.rooms) refl
+  pub cleared-back : (r : ClearedReserve Fraction) → ClearedReserveFits most r → cleared_reserve_in most (cleared_reserve_data r) ≡ Some r
+  unfolding serde_json_on_literals cleared_reserve_in reserve_duals_in
+  cleared-back r h = rw (fractions-back most r.quantities h.quantities, fraction-back most r.duals.price h.duals.price, rooms-back r.duals.rooms h.duals.rooms) refl

@@ -108,8 +108,8 @@ pub record NamesFit {N : Type 0} (c : Cert N) : Type 0 where
   pub rooms : All (λ d. d.unit < 2 ^ 32) (room_duals_of c)
 
 -- a certificate that has a text: its numbers are within their bounds, and no row is named twice
-pub record CertFits (c : Cert Fraction) : Type 0 where
-  pub numbers : NumbersFit most_part c
+pub record CertFits (most : ℕ) (c : Cert Fraction) : Type 0 where
+  pub numbers : NumbersFit most c
   pub distinct : RowsAreDistinct c
 
 -- ---- the certificates of what a clear came to, where factors had so many places, and where reserve was listed or not

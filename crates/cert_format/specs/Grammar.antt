@@ -25,7 +25,6 @@ use Rattle.cert_format.specs.declared.forms.Kind.{Kind}
 use Rattle.cert_format.specs.declared.forms.Kind.TheVariants as kind
 use Rattle.cert_format.specs.declared.forms.Version.{Version}
 use Rattle.cert_format.specs.declared.forms.Version.TheVariants as version
-use Rattle.cert_format.specs.Certificates.{most_part}
 use Rattle.cert_format.specs.FractionTexts.{fraction_of_text}
 
 -- ---- the members of an object
@@ -230,8 +229,8 @@ abbrev pub json_of : List ℕ → Option Data
 json_of bytes = if is_utf8 bytes then read bytes else None
 
 -- the certificate that the bytes stand for, or the first part that is not in the grammar
-unfoldable pub cert_read : List ℕ → Result (Cert Fraction) Key
-cert_read bytes = need key.Json (json_of bytes) (cert_in most_part)
+unfoldable pub cert_read : ℕ → List ℕ → Result (Cert Fraction) Key
+cert_read most bytes = need key.Json (json_of bytes) (cert_in most)
 
 -- ---- what a reader answers
 -- what was read, seen by `seen`, is what the grammar gives, unless memory was refused

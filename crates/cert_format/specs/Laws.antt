@@ -13,16 +13,16 @@ ReadsSpelling = (most : ℕ) (text : List ℕ) (x : Fraction) → (fraction_of_t
 
 -- what is written is read back
 abbrev pub ReadsBack : Type 0
-ReadsBack = (c : Cert Fraction) → CertFits c → cert_read (cert_text c) ≡ Ok c
+ReadsBack = (most : ℕ) (c : Cert Fraction) → CertFits most c → cert_read most (cert_text c) ≡ Ok c
 
 -- what is read has its numbers within their bounds, and names no row twice
 abbrev pub ReadsWhatFits : Type 0
-ReadsWhatFits = (bytes : List ℕ) (c : Cert Fraction) → cert_read bytes ≡ Ok c → CertFits c
+ReadsWhatFits = (most : ℕ) (bytes : List ℕ) (c : Cert Fraction) → cert_read most bytes ≡ Ok c → CertFits most c
 
 -- what is written of a certificate that was read is read as the same one: so a text of any version is brought to the one that is written
 abbrev pub LawOfMigration : Type 0
-LawOfMigration = (bytes : List ℕ) (c : Cert Fraction) → cert_read bytes ≡ Ok c → cert_read (cert_text c) ≡ Ok c
+LawOfMigration = (most : ℕ) (bytes : List ℕ) (c : Cert Fraction) → cert_read most bytes ≡ Ok c → cert_read most (cert_text c) ≡ Ok c
 
 -- and a text that was written is left as it is by that, where it is read at all: numbers of rows and units have 32 bits, others may be too large
 abbrev pub LawOfMigratedTexts : Type 0
-LawOfMigratedTexts = (c d : Cert Fraction) → NamesFit c → cert_read (cert_text c) ≡ Ok d → cert_text d ≡ cert_text c
+LawOfMigratedTexts = (most : ℕ) (c d : Cert Fraction) → NamesFit c → cert_read most (cert_text c) ≡ Ok d → cert_text d ≡ cert_text c

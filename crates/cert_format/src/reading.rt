@@ -16,7 +16,7 @@ use crate::fractions::fraction;
 use crate::members::{has_size, number_at};
 use crate::reading_reserve::{cleared_reserve, reserve_duals};
 use crate::{Cert, CertFault, Key};
-use exact_fraction::{Exact, Frac};
+use exact_fraction::Exact;
 use indexmap::IndexSet;
 use market_model::{Dual, List, Memory, RowId};
 use serde_json::Value;
@@ -267,10 +267,10 @@ fn cert_in<N: Exact>(alloc: Global, value: &Value) -> Result<Cert<N>, CertFault>
 }
 
 /// Reads a certificate of any version, or tells the first part of the text that is not in the grammar.
-pub fn from_json(alloc: Global, bytes: &[u8]) -> Result<Cert<Frac>, CertFault>
-    ensures read { IfOk result (λ cert. cert_read bytes.now ≡ Ok (cert_at ⟦<Frac as Exact>⟧.value cert)) }
-    ensures fault { (k : Key) → result ≡ Err (fault.Key k) → cert_read bytes.now ≡ Err k }
-    ensures distinct { IfOk result (λ cert. RowsAreDistinct (cert_at ⟦<Frac as Exact>⟧.value cert)) }
+pub fn from_json<N: Exact>(alloc: Global, bytes: &[u8]) -> Result<Cert<N>, CertFault>
+    ensures read { IfOk result (λ cert. cert_read N.bound bytes.now ≡ Ok (cert_at N.value cert)) }
+    ensures fault { (k : Key) → result ≡ Err (fault.Key k) → cert_read N.bound bytes.now ≡ Err k }
+    ensures distinct { IfOk result (λ cert. RowsAreDistinct (cert_at N.value cert)) }
 {
     match Value::from_slice(alloc, bytes) {
         Ok(value) => cert_in(alloc, &value),

@@ -6,7 +6,7 @@ ghost use Rattle.serde_json.specs.Data.{member, object, string};
 ghost use Rattle.serde_json.specs.View.{members_view, view};
 ghost use Rattle.market_model.specs.Valued.{dual_at, outcome_at};
 ghost use Rattle.cert_format.specs.declared.certificate.Cert.{Cert};
-ghost use Rattle.cert_format.specs.Certificates.{NamesFit, NumbersFit, RowFits, RowsAreDistinct, cert_against, cert_at, cert_of, cert_of_outcome, most_part};
+ghost use Rattle.cert_format.specs.Certificates.{NamesFit, NumbersFit, RowFits, RowsAreDistinct, cert_against, cert_at, cert_of, cert_of_outcome};
 ghost use Rattle.cert_format.specs.Grammar.{cert_read};
 ghost use Rattle.cert_format.specs.Written.{cert_data, cert_text, certificate_of, ending, fraction_data, fractions_data, limit_data, limits_data, optimal_data, with_version};
 
@@ -191,11 +191,11 @@ fn cert_bytes<N: Exact>(alloc: Global, cert: &Cert<N>) -> Result<Vec<u8>, AllocE
 }
 
 /// The text of a certificate, without a line end: of the third version where it has a part on reserve, and else of the second. Where no row
-/// is named twice and its numbers have 127 bits at most, it is read back as the certificate.
+/// is named twice it is read back as the certificate, by the bound of its numbers.
 pub fn to_json<N: Exact>(alloc: Global, cert: &Cert<N>) -> Result<Vec<u8>, Memory>
     ensures text { IfOk result (λ bytes. bytes.items ≡ cert_text (cert_at N.value cert.now)) }
-    ensures reads_back { IfOk result (λ bytes. N.bound ≤ most_part → RowsAreDistinct (cert_at N.value cert.now)
-        → cert_read bytes.items ≡ Ok (cert_at N.value cert.now)) }
+    ensures reads_back { IfOk result (λ bytes. RowsAreDistinct (cert_at N.value cert.now)
+        → cert_read N.bound bytes.items ≡ Ok (cert_at N.value cert.now)) }
 {
     match cert_bytes(alloc, cert) {
         Ok(bytes) => Ok(bytes),
@@ -266,7 +266,7 @@ fn made(text: Result<Vec<u8>, AllocError>) -> Result<Option<Vec<u8>>, Memory>
 }
 
 /// The text of the certificate of what a clear came to, where there is one. Factors of the market had so many places, and its reserve was
-/// listed or not. Where the certificate names no row twice and its numbers have 127 bits at most, the text is read back as it.
+/// listed or not. Where the certificate names no row twice the text is read back as it, by the bound of its numbers.
 pub fn outcome_json<N: Exact>(
     alloc: Global,
     places: FactorPlaces,
@@ -275,8 +275,8 @@ pub fn outcome_json<N: Exact>(
 ) -> Result<Option<Vec<u8>>, Memory>
     ensures text { IfOk result (λ made. option_map (λ bytes. bytes.items) made ≡ certificate_of places listed (outcome_at N.value outcome.now)) }
     ensures fits { OnOk result (IfSome (cert_of_outcome places listed (outcome_at N.value outcome.now)) (NumbersFit N.bound)) }
-    ensures reads_back { (c : Cert Fraction) → cert_of_outcome places listed (outcome_at N.value outcome.now) ≡ Some c → N.bound ≤ most_part → RowsAreDistinct c
-        → IfOk result (λ made. option_map (λ bytes. cert_read bytes.items) made ≡ Some (Ok c)) }
+    ensures reads_back { (c : Cert Fraction) → cert_of_outcome places listed (outcome_at N.value outcome.now) ≡ Some c → RowsAreDistinct c
+        → IfOk result (λ made. option_map (λ bytes. cert_read N.bound bytes.items) made ≡ Some (Ok c)) }
 {
     match outcome {
         Outcome::Cleared(answer) => made(answer_text(alloc, places, listed, answer)),
