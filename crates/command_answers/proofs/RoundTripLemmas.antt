@@ -57,7 +57,7 @@ use Rattle.command_answers.proofs.ReplayLemmas.{last_first, last_none}
 certified : (m : Parts) (c : Cert Fraction) (text : List ℕ) → RowsAreDistinct c × (verdict_of (first_reason m c) ≡ Yes) → NumbersFit most_part c → Some (cert_text c) ≡ Some text → Certifies m text c
 certified m c text right fits is =
     let text_is : cert_text c ≡ text = cc is in record {
-      read = sym (ap cert_read text_is) ∙ reads-back c (record { numbers = fits; distinct = right.0 });
+      read = sym (ap (cert_read most_part) text_is) ∙ reads-back most_part c (record { numbers = fits; distinct = right.0 });
       holds = (law_of_the_verdict m c right.0).0 right.1;
       yes = right.1;
     }
@@ -158,7 +158,7 @@ law_of_yes m text c t certifies (market, passed p stop within is) = inr (ap (λ 
 
 -- ---- with the same files
 -- a text that is no longer than a file may be is read as its certificate
-read_whole : (text : List ℕ) (c : Cert Fraction) → length text ≤ most_file → cert_read text ≡ Ok c → certificate_in (sized (refusal.TooLong input.Certificate) text) ≡ Ok c
+read_whole : (text : List ℕ) (c : Cert Fraction) → length text ≤ most_file → cert_read most_part text ≡ Ok c → certificate_in most_part (sized (refusal.TooLong input.Certificate) text) ≡ Ok c
 unfolding sized
 read_whole text c short read = rw (le-ltb most_file (length text) short, read) refl
 
@@ -170,10 +170,10 @@ pub replayed-once : (rating : PostRating) (places : FactorPlaces) (files : Marke
 replayed-once rating places files edits =
     then-once _ _ (limited-once rating places files) (λ market _. then-once _ _ (is-once (steps_in (sized (refusal.TooLong input.Edits) edits))) (λ steps _. is-once (Ok (record { market = market; steps = steps }))))
 
-pub certified-once : (rating : PostRating) (places : FactorPlaces) (files : MarketTexts) (edits certificate : List ℕ) → OfOne (IsCertified rating places files edits certificate)
-certified-once rating places files edits certificate =
+pub certified-once : (most : ℕ) (rating : PostRating) (places : FactorPlaces) (files : MarketTexts) (edits certificate : List ℕ) → OfOne (IsCertified most rating places files edits certificate)
+certified-once most rating places files edits certificate =
     then-once _ _ (replayed-once rating places files edits)
-    (λ r _. then-once _ _ (is-once (certificate_in (sized (refusal.TooLong input.Certificate) certificate))) (λ c _. is-once _))
+    (λ r _. then-once _ _ (is-once (certificate_in most (sized (refusal.TooLong input.Certificate) certificate))) (λ c _. is-once _))
 
 pub entitled-once : (rating : PostRating) (places : FactorPlaces) (files : MarketTexts) (rights : List ℕ) → OfOne (AreEntitled rating places files rights)
 entitled-once rating places files rights =
@@ -181,8 +181,8 @@ entitled-once rating places files rights =
 
 module _ (rating : PostRating) (places : FactorPlaces) (files : MarketTexts) (edits text : List ℕ) (none : steps_in (sized (refusal.TooLong input.Edits) edits) ≡ Ok []) where
   -- what they stand for with a certificate
-  stands_with : (m : Parts) (c : Cert Fraction) → IsLimited rating places files (Ok m) → certificate_in (sized (refusal.TooLong input.Certificate) text) ≡ Ok c
-      → IsCertified rating places files edits text (Ok (record { market = m; certificate = c }))
+  stands_with : (m : Parts) (c : Cert Fraction) → IsLimited rating places files (Ok m) → certificate_in most_part (sized (refusal.TooLong input.Certificate) text) ≡ Ok c
+      → IsCertified most_part rating places files edits text (Ok (record { market = m; certificate = c }))
   stands_with m c limited read = record {
     made = Ok (record { market = m; steps = [] });
     is = record { made = Ok m; is = limited; rest = record { made = Ok []; is = none; rest = refl } };
@@ -190,13 +190,13 @@ module _ (rating : PostRating) (places : FactorPlaces) (files : MarketTexts) (ed
   }
 
   told_yes : (clear verify : Telling) → length text ≤ most_file → clear.outputs.certificate ≡ Some text → (told : Result Parts Refusal) → IsLimited rating places files told → ComesTo TellsClear told clear
-      → Tells (IsCertified rating places files edits text) TellsVerdict verify → IsYesOrRange verify
+      → Tells (IsCertified most_part rating places files edits text) TellsVerdict verify → IsYesOrRange verify
   told_yes clear verify short is (Err r) limited comes verified = let no = ap (λ (t : Telling). t.outputs.certificate) comes in cc (is, no)
   told_yes clear verify short is (Ok m) limited comes verified =
       let trip = law_of_the_round_trip m clear text comes is in
       let c = trip.0 in
-      let here : IsCertified rating places files edits text (Ok (record { market = m; certificate = c })) = stands_with m c limited (read_whole text c short trip.2.read) in
-      let same = certified-once rating places files edits text verified.told (Ok (record { market = m; certificate = c })) verified.stands here in
+      let here : IsCertified most_part rating places files edits text (Ok (record { market = m; certificate = c })) = stands_with m c limited (read_whole text c short trip.2.read) in
+      let same = certified-once most_part rating places files edits text verified.told (Ok (record { market = m; certificate = c })) verified.stands here in
       law_of_yes m text c verify trip.2 (subst (λ (r : Result MarketCertificate Refusal). ComesTo TellsVerdict r verify) same verified.comes)
 
 pub law_of_the_same_files : LawOfTheSameFiles

@@ -55,17 +55,18 @@ abbrev pub certificate_with : {N : Type 0} → (N → Fraction) → Result (Cert
 certificate_with value (Ok made) = Ok (record { market = made.market; certificate = cert_at value made.certificate })
 certificate_with value (Err stop) = Err stop
 
--- what these and the text of a certificate stand for: the market after the edits; the certificate comes last
-abbrev pub IsCertified : PostRating → FactorPlaces → MarketTexts → List ℕ → List ℕ → Result MarketCertificate Refusal → Type 0
-IsCertified rating places texts edits certificate told =
+-- what these and the text of a certificate stand for, whose numbers have parts of at most `most`: the market after the edits; the certificate comes
+-- last
+abbrev pub IsCertified : ℕ → PostRating → FactorPlaces → MarketTexts → List ℕ → List ℕ → Result MarketCertificate Refusal → Type 0
+IsCertified most rating places texts edits certificate told =
     Then (IsReplayed rating places texts edits) (λ replayed.
-    Then (Is (certificate_in (sized (refusal.TooLong input.Certificate) certificate))) (λ read.
+    Then (Is (certificate_in most (sized (refusal.TooLong input.Certificate) certificate))) (λ read.
     Is (Ok (record { market = edited_by replayed.market replayed.steps; certificate = read })))) told
 
 -- ---- a certificate alone
 -- what its text stands for
-abbrev pub IsCertificate : List ℕ → Result (Cert Fraction) Refusal → Type 0
-IsCertificate certificate told = Is (certificate_in (sized (refusal.TooLong input.Certificate) certificate)) told
+abbrev pub IsCertificate : ℕ → List ℕ → Result (Cert Fraction) Refusal → Type 0
+IsCertificate most certificate told = Is (certificate_in most (sized (refusal.TooLong input.Certificate) certificate)) told
 
 -- ---- a market with transmission rights
 pub record MarketRights : Type 0 where

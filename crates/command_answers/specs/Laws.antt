@@ -11,6 +11,7 @@ use Rattle.market_model.specs.Reserves.{no_reserve}
 use Rattle.cert_format.specs.declared.certificate.Cert.{Cert}
 use Rattle.cert_format.specs.Certificates.{cert_of_outcome}
 use Rattle.cert_format.specs.Grammar.{cert_read}
+use Rattle.cert_format.specs.Certificates.{most_part}
 use Rattle.cert_verify.specs.Certificates.{IsTrueOf, first_reason}
 use Rattle.cert_verify.specs.Reasons.{verdict_of}
 use Rattle.cert_verify.specs.declared.verdicts.Verdict.TheVariants.{Yes}
@@ -47,7 +48,7 @@ LawOfListedReserve = (rating : PostRating) (places : FactorPlaces) (files : Mark
 -- ---- certificates
 -- a text is read as this certificate, which is true of the market, and the verdict on it is yes
 pub record Certifies (m : Parts) (text : List ℕ) (c : Cert Fraction) : Type 0 where
-  pub read : cert_read text ≡ Ok c
+  pub read : cert_read most_part text ≡ Ok c
   pub holds : IsTrueOf m c
   pub yes : verdict_of (first_reason m c) ≡ Yes
 
@@ -88,7 +89,7 @@ LawOfYes = (m : Parts) (text : List ℕ) (c : Cert Fraction) (t : Telling) → C
 abbrev pub LawOfTheSameFiles : Type 0
 LawOfTheSameFiles =
     (rating : PostRating) (places : FactorPlaces) (files : MarketTexts) (edits text : List ℕ) (clear verify : Telling) → Tells (IsLimited rating places files) TellsClear clear → clear.outputs.certificate ≡ Some text → length text ≤ most_file
-    → steps_in (sized (refusal.TooLong input.Edits) edits) ≡ Ok [] → Tells (IsCertified rating places files edits text) TellsVerdict verify → IsYesOrRange verify
+    → steps_in (sized (refusal.TooLong input.Edits) edits) ≡ Ok [] → Tells (IsCertified most_part rating places files edits text) TellsVerdict verify → IsYesOrRange verify
 
 -- ---- what is told of rights
 -- What `rights` prints of a market: an answer with whether the rights fit and what they are paid; an answer with two numbers that became too

@@ -1,7 +1,7 @@
 //! Certificates that are written anew.
 
 ghost use Rattle.std.specs.Prelude.{◌≡◌, IfOk};
-ghost use Rattle.cert_format.specs.Certificates.{cert_at};
+ghost use Rattle.cert_format.specs.Certificates.{cert_at, most_part};
 ghost use Rattle.command_answers.specs.Inputs.{IsCertificate};
 ghost use Rattle.command_answers.specs.Migrating.{TellsMigration};
 ghost use Rattle.command_answers.specs.Status.{IsOfWork};
@@ -10,7 +10,7 @@ ghost use Rattle.command_answers.specs.Tellings.{Tells, telling_of};
 use crate::status::Status;
 use crate::told::{Outputs, Told, refused};
 use cert_format::{Cert, to_json};
-use exact_fraction::Exact;
+use exact_fraction::{Exact, Frac};
 use line_text::Text;
 use market_inputs::{InputStop, read_certificate};
 use market_model::Memory;
@@ -34,9 +34,9 @@ fn migrated<N: Exact>(alloc: Global, certificate: &Cert<N>) -> Result<Told, Memo
 /// What the whole bytes of a certificate come to, of whatever version, that is to be written anew.
 pub fn migrate_told(alloc: Global, certificate: &[u8]) -> Result<Told, Memory>
     ensures status { IfOk result (λ told. IsOfWork told.status) }
-    ensures tells { IfOk result (λ told. Tells (IsCertificate certificate.now) TellsMigration (telling_of told)) }
+    ensures tells { IfOk result (λ told. Tells (IsCertificate most_part certificate.now) TellsMigration (telling_of told)) }
 {
-    match read_certificate(alloc, certificate) {
+    match read_certificate::<Frac>(alloc, certificate) {
         Ok(read) => migrated(alloc, &read),
         Err(InputStop::Refused(refusal)) => refused(alloc, &refusal),
         Err(InputStop::Memory) => Err(Memory),

@@ -2,7 +2,7 @@
 
 ghost use Rattle.std.specs.Prelude.{◌≡◌, All, IfOk, Option};
 ghost use Rattle.cert_verify.specs.declared.verdicts.Reason.{Reason};
-ghost use Rattle.cert_format.specs.Certificates.{RowsAreDistinct, cert_at};
+ghost use Rattle.cert_format.specs.Certificates.{RowsAreDistinct, cert_at, most_part};
 ghost use Rattle.cert_verify.specs.Certificates.{first_reason};
 ghost use Rattle.cert_verify.specs.Reasons.{verdict_of};
 ghost use Rattle.edit_replay.specs.Replays.{edited_by};
@@ -55,17 +55,17 @@ fn edited(market: Market, steps: &Steps) -> Market
 }
 
 /// What the files of a verification stand for.
-fn verify_inputs(
+fn verify_inputs<N: Exact>(
     alloc: Global,
     bytes: &MarketTables<&[u8]>,
     rating: PostRating,
     places: FactorPlaces,
     edits: &[u8],
     certificate: &[u8],
-) -> Result<Certified<Frac>, InputStop>
-    ensures told { IsToldAs (IsCertified rating places (tables_lent bytes.now) edits.now certificate.now) (certificate_with ⟦<Frac as Exact>⟧.value result) }
+) -> Result<Certified<N>, InputStop>
+    ensures told { IsToldAs (IsCertified N.bound rating places (tables_lent bytes.now) edits.now certificate.now) (certificate_with N.value result) }
     ensures kept { IfOk result (λ made. IsMarket made.market) }
-    ensures distinct { IfOk result (λ made. RowsAreDistinct (cert_at ⟦<Frac as Exact>⟧.value made.certificate)) }
+    ensures distinct { IfOk result (λ made. RowsAreDistinct (cert_at N.value made.certificate)) }
 {
     let replayed = replay_inputs(alloc, bytes, rating, places, edits)?;
     let certificate = read_certificate(alloc, certificate)?;
@@ -119,9 +119,9 @@ pub fn verify_told(
     certificate: &[u8],
 ) -> Result<Told, Memory>
     ensures status { IfOk result (λ told. IsOfWork told.status) }
-    ensures tells { IfOk result (λ told. Tells (IsCertified rating places (tables_lent bytes.now) edits.now certificate.now) TellsVerdict (telling_of told)) }
+    ensures tells { IfOk result (λ told. Tells (IsCertified most_part rating places (tables_lent bytes.now) edits.now certificate.now) TellsVerdict (telling_of told)) }
 {
-    match verify_inputs(alloc, bytes, rating, places, edits, certificate) {
+    match verify_inputs::<Frac>(alloc, bytes, rating, places, edits, certificate) {
         Ok(made) => verdict_told(alloc, &made.market, &made.certificate),
         Err(InputStop::Refused(refusal)) => refused(alloc, &refusal),
         Err(InputStop::Memory) => Err(Memory),

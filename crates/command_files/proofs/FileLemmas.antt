@@ -13,6 +13,7 @@ use Rattle.market_inputs.specs.Clearing.{IsClearMarket}
 use Rattle.market_inputs.specs.Files.{sized}
 use Rattle.market_inputs.specs.Pooling.{IsPoolMarket}
 use Rattle.market_inputs.specs.Replaying.{certificate_in}
+use Rattle.cert_format.specs.Certificates.{most_part}
 use Rattle.market_inputs.proofs.FileLemmas.{AreAlike, alike-grid, alike-tables, sized-cut}
 use Rattle.market_tables.specs.Tables.{EachOf, GridTexts, MarketTexts}
 use Rattle.market_tables.proofs.EachLemmas.{Found, found-grid, found-tables}
@@ -53,11 +54,11 @@ replayed-same rating places a b edits edits' told same same_edits h = record {
   rest = rw same_edits at h.rest;
 }
 
-pub certified-same : (rating : PostRating) (places : FactorPlaces) (a b : MarketTexts) (edits edits' certificate certificate' : List ℕ) (told : Result MarketCertificate Refusal) → EachOf AreAlike a b
+pub certified-same : (most : ℕ) (rating : PostRating) (places : FactorPlaces) (a b : MarketTexts) (edits edits' certificate certificate' : List ℕ) (told : Result MarketCertificate Refusal) → EachOf AreAlike a b
     → sized (refusal.TooLong input.Edits) edits ≡ sized (refusal.TooLong input.Edits) edits'
     → sized (refusal.TooLong input.Certificate) certificate ≡ sized (refusal.TooLong input.Certificate) certificate'
-    → IsCertified rating places a edits certificate told → IsCertified rating places b edits' certificate' told
-certified-same rating places a b edits edits' certificate certificate' told same same_edits same_certificate h = record {
+    → IsCertified most rating places a edits certificate told → IsCertified most rating places b edits' certificate' told
+certified-same most rating places a b edits edits' certificate certificate' told same same_edits same_certificate h = record {
   made = h.made;
   is = replayed-same rating places a b edits edits' h.made same same_edits h.is;
   rest = rw same_certificate at h.rest;
@@ -117,7 +118,7 @@ files-replay (Some f) names edits bytes edits_read t read read_edits right =
 
 pub files-verify : (files : Option Files) (names : MarketNames) (edits : Option (List ℕ)) (certificate : List ℕ) (bytes : MarketTexts) (edits_read certificate_read : List ℕ) (t : Telling)
     → ReadsMarket files names bytes → ReadsTable files (source_of edit_header edits) edits_read → Reads files certificate 33554432 certificate_read
-    → Tells (IsCertified names.rating names.places bytes edits_read certificate_read) TellsVerdict t → OfFiles files (λ f. AreVerifyFiles f names edits certificate) TellsVerdict t
+    → Tells (IsCertified most_part names.rating names.places bytes edits_read certificate_read) TellsVerdict t → OfFiles files (λ f. AreVerifyFiles f names edits certificate) TellsVerdict t
 files-verify None names edits certificate bytes edits_read certificate_read t read read_edits read_certificate right = tt
 files-verify (Some f) names edits certificate bytes edits_read certificate_read t read read_edits read_certificate right =
     let w = whole-market f names bytes read in
@@ -132,7 +133,7 @@ files-verify (Some f) names edits certificate bytes edits_read certificate_read 
         have = w.first;
         edits_are = e.1;
         certificate_is = c.1;
-        certified = certified-same names.rating names.places bytes w.found edits_read e.0 certificate_read c.0 right.told w.second (e.2 (refusal.TooLong input.Edits))
+        certified = certified-same most_part names.rating names.places bytes w.found edits_read e.0 certificate_read c.0 right.told w.second (e.2 (refusal.TooLong input.Edits))
             (c.2 (refusal.TooLong input.Certificate)) right.stands;
       };
       comes = right.comes;
@@ -164,14 +165,14 @@ files-rights (Some f) names rights bytes rights_read t read read_rights right =
       comes = right.comes;
     }
 
-pub file-migrate : (files : Option Files) (certificate certificate_read : List ℕ) (t : Telling) → Reads files certificate 33554432 certificate_read → Tells (IsCertificate certificate_read) TellsMigration t
+pub file-migrate : (files : Option Files) (certificate certificate_read : List ℕ) (t : Telling) → Reads files certificate 33554432 certificate_read → Tells (IsCertificate most_part certificate_read) TellsMigration t
     → OfFiles files (λ f. IsMigratedFile f certificate) TellsMigration t
 file-migrate None certificate certificate_read t read right = tt
 file-migrate (Some f) certificate certificate_read t read right =
     let c = whole-table f (in_file certificate) certificate_read read in
     record {
       told = right.told;
-      stands = record { certificate = c.0; certificate_is = c.1; read = ap certificate_in (sym (c.2 (refusal.TooLong input.Certificate))) ∙ right.stands };
+      stands = record { certificate = c.0; certificate_is = c.1; read = ap (certificate_in most_part) (sym (c.2 (refusal.TooLong input.Certificate))) ∙ right.stands };
       comes = right.comes;
     }
 

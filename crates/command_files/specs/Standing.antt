@@ -3,6 +3,7 @@ use Rattle.std.specs.Prelude.{◌≡◌, ℕ, List, Option, Some, None, Result, 
 use Rattle.fraction_theory.specs.Fraction.{Fraction}
 use Rattle.outside_store.specs.Files.{Files}
 use Rattle.cert_format.specs.declared.certificate.Cert.{Cert}
+use Rattle.cert_format.specs.Certificates.{most_part}
 use Rattle.market_inputs.specs.declared.checking.Inputs.{Inputs}
 use Rattle.market_inputs.specs.declared.making.FactorInputs.{FactorInputs}
 use Rattle.market_inputs.specs.Texts.{IsPool, IsLimited, IsCheck}
@@ -47,7 +48,7 @@ pub record AreVerifyFiles (files : Files) (names : MarketNames) (edits_name : Op
   pub have : HaveTexts files names texts
   pub edits_are : IsTableFile files (source_of edit_header edits_name) edits
   pub certificate_is : files certificate_name ≡ Some certificate
-  pub certified : IsCertified names.rating names.places texts edits certificate told
+  pub certified : IsCertified most_part names.rating names.places texts edits certificate told
 
 -- those of a clear with rights stand for this market and these rights
 pub record AreRightsFiles (files : Files) (names : MarketNames) (rights_name : List ℕ) (told : Result MarketRights Refusal) : Type 0 where
@@ -61,7 +62,7 @@ pub record AreRightsFiles (files : Files) (names : MarketNames) (rights_name : L
 pub record IsMigratedFile (files : Files) (certificate_name : List ℕ) (told : Result (Cert Fraction) Refusal) : Type 0 where
   pub certificate : List ℕ
   pub certificate_is : files certificate_name ≡ Some certificate
-  pub read : IsCertificate certificate told
+  pub read : IsCertificate most_part certificate told
 
 -- those of a check stand for these inputs
 pub record AreCheckFiles (files : Files) (names : CheckNames) (told : Result Inputs Refusal) : Type 0 where

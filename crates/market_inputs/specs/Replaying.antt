@@ -16,9 +16,9 @@ use Rattle.market_inputs.specs.declared.stops.InputStop.TheVariants as stop
 abbrev pub steps_in : Result (List ℕ) Refusal → Result (List Step) Refusal
 steps_in bytes = and_then bytes (λ text. or_as refusal.Edits (steps_of_table text))
 
--- the certificate of a text
-abbrev pub certificate_in : Result (List ℕ) Refusal → Result (Cert Fraction) Refusal
-certificate_in bytes = and_then bytes (λ text. or_as refusal.Certificate (cert_read text))
+-- the certificate of a text, of numbers whose parts are at most `most`
+abbrev pub certificate_in : ℕ → Result (List ℕ) Refusal → Result (Cert Fraction) Refusal
+certificate_in most bytes = and_then bytes (λ text. or_as refusal.Certificate (cert_read most text))
 
 -- what was read has this value, or this is the fault; want of memory may come at any time
 abbrev pub IsReadAs : {N : Type 0} → (N → Fraction) → Result (Cert Fraction) Refusal → Result (Cert N) InputStop → Type 0

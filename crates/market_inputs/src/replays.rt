@@ -14,7 +14,7 @@ use crate::lengths::check_length;
 use crate::stops::InputStop;
 use cert_format::{Cert, from_json};
 use edit_table::{Steps, steps};
-use exact_fraction::{Exact, Frac};
+use exact_fraction::Exact;
 use refusal_text::Input;
 use std::alloc::Global;
 
@@ -27,10 +27,10 @@ pub fn edit_steps(alloc: Global, bytes: &[u8]) -> Result<Steps, InputStop>
     Ok(steps(alloc, bytes)?)
 }
 
-/// The certificate that a text stands for.
-pub fn read_certificate(alloc: Global, bytes: &[u8]) -> Result<Cert<Frac>, InputStop>
-    ensures told { IsReadAs ⟦<Frac as Exact>⟧.value (certificate_in (sized (refusal.TooLong input.Certificate) bytes.now)) result }
-    ensures distinct { IfOk result (λ cert. RowsAreDistinct (cert_at ⟦<Frac as Exact>⟧.value cert)) }
+/// The certificate that a text stands for, of numbers within the bound of a type.
+pub fn read_certificate<N: Exact>(alloc: Global, bytes: &[u8]) -> Result<Cert<N>, InputStop>
+    ensures told { IsReadAs N.value (certificate_in N.bound (sized (refusal.TooLong input.Certificate) bytes.now)) result }
+    ensures distinct { IfOk result (λ cert. RowsAreDistinct (cert_at N.value cert)) }
 {
     check_length(bytes, Input::Certificate)?;
     Ok(from_json(alloc, bytes)?)

@@ -32,13 +32,13 @@ one-replay rating places texts edits =
     then-once _ _ (one-clear rating places texts)
     (λ market _. then-once _ _ (is-once (steps_in (sized (refusal.TooLong input.Edits) edits))) (λ steps _. is-once (Ok (record { market = market; steps = steps }))))
 
-pub one-certificate : (certificate : List ℕ) → IsOne (IsCertificate certificate)
-one-certificate certificate = is-once (certificate_in (sized (refusal.TooLong input.Certificate) certificate))
+pub one-certificate : (most : ℕ) (certificate : List ℕ) → IsOne (IsCertificate most certificate)
+one-certificate most certificate = is-once (certificate_in most (sized (refusal.TooLong input.Certificate) certificate))
 
-pub one-verification : (rating : PostRating) (places : FactorPlaces) (texts : MarketTexts) (edits certificate : List ℕ) → IsOne (IsCertified rating places texts edits certificate)
-one-verification rating places texts edits certificate =
+pub one-verification : (most : ℕ) (rating : PostRating) (places : FactorPlaces) (texts : MarketTexts) (edits certificate : List ℕ) → IsOne (IsCertified most rating places texts edits certificate)
+one-verification most rating places texts edits certificate =
     then-once _ _ (one-replay rating places texts edits)
-    (λ replayed _. then-once _ _ (one-certificate certificate) (λ read _. is-once (Ok (record { market = edited_by replayed.market replayed.steps; certificate = read }))))
+    (λ replayed _. then-once _ _ (one-certificate most certificate) (λ read _. is-once (Ok (record { market = edited_by replayed.market replayed.steps; certificate = read }))))
 
 pub one-rights : (rating : PostRating) (places : FactorPlaces) (texts : MarketTexts) (rights : List ℕ) → IsOne (AreEntitled rating places texts rights)
 one-rights rating places texts rights =

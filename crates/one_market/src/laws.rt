@@ -26,7 +26,7 @@ pub fn one_replay()
 /// With a table of edits and a certificate they stand for one market of `verify`, as the edits leave it, and one certificate at most, or have
 /// one first fault.
 pub fn one_verification()
-    ensures { (rating : PostRating) (places : FactorPlaces) (texts : MarketTexts) (edits certificate : List ℕ) → IsOne (IsCertified rating places texts edits certificate) }
+    ensures { (most : ℕ) (rating : PostRating) (places : FactorPlaces) (texts : MarketTexts) (edits certificate : List ℕ) → IsOne (IsCertified most rating places texts edits certificate) }
 {}
 
 /// With a table of transmission rights they stand for one market of `rights` and one list of rights at most, or have one first fault.
@@ -34,9 +34,9 @@ pub fn one_rights_market()
     ensures { (rating : PostRating) (places : FactorPlaces) (texts : MarketTexts) (rights : List ℕ) → IsOne (AreEntitled rating places texts rights) }
 {}
 
-/// A text stands for one certificate of `migrate` at most, or has one fault.
+/// A text stands for one certificate of `migrate` at most, or has one fault, whatever the bound of its numbers.
 pub fn one_certificate()
-    ensures { (certificate : List ℕ) → IsOne (IsCertificate certificate) }
+    ensures { (most : ℕ) (certificate : List ℕ) → IsOne (IsCertificate most certificate) }
 {}
 
 /// A case and its tables stand for one thing at most that a check works on, or have one first fault.

@@ -73,9 +73,9 @@ verify-files-once : (files : Files) (names : MarketNames) (edits : Option (List 
 verify-files-once files names edits certificate a b h k =
     let same_edits = same-table files (source_of edit_header edits) k.edits h.edits k.edits_are h.edits_are in
     let same_certificate = same-bytes k.certificate h.certificate (files certificate) k.certificate_is h.certificate_is in
-    let certified = subst (λ texts. IsCertified names.rating names.places texts k.edits k.certificate b) (same-texts files names k.texts h.texts k.have h.have) k.certified in
-    let edited = subst (λ table. IsCertified names.rating names.places h.texts table k.certificate b) same_edits certified in
-    certified-once names.rating names.places h.texts h.edits h.certificate a b h.certified (subst (λ text. IsCertified names.rating names.places h.texts h.edits text b) same_certificate edited)
+    let certified = subst (λ texts. IsCertified most_part names.rating names.places texts k.edits k.certificate b) (same-texts files names k.texts h.texts k.have h.have) k.certified in
+    let edited = subst (λ table. IsCertified most_part names.rating names.places h.texts table k.certificate b) same_edits certified in
+    certified-once most_part names.rating names.places h.texts h.edits h.certificate a b h.certified (subst (λ text. IsCertified most_part names.rating names.places h.texts h.edits text b) same_certificate edited)
 
 rights-files-once : (files : Files) (names : MarketNames) (rights : List ℕ) → OfOne (AreRightsFiles files names rights)
 rights-files-once files names rights a b h k =
@@ -94,7 +94,7 @@ factor-files-once files names a b h k =
 
 migrated-file-once : (files : Files) (certificate : List ℕ) → OfOne (IsMigratedFile files certificate)
 migrated-file-once files certificate a b h k =
-    sym h.read ∙ subst (λ text. IsCertificate text b) (same-bytes k.certificate h.certificate (files certificate) k.certificate_is h.certificate_is) k.read
+    sym h.read ∙ subst (λ text. IsCertificate most_part text b) (same-bytes k.certificate h.certificate (files certificate) k.certificate_is h.certificate_is) k.read
 
 -- what is told is told of what the files stand for, or of their first fault
 told-of : {A : Type 0} (stand : Result A Refusal → Type 0) (right : A → Telling → Type 0) (r : Result A Refusal) (t : Telling) → OfOne stand → stand r → Tells stand right t → ComesTo right r t

@@ -232,11 +232,11 @@ seen-certificate : (r : Result (Cert Fraction) Key) (c : Cert Fraction) → or_a
 seen-certificate (Ok x) c is = cc is
 seen-certificate (Err e) c is = cc is
 
-sized-read : (long : Bool) (too_long : Refusal) (bytes : List ℕ) (c : Cert Fraction) → certificate_in (if long then Err too_long else Ok bytes) ≡ Ok c → cert_read bytes ≡ Ok c
+sized-read : (long : Bool) (too_long : Refusal) (bytes : List ℕ) (c : Cert Fraction) → certificate_in most_part (if long then Err too_long else Ok bytes) ≡ Ok c → cert_read most_part bytes ≡ Ok c
 sized-read true too_long bytes c is = cc is
-sized-read false too_long bytes c is = seen-certificate (cert_read bytes) c is
+sized-read false too_long bytes c is = seen-certificate (cert_read most_part bytes) c is
 
-pub read-in : (too_long : Refusal) (bytes : List ℕ) (c : Cert Fraction) → certificate_in (sized too_long bytes) ≡ Ok c → cert_read bytes ≡ Ok c
+pub read-in : (too_long : Refusal) (bytes : List ℕ) (c : Cert Fraction) → certificate_in most_part (sized too_long bytes) ≡ Ok c → cert_read most_part bytes ≡ Ok c
 unfolding sized
 read-in too_long bytes c is = sized-read (nat_lt most_file (length bytes)) too_long bytes c is
 
@@ -244,20 +244,20 @@ abbrev certificate_or : Cert Fraction → Result MarketCertificate Refusal → C
 certificate_or c (Ok stood) = stood.certificate
 certificate_or c (Err r) = c
 
-certified-read : (rating : PostRating) (places : FactorPlaces) (t : MarketTexts) (edits certificate : List ℕ) (m : Parts) (c : Cert Fraction) → IsCertified rating places t edits certificate (Ok (record { market = m; certificate = c })) → cert_read certificate ≡ Ok c
+certified-read : (rating : PostRating) (places : FactorPlaces) (t : MarketTexts) (edits certificate : List ℕ) (m : Parts) (c : Cert Fraction) → IsCertified most_part rating places t edits certificate (Ok (record { market = m; certificate = c })) → cert_read most_part certificate ≡ Ok c
 certified-read rating places t edits certificate m c h = first h.made h.rest
   where
-    second : (stepped : MarketSteps) (made : Result (Cert Fraction) Refusal) → certificate_in (sized (refusal.TooLong input.Certificate) certificate) ≡ made
-        → Onward {B = MarketCertificate} made (λ read. Is (Ok (record { market = edited_by stepped.market stepped.steps; certificate = read }))) (Ok (record { market = m; certificate = c })) → cert_read certificate ≡ Ok c
+    second : (stepped : MarketSteps) (made : Result (Cert Fraction) Refusal) → certificate_in most_part (sized (refusal.TooLong input.Certificate) certificate) ≡ made
+        → Onward {B = MarketCertificate} made (λ read. Is (Ok (record { market = edited_by stepped.market stepped.steps; certificate = read }))) (Ok (record { market = m; certificate = c })) → cert_read most_part certificate ≡ Ok c
     second stepped (Ok read) is rest = let same : read ≡ c = ap (certificate_or c) rest in read-in (refusal.TooLong input.Certificate) certificate c (is ∙ ap Ok same)
     second stepped (Err r) is rest = cc rest
 
-    first : (made : Result MarketSteps Refusal) → Onward {B = MarketCertificate} made (λ stepped. Then (Is (certificate_in (sized (refusal.TooLong input.Certificate) certificate))) (λ read. Is (Ok (record { market = edited_by stepped.market stepped.steps; certificate = read }))))
-        (Ok (record { market = m; certificate = c })) → cert_read certificate ≡ Ok c
+    first : (made : Result MarketSteps Refusal) → Onward {B = MarketCertificate} made (λ stepped. Then (Is (certificate_in most_part (sized (refusal.TooLong input.Certificate) certificate))) (λ read. Is (Ok (record { market = edited_by stepped.market stepped.steps; certificate = read }))))
+        (Ok (record { market = m; certificate = c })) → cert_read most_part certificate ≡ Ok c
     first (Ok stepped) rest = second stepped rest.made rest.is rest.rest
     first (Err r) rest = cc rest
 
-asked-read : (files : Files) (words : List (List ℕ)) (m : Parts) (c : Cert Fraction) (asks : AsksVerdict files words m c) → cert_read asks.stand.certificate ≡ Ok c
+asked-read : (files : Files) (words : List (List ℕ)) (m : Parts) (c : Cert Fraction) (asks : AsksVerdict files words m c) → cert_read most_part asks.stand.certificate ≡ Ok c
 asked-read files words m c asks = certified-read asks.names.rating asks.names.places asks.stand.texts asks.stand.edits asks.stand.certificate m c asks.stand.certified
 
 verdict-line-yes : verdict_line None ≡ codes "yes\n"
@@ -284,7 +284,7 @@ pub law_of_verify : LawOfVerify
 law_of_verify words files text s m c prints asks =
     let p = printed words files text s prints in
     let told = verify-told files words p.telling p.written (Ok (record { market = m; certificate = c })) p.answers asks in
-    verdict-of m c (cert_read-distinct asks.stand.certificate c (asked-read files words m c asks)) text p.telling s p.text_is p.status_is told.1
+    verdict-of m c (cert_read-distinct most_part asks.stand.certificate c (asked-read files words m c asks)) text p.telling s p.text_is p.status_is told.1
 
 -- ---- round trip
 -- what is written of a clear is its certificate, where a file is named for it
@@ -414,7 +414,7 @@ law_of_round_trip words again files later text answer s t names file m c clear n
     let there : later file ≡ Some asks.stand.certificate = sym (ap later same) ∙ asks.stand.certificate_is in
     let bytes : asks.stand.certificate ≡ some.0 = cc (here, there) in
     let trip = law_of_the_round_trip m p.telling some.0 tells some.1 in
-    let read : cert_read some.0 ≡ Ok c = ap cert_read (sym bytes) ∙ asked-read later again m c asks in
+    let read : cert_read most_part some.0 ≡ Ok c = ap (cert_read most_part) (sym bytes) ∙ asked-read later again m c asks in
     let certificate : trip.0 ≡ c = cc (trip.2.read, read) in
     yes-or-range q.telling answer t q.text_is q.status_is
     (law_of_yes m some.0 c q.telling (subst (Certifies m some.0) certificate trip.2)

@@ -314,7 +314,7 @@ pub record IsWrittenAnew (c : Cert Fraction) (text : List ℕ) (s : Status) (has
   pub done : s ≡ status.Done
   pub said : text ≡ codes "migrated\n"
   pub written : has ≡ Some (cert_text c)
-  pub read : cert_read (cert_text c) ≡ Ok c
+  pub read : cert_read most_part (cert_text c) ≡ Ok c
 
 abbrev pub LawOfMigrate : Type 0
 LawOfMigrate = (words : List (List ℕ)) (files later : Files) (text : List ℕ) (s : Status) (c : Cert Fraction)
