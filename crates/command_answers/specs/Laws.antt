@@ -9,9 +9,8 @@ use Rattle.market_model.specs.declared.participants.Parts.{Parts}
 use Rattle.market_model.specs.declared.participants.TransmissionRight.{TransmissionRight}
 use Rattle.market_model.specs.Reserves.{no_reserve}
 use Rattle.cert_format.specs.declared.certificate.Cert.{Cert}
-use Rattle.cert_format.specs.Certificates.{cert_of_outcome}
+use Rattle.cert_format.specs.Certificates.{cert_of_outcome, most_part}
 use Rattle.cert_format.specs.Grammar.{cert_read}
-use Rattle.cert_format.specs.Certificates.{most_part}
 use Rattle.cert_verify.specs.Certificates.{IsTrueOf, first_reason}
 use Rattle.cert_verify.specs.Reasons.{verdict_of}
 use Rattle.cert_verify.specs.declared.verdicts.Verdict.TheVariants.{Yes}
