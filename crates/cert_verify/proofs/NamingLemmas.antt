@@ -110,9 +110,9 @@ entries_more {N} ds i e lt at =
 -- ---- the rows that are named, one by one
 module _ {N : Type 0} (value : N → Fraction) (m : Parts) where
   -- what is found under the name of a row
-  pub named_is : (ds : List (Dual N)) (energy price : Fraction) (rooms : List (RoomDual Fraction)) (row : Row) (e : Dual N) → lookup (same_triple (name_of (row_id m row))) (map entry_of ds) ≡ Some e
-      → IsNamedAt value m (duals_with energy (map (dual_at value) ds) price rooms) row (Some (record { row = row; up = e.up; down = e.down }))
-  named_is ds energy price rooms row e found =
+  pub named_is : (ds : List (Dual N)) (energy reserve_price : Fraction) (rooms : List (RoomDual Fraction)) (row : Row) (e : Dual N) → lookup (same_triple (name_of (row_id m row))) (map entry_of ds) ≡ Some e
+      → IsNamedAt value m (duals_with energy (map (dual_at value) ds) reserve_price rooms) row (Some (record { row = row; up = e.up; down = e.down }))
+  named_is ds energy reserve_price rooms row e found =
       let is = dual_named value (row_id m row) ds e found in
       (is.named, ap₂ (λ (u w : Fraction). record { row = row; up = u; down = w }) (sym is.up) (sym is.down))
 

@@ -1,8 +1,9 @@
 -- What is looked up of a row by its name, and the operations refused.
-use Rattle.std.specs.Prelude.{◌≡◌, ◌≢◌, ◌&&◌, ◌||◌, pos, ℕ, Bool, true, false, not, List, [], ◌∷◌, ◌++◌, length, Contains, Option, Some, None, MatchOption, is_some, refl}
+use Rattle.std.specs.Prelude.{◌≡◌, ◌≢◌, ◌&&◌, ◌||◌, pos, ℕ, Bool, true, false, not, List, [], ◌∷◌, ◌++◌, Contains, Option, Some, None, MatchOption, is_some, refl}
 use Rattle.std.specs.List.{list_any}
 use Rattle.std.proofs.Common.{ap, ap₂, sym, subst, ◌∙◌}
 use Rattle.std.proofs.lemmas.Bool.{true≢false}
+use Rattle.std.proofs.lemmas.List.{length-map}
 use Rattle.fraction_theory.specs.Fraction.{Fraction, neg_ℚ}
 use Rattle.fraction_theory.proofs.OrderLaws.{≤ℚ_of_same, ≤ℚ_refl, opposite_most}
 use Rattle.exact_fraction.specs.declared.Passed.{Passed}
@@ -21,6 +22,8 @@ use Rattle.limit_rows.proofs.ApartLemmas.{same_row}
 use Rattle.limit_rows.proofs.PlaceLemmas.{same_name}
 use Rattle.limit_rows.specs.Naming.{has_name}
 use Rattle.cert_sums.specs.Refusals.{IsCarriedRefusal}
+use Rattle.cert_verify.specs.declared.certified.CertifiedDispatch.{CertifiedDispatch}
+use Rattle.cert_verify.specs.Certified.{HasEachQuantity, certified_dispatch}
 use Rattle.cert_verify.specs.Reasons.{NoneOf, balance_reason, differ, has_no_row, has_slack, is_below, is_unpriced, limit_reason, need_reason, passes, breaks_row, breaks_side, part_reasons, sum_reasons}
 use Rattle.cert_verify.specs.Stops.{IsLimitPair, of_carried, of_row}
 use Rattle.cert_verify.proofs.TestLemmas.{all_none, any_of, any_none, below_not, below_of, int_lt-true, neither, not_below, none_first, none_join, not_both, not_true}
@@ -148,5 +151,7 @@ module _ (m : Parts) (x : Dispatch) (d : Duals Fraction) (before : NoneOf (part_
       none_join (part_reasons m x d) (sum_reasons m x ++ limit_reason m x ∷ []) before (none_first (sum_reasons m x ++ limit_reason m x ∷ []) (balanced, (met, (within, tt))))
 
 -- and there is one quantity for each block and each offer
-pub counts : (m : Parts) (x : Dispatch) (d : Duals Fraction) → NoneOf (part_reasons m x d) → (length x.blocks ≡ length m.blocks) × (length x.reserve ≡ length m.reserve.offers)
-counts m x d none = counts_to m x (all_none (part_reasons m x d) none).0
+pub counts : {N : Type 0} (value : N → Fraction) (m : Parts) (x : CertifiedDispatch N) (d : Duals Fraction) → NoneOf (part_reasons m (certified_dispatch value x) d) → HasEachQuantity m x
+counts value m x d none =
+    let same = counts_to m (certified_dispatch value x) (all_none (part_reasons m (certified_dispatch value x) d) none).0 in
+    record { blocks = sym (length-map x.blocks.now value) ∙ same.0; quantities = sym (length-map x.quantities.now value) ∙ same.1 }

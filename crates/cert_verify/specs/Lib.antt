@@ -1,4 +1,5 @@
 pub mod Certificates
+pub mod Certified
 pub mod Laws
 pub mod Naming
 pub mod Reasons

@@ -5,9 +5,11 @@ ghost use Rattle.fraction_theory.specs.Fraction.{Fraction};
 ghost use Rattle.market_model.specs.declared.answered.Duals.{Duals};
 ghost use Rattle.market_model.specs.Dispatch.{dispatch_with, places};
 ghost use Rattle.market_model.specs.Optimality.{energy_worth};
+ghost use Rattle.cert_verify.specs.Certified.{certified_dispatch};
 ghost use Rattle.cert_verify.specs.Reasons.{block_reason, count_reason, support_reason};
 
 use crate::Reason;
+use crate::certified::CertifiedDispatch;
 use crate::comparing::{breaks_support, is_outside};
 use exact_fraction::Exact;
 use market_model::{Market, block_price, block_quantity};
@@ -15,12 +17,13 @@ use market_model::{Market, block_price, block_quantity};
 /// Whether there is not one quantity for each block and for each offer of reserve.
 pub(crate) fn other_count<N: Exact>(
     market: &Market,
-    blocks: &[N],
-    quantities: &[N],
+    dispatch: &CertifiedDispatch<'_, N>,
 ) -> Option<Reason>
-    ensures { result ≡ count_reason market.now (dispatch_with (map N.value blocks.now) (map N.value quantities.now)) }
+    ensures { result ≡ count_reason market.now (certified_dispatch N.value dispatch.now) }
 {
-    if blocks.len() == market.blocks().len() && quantities.len() == market.reserve().offers.len() {
+    if dispatch.blocks.len() == market.blocks().len()
+        && dispatch.quantities.len() == market.reserve().offers.len()
+    {
         None
     } else {
         Some(Reason::Count)

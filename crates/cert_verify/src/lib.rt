@@ -4,6 +4,7 @@
 
 mod against;
 mod blocks;
+mod certified;
 mod comparing;
 mod duals;
 mod flows;

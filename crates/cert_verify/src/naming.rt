@@ -63,7 +63,7 @@ pub(crate) fn named_at<N: Exact>(
 ) -> Option<NamedRow<N>>
     requires line { row.line < length market.now.lines }
     requires lost { IsCauseOf market.now row.cause }
-    ensures { (ds : List (Dual N)) (energy price : Fraction) (rooms : List (RoomDual Fraction)) → duals.now.entries ≡ map entry_of ds → IsNamedAt N.value market.now (duals_with energy (map (dual_at N.value) ds) price rooms) row result }
+    ensures { (ds : List (Dual N)) (energy reserve_price : Fraction) (rooms : List (RoomDual Fraction)) → duals.now.entries ≡ map entry_of ds → IsNamedAt N.value market.now (duals_with energy (map (dual_at N.value) ds) reserve_price rooms) row result }
 {
     match dual_of(duals, name_at(market, row)) {
         Some(dual) => Some(NamedRow {
@@ -82,7 +82,7 @@ pub(crate) fn named_rows<N: Exact>(
     limits: &[Dual<N>],
 ) -> Result<List<NamedRow<N>>, Memory>
     requires { NamesNoRowTwice (map (dual_at N.value) limits.now) }
-    ensures { IfOk result (λ named. (energy price : Fraction) (rooms : List (RoomDual Fraction)) → AreNamed N.value market.now (duals_with energy (map (dual_at N.value) limits.now) price rooms) named) }
+    ensures { IfOk result (λ named. (energy reserve_price : Fraction) (rooms : List (RoomDual Fraction)) → AreNamed N.value market.now (duals_with energy (map (dual_at N.value) limits.now) reserve_price rooms) named) }
 {
     let duals = by_name(alloc, limits)?;
     let mut named = List::new(alloc);

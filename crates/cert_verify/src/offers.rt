@@ -17,10 +17,10 @@ use exact_fraction::{Exact, Passed};
 use market_model::{Market, Side, datum, need_quantity, offer_price, offer_quantity};
 
 /// Whether the price of reserve is below 0.
-pub(crate) fn negative_need<N: Exact>(price: N) -> Option<Reason>
-    ensures { result ≡ need_sign_reason (N.value price) }
+pub(crate) fn negative_need<N: Exact>(reserve_price: N) -> Option<Reason>
+    ensures { result ≡ need_sign_reason (N.value reserve_price) }
 {
-    if is_negative(price) {
+    if is_negative(reserve_price) {
         Some(Reason::NeedSign)
     } else {
         None
@@ -59,10 +59,10 @@ pub(crate) fn is_slack<N: Exact>(price: N, used: N, all: N) -> bool
 }
 
 /// Whether reserve has a price, and not just the need is accepted.
-pub(crate) fn slack_need<N: Exact>(market: &Market, price: N, accepted: N) -> Option<Reason>
-    ensures { (x : Dispatch) → N.value accepted ≡ reserve market.now x → result ≡ need_slack_reason market.now x (N.value price) }
+pub(crate) fn slack_need<N: Exact>(market: &Market, reserve_price: N, accepted: N) -> Option<Reason>
+    ensures { (x : Dispatch) → N.value accepted ≡ reserve market.now x → result ≡ need_slack_reason market.now x (N.value reserve_price) }
 {
-    if is_slack(price, accepted, need_quantity(market.reserve())) {
+    if is_slack(reserve_price, accepted, need_quantity(market.reserve())) {
         Some(Reason::NeedSlack)
     } else {
         None
@@ -74,16 +74,16 @@ pub(crate) fn slack_need<N: Exact>(market: &Market, price: N, accepted: N) -> Op
 pub(crate) fn unsupported_offer<N: Exact>(
     market: &Market,
     quantities: &[N],
-    price: N,
+    reserve_price: N,
     rooms: &[NamedRoom<N>],
 ) -> Result<Option<Reason>, Passed<N>>
     requires { length quantities.now ≡ length market.now.reserve.offers }
-    ensures first { (d : Duals Fraction) (blocks : List Fraction) → N.value price ≡ d.reserve → AreNamedRooms N.value market.now d rooms.now → IfOk result (λ first. first ≡ reserve_support_reason market.now (dispatch_with blocks (map N.value quantities.now)) d) }
-    ensures stops { (d : Duals Fraction) → N.value price ≡ d.reserve → AreNamedRooms N.value market.now d rooms.now → IfErr result (λ passed. IsRefusedAmong (WorthSum market.now d) N.bound (passed_at N.value passed)) }
+    ensures first { (d : Duals Fraction) (blocks : List Fraction) → N.value reserve_price ≡ d.reserve → AreNamedRooms N.value market.now d rooms.now → IfOk result (λ first. first ≡ reserve_support_reason market.now (dispatch_with blocks (map N.value quantities.now)) d) }
+    ensures stops { (d : Duals Fraction) → N.value reserve_price ≡ d.reserve → AreNamedRooms N.value market.now d rooms.now → IfErr result (λ passed. IsRefusedAmong (WorthSum market.now d) N.bound (passed_at N.value passed)) }
 {
     let _units = market.units();
     for (at, offer) in market.reserve().offers.slice().iter().enumerate() {
-        let worth = reserve_worth(price, rooms, offer.unit)?;
+        let worth = reserve_worth(reserve_price, rooms, offer.unit)?;
         if breaks_support(
             Side::Sell,
             offer_price(offer),

@@ -1,17 +1,18 @@
 //! What may be wrong with the rooms of a certificate, and those that its duals name in the market's order.
 
-ghost use Rattle.std.specs.Prelude.{◌≡◌, ◌<◌, length, map, Contains, IfOk, IfErr};
+ghost use Rattle.std.specs.Prelude.{◌≡◌, ◌<◌, map, Contains, IfOk, IfErr};
 ghost use Rattle.fraction_theory.specs.Fraction.{Fraction};
 ghost use Rattle.market_model.specs.declared.answered.Duals.{Duals};
-ghost use Rattle.market_model.specs.Dispatch.{dispatch_with};
 ghost use Rattle.market_model.specs.Optimality.{names_room};
 ghost use Rattle.market_model.specs.SumTables.{IsRefusedAmong, RoomSum};
 ghost use Rattle.market_model.specs.Valued.{passed_at, room_dual_at};
 ghost use Rattle.cert_sums.specs.Named.{AreNamedRooms};
+ghost use Rattle.cert_verify.specs.Certified.{HasEachQuantity, certified_dispatch};
 ghost use Rattle.cert_verify.specs.Naming.{IsPriceOf};
 ghost use Rattle.cert_verify.specs.Reasons.{has_offer, has_room_slack, room_reason, room_sign_reason, room_slack_reason, unit_reason};
 
 use crate::Reason;
+use crate::certified::CertifiedDispatch;
 use crate::comparing::{is_below, is_negative};
 use crate::offers::is_slack;
 use cert_sums::NamedRoom;
@@ -70,17 +71,15 @@ pub(crate) fn negative_room<N: Exact>(rooms: &[RoomDual<N>]) -> Option<Reason>
 /// The first unit that offers reserve and uses more than its room.
 pub(crate) fn overfull_room<N: Exact>(
     market: &Market,
-    blocks: &[N],
-    quantities: &[N],
+    dispatch: &CertifiedDispatch<'_, N>,
 ) -> Result<Option<Reason>, Passed<N>>
-    requires blocks { length blocks.now ≡ length market.now.blocks }
-    requires quantities { length quantities.now ≡ length market.now.reserve.offers }
-    ensures first { IfOk result (λ first. first ≡ room_reason market.now (dispatch_with (map N.value blocks.now) (map N.value quantities.now))) }
-    ensures stops { IfErr result (λ passed. IsRefusedAmong (RoomSum market.now (dispatch_with (map N.value blocks.now) (map N.value quantities.now))) N.bound (passed_at N.value passed)) }
+    requires { HasEachQuantity market.now dispatch.now }
+    ensures first { IfOk result (λ first. first ≡ room_reason market.now (certified_dispatch N.value dispatch.now)) }
+    ensures stops { IfErr result (λ passed. IsRefusedAmong (RoomSum market.now (certified_dispatch N.value dispatch.now)) N.bound (passed_at N.value passed)) }
 {
     for (at, unit) in market.units().slice().iter().enumerate() {
         if offers_reserve(market, at) {
-            let used = room_used(market, at, blocks, quantities)?;
+            let used = room_used(market, at, dispatch.blocks, dispatch.quantities)?;
             if is_below(room_quantity(market, at), used) {
                 return Ok(Some(Reason::Room { unit: unit.row }));
             }
@@ -92,18 +91,16 @@ pub(crate) fn overfull_room<N: Exact>(
 /// Whether a dual has a price above 0, and the room of its unit is not used up.
 fn has_room_slack<N: Exact>(
     market: &Market,
-    blocks: &[N],
-    quantities: &[N],
+    dispatch: &CertifiedDispatch<'_, N>,
     dual: &RoomDual<N>,
 ) -> Result<bool, Passed<N>>
-    requires blocks { length blocks.now ≡ length market.now.blocks }
-    requires quantities { length quantities.now ≡ length market.now.reserve.offers }
-    ensures slack { IfOk result (λ slack. slack ≡ has_room_slack market.now (dispatch_with (map N.value blocks.now) (map N.value quantities.now)) (room_dual_at N.value dual.now)) }
-    ensures stops { IfErr result (λ passed. IsRefusedAmong (RoomSum market.now (dispatch_with (map N.value blocks.now) (map N.value quantities.now))) N.bound (passed_at N.value passed)) }
+    requires { HasEachQuantity market.now dispatch.now }
+    ensures slack { IfOk result (λ slack. slack ≡ has_room_slack market.now (certified_dispatch N.value dispatch.now) (room_dual_at N.value dual.now)) }
+    ensures stops { IfErr result (λ passed. IsRefusedAmong (RoomSum market.now (certified_dispatch N.value dispatch.now)) N.bound (passed_at N.value passed)) }
 {
     for (at, unit) in market.units().slice().iter().enumerate() {
         if unit.row == dual.unit && offers_reserve(market, at) {
-            let used = room_used(market, at, blocks, quantities)?;
+            let used = room_used(market, at, dispatch.blocks, dispatch.quantities)?;
             if is_slack(dual.price, used, room_quantity(market, at)) {
                 return Ok(true);
             }
@@ -115,17 +112,15 @@ fn has_room_slack<N: Exact>(
 /// The first such dual.
 pub(crate) fn slack_room<N: Exact>(
     market: &Market,
-    blocks: &[N],
-    quantities: &[N],
+    dispatch: &CertifiedDispatch<'_, N>,
     rooms: &[RoomDual<N>],
 ) -> Result<Option<Reason>, Passed<N>>
-    requires blocks { length blocks.now ≡ length market.now.blocks }
-    requires quantities { length quantities.now ≡ length market.now.reserve.offers }
-    ensures first { IfOk result (λ first. first ≡ room_slack_reason market.now (dispatch_with (map N.value blocks.now) (map N.value quantities.now)) (map (room_dual_at N.value) rooms.now)) }
-    ensures stops { IfErr result (λ passed. IsRefusedAmong (RoomSum market.now (dispatch_with (map N.value blocks.now) (map N.value quantities.now))) N.bound (passed_at N.value passed)) }
+    requires { HasEachQuantity market.now dispatch.now }
+    ensures first { IfOk result (λ first. first ≡ room_slack_reason market.now (certified_dispatch N.value dispatch.now) (map (room_dual_at N.value) rooms.now)) }
+    ensures stops { IfErr result (λ passed. IsRefusedAmong (RoomSum market.now (certified_dispatch N.value dispatch.now)) N.bound (passed_at N.value passed)) }
 {
     for dual in rooms {
-        let slack = has_room_slack(market, blocks, quantities, dual)?;
+        let slack = has_room_slack(market, dispatch, dual)?;
         if slack {
             return Ok(Some(Reason::RoomSlack { unit: dual.unit }));
         }

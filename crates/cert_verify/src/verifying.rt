@@ -1,19 +1,18 @@
 //! The verdict on a certificate.
 
-ghost use Rattle.std.specs.Prelude.{◌≡◌, map, option_map, IfOk, IfErr};
-ghost use Rattle.market_model.specs.Stops.{StopsBy};
-ghost use Rattle.market_model.specs.Valued.{dual_at};
-ghost use Rattle.cert_format.specs.Certificates.{NamesNoRowTwice, RowsAreDistinct, cert_at, cleared_reserve_at, reserve_duals_at};
-ghost use Rattle.cert_verify.specs.Certificates.{dispatched, first_reason, named_duals};
-ghost use Rattle.cert_verify.specs.Reasons.{farkas_reasons, first_of, optimal_reasons, places_reason, verdict_of};
-ghost use Rattle.cert_verify.specs.Stops.{IsFarkasStop, IsOptimalStop, IsVerifyStop};
+ghost use Rattle.std.specs.Prelude.{◌≡◌, IfOk, IfErr};
+ghost use Rattle.cert_format.specs.Certificates.{RowsAreDistinct, cert_at};
+ghost use Rattle.cert_verify.specs.Certificates.{first_reason};
+ghost use Rattle.cert_verify.specs.Reasons.{places_reason, verdict_of};
+ghost use Rattle.cert_verify.specs.Stops.{IsVerifyStop};
 
 use crate::against::{against_farkas, against_optimal};
+use crate::certified::{CertifiedDispatch, CertifiedDuals};
 use crate::{Reason, Verdict, VerifyStop};
-use cert_format::{Cert, ClearedReserve, ReserveDuals};
+use cert_format::Cert;
 use exact_fraction::Exact;
 use market_data::FactorPlaces;
-use market_model::{Dual, List, Market, RoomDual, Stop, datum};
+use market_model::Market;
 use std::alloc::Global;
 
 /// What is told where this is the first reason, or there is none.
@@ -34,76 +33,6 @@ fn other_places(market: &Market, places: FactorPlaces) -> Option<Reason>
         None
     } else {
         Some(Reason::Places)
-    }
-}
-
-/// The first reason against a dispatch and duals, where a part on reserve is there or not. Without one none is accepted, and its prices are 0.
-fn against_dispatch<N: Exact>(
-    alloc: Global,
-    market: &Market,
-    blocks: &[N],
-    energy: N,
-    limits: &[Dual<N>],
-    reserve: &Option<ClearedReserve<N>>,
-) -> Result<Option<Reason>, Stop<N>>
-    requires { NamesNoRowTwice (map (dual_at N.value) limits.now) }
-    ensures first { IfOk result (λ first. first ≡ first_of (optimal_reasons market.now (dispatched (map N.value blocks.now) (option_map (cleared_reserve_at N.value) reserve.now)) (named_duals (N.value energy) (map (dual_at N.value) limits.now) (option_map (λ r. r.duals) (option_map (cleared_reserve_at N.value) reserve.now))))) }
-    ensures stops { IfErr result (StopsBy N.value (IsOptimalStop market.now (dispatched (map N.value blocks.now) (option_map (cleared_reserve_at N.value) reserve.now)) (named_duals (N.value energy) (map (dual_at N.value) limits.now) (option_map (λ r. r.duals) (option_map (cleared_reserve_at N.value) reserve.now))) N.bound)) }
-{
-    match reserve {
-        None => {
-            let quantities: List<N> = List::new(alloc);
-            let rooms: List<RoomDual<N>> = List::new(alloc);
-            against_optimal(
-                alloc,
-                market,
-                blocks,
-                quantities.slice(),
-                energy,
-                limits,
-                datum(0),
-                rooms.slice(),
-            )
-        }
-        Some(cleared) => {
-            let duals = &cleared.duals;
-            let quantities = cleared.quantities.slice();
-            let rooms = duals.rooms.slice();
-            against_optimal(
-                alloc,
-                market,
-                blocks,
-                quantities,
-                energy,
-                limits,
-                duals.price,
-                rooms,
-            )
-        }
-    }
-}
-
-/// The same of duals alone.
-fn against_duals<N: Exact>(
-    alloc: Global,
-    market: &Market,
-    energy: N,
-    limits: &[Dual<N>],
-    reserve: &Option<ReserveDuals<N>>,
-) -> Result<Option<Reason>, Stop<N>>
-    requires { NamesNoRowTwice (map (dual_at N.value) limits.now) }
-    ensures first { IfOk result (λ first. first ≡ first_of (farkas_reasons market.now (named_duals (N.value energy) (map (dual_at N.value) limits.now) (option_map (reserve_duals_at N.value) reserve.now)))) }
-    ensures stops { IfErr result (StopsBy N.value (IsFarkasStop market.now (named_duals (N.value energy) (map (dual_at N.value) limits.now) (option_map (reserve_duals_at N.value) reserve.now)) N.bound)) }
-{
-    match reserve {
-        None => {
-            let rooms: List<RoomDual<N>> = List::new(alloc);
-            against_farkas(alloc, market, energy, limits, datum(0), rooms.slice())
-        }
-        Some(duals) => {
-            let rooms = duals.rooms.slice();
-            against_farkas(alloc, market, energy, limits, duals.price, rooms)
-        }
     }
 }
 
@@ -134,14 +63,10 @@ pub fn verify<N: Exact>(
             places: _,
             reserve,
         } => {
-            let reason = against_dispatch(
-                alloc,
-                market,
-                blocks.slice(),
-                *energy,
-                limits.slice(),
-                reserve,
-            )?;
+            let dispatch = CertifiedDispatch::new(blocks.slice(), reserve);
+            let prices = reserve.as_ref().map(|cleared| &cleared.duals);
+            let duals = CertifiedDuals::new(*energy, limits.slice(), prices);
+            let reason = against_optimal(alloc, market, &dispatch, &duals)?;
             Ok(told(reason))
         }
         Cert::Farkas {
@@ -150,7 +75,8 @@ pub fn verify<N: Exact>(
             places: _,
             reserve,
         } => {
-            let reason = against_duals(alloc, market, *energy, limits.slice(), reserve)?;
+            let duals = CertifiedDuals::new(*energy, limits.slice(), reserve.as_ref());
+            let reason = against_farkas(alloc, market, &duals)?;
             Ok(told(reason))
         }
     }

@@ -1,12 +1,11 @@
 use Rattle.std.proofs.Common.{inr, ◌∙◌, [], ◌∷◌, List, ap, map, length, refl, sym, subst}
 use Rattle.std.specs.Option.{option_or}
 use Rattle.std.proofs.lemmas.Result.{err_from_is_err_and}
-use Rattle.market_model.specs.Dispatch.{dispatch_with}
 use Rattle.market_model.specs.Optimality.{energy_worth}
-use Rattle.market_model.specs.Valued.{dual_at, room_dual_at, duals_with}
 use Rattle.cert_sums.specs.declared.pricing.NamedRow.{NamedRow}
 use Rattle.cert_sums.specs.declared.worths.NamedRoom.{NamedRoom}
 use Rattle.cert_sums.specs.Named.{AreNamed, AreNamedRooms}
+use Rattle.cert_verify.specs.Certified.{certified_dispatch, certified_duals}
 use Rattle.cert_verify.specs.Reasons.{first_of, reserve_support_reason}
 use Rattle.cert_verify.proofs.NamingLemmas.{counted}
 use Rattle.cert_verify.proofs.TestLemmas.{or_none}
@@ -16,17 +15,17 @@ pub energy_worths-requires : goal.energy_worths-requires
 energy_worths-requires g c =
     let m = c.args.market.now in
     let value = g.N.Exact.value in
-    let d = duals_with (value c.args.energy) (map (dual_at value) c.args.limits.now) (value c.args.price) (map (room_dual_at value) c.args.rooms.now) in
-    let rows = subst (λ (xs : List (NamedRow g.row.N.Denot)). AreNamed value m d xs) (sym c.slice.ensures) (c.in_ok-rows.ensures.rows (value c.args.energy) (value c.args.price)) in
+    let d = certified_duals value c.args.duals.now in
+    let rows = subst (λ (xs : List (NamedRow g.row.N.Denot)). AreNamed value m d xs) (sym c.slice.ensures) (c.in_ok-rows.ensures.rows) in
     (d, rows)
 
 pub returns-in_err-worths-clause-stops : goal.returns-in_err-worths-clause-stops
 returns-in_err-worths-clause-stops g c =
     let m = c.args.market.now in
     let value = g.N.Exact.value in
-    let d = duals_with (value c.args.energy) (map (dual_at value) c.args.limits.now) (value c.args.price) (map (room_dual_at value) c.args.rooms.now) in
-    let rows = subst (λ (xs : List (NamedRow g.row.N.Denot)). AreNamed value m d xs) (sym c.slice.ensures) (c.in_ok-rows.ensures.rows (value c.args.energy) (value c.args.price)) in
-    let rooms = subst (λ (xs : List (NamedRoom g.row.N.Denot)). AreNamedRooms value m d xs) (sym c.slice-2.ensures) (c.in_ok-rows.ensures.rooms (value c.args.energy) (value c.args.price)) in
+    let d = certified_duals value c.args.duals.now in
+    let rows = subst (λ (xs : List (NamedRow g.row.N.Denot)). AreNamed value m d xs) (sym c.slice.ensures) (c.in_ok-rows.ensures.rows) in
+    let rooms = subst (λ (xs : List (NamedRoom g.row.N.Denot)). AreNamedRooms value m d xs) (sym c.slice-2.ensures) (c.in_ok-rows.ensures.rooms) in
     let p = err_from_is_err_and c.from_residual-in_err-worths.result c.from_residual-in_err-worths.ensures.1 in
     rw (p.1, p.2) (c.in_err-worths.ensures.stops d refl rows rooms)
 
@@ -34,29 +33,28 @@ pub unsupported_block-requires-clause-worths : goal.unsupported_block-requires-c
 unsupported_block-requires-clause-worths g c =
     let m = c.args.market.now in
     let value = g.N.Exact.value in
-    let d = duals_with (value c.args.energy) (map (dual_at value) c.args.limits.now) (value c.args.price) (map (room_dual_at value) c.args.rooms.now) in
-    let rows = subst (λ (xs : List (NamedRow g.row.N.Denot)). AreNamed value m d xs) (sym c.slice.ensures) (c.in_ok-rows.ensures.rows (value c.args.energy) (value c.args.price)) in
-    let rooms = subst (λ (xs : List (NamedRoom g.row.N.Denot)). AreNamedRooms value m d xs) (sym c.slice-2.ensures) (c.in_ok-rows.ensures.rooms (value c.args.energy) (value c.args.price)) in
+    let d = certified_duals value c.args.duals.now in
+    let rows = subst (λ (xs : List (NamedRow g.row.N.Denot)). AreNamed value m d xs) (sym c.slice.ensures) (c.in_ok-rows.ensures.rows) in
+    let rooms = subst (λ (xs : List (NamedRoom g.row.N.Denot)). AreNamedRooms value m d xs) (sym c.slice-2.ensures) (c.in_ok-rows.ensures.rooms) in
     ap length c.slice-3.ensures ∙ counted value (energy_worth m d) c.in_ok-worths.worths (length m.units) (c.in_ok-worths.ensures.worths d refl rows rooms)
 
 pub returns-in-Some-clause-first : goal.returns-in-Some-clause-first
 returns-in-Some-clause-first g c =
     let m = c.args.market.now in
     let value = g.N.Exact.value in
-    let d = duals_with (value c.args.energy) (map (dual_at value) c.args.limits.now) (value c.args.price) (map (room_dual_at value) c.args.rooms.now) in
-    let rows = subst (λ (xs : List (NamedRow g.row.N.Denot)). AreNamed value m d xs) (sym c.slice.ensures) (c.in_ok-rows.ensures.rows (value c.args.energy) (value c.args.price)) in
-    let rooms = subst (λ (xs : List (NamedRoom g.row.N.Denot)). AreNamedRooms value m d xs) (sym c.slice-2.ensures) (c.in_ok-rows.ensures.rooms (value c.args.energy) (value c.args.price)) in
+    let d = certified_duals value c.args.duals.now in
+    let rows = subst (λ (xs : List (NamedRow g.row.N.Denot)). AreNamed value m d xs) (sym c.slice.ensures) (c.in_ok-rows.ensures.rows) in
+    let rooms = subst (λ (xs : List (NamedRoom g.row.N.Denot)). AreNamedRooms value m d xs) (sym c.slice-2.ensures) (c.in_ok-rows.ensures.rooms) in
     let worths = ap (map value) c.slice-3.ensures ∙ c.in_ok-worths.ensures.worths d refl rows rooms in
-    let rs = map value c.args.quantities.now in
-    let x = dispatch_with (map value c.args.blocks.now) rs in
-    sym (ap (λ o. option_or o (first_of (reserve_support_reason m x d ∷ []))) (sym (c.unsupported_block.ensures d rs worths) ∙ c.in-Some.is))
+    let x = certified_dispatch value c.args.dispatch.now in
+    sym (ap (λ o. option_or o (first_of (reserve_support_reason m x d ∷ []))) (sym (c.unsupported_block.ensures d x.reserve worths) ∙ c.in-Some.is))
 
 pub returns-in_err-unsupported_offer-clause-stops : goal.returns-in_err-unsupported_offer-clause-stops
 returns-in_err-unsupported_offer-clause-stops g c =
     let m = c.args.market.now in
     let value = g.N.Exact.value in
-    let d = duals_with (value c.args.energy) (map (dual_at value) c.args.limits.now) (value c.args.price) (map (room_dual_at value) c.args.rooms.now) in
-    let named = subst (λ (xs : List (NamedRoom g.row.N.Denot)). AreNamedRooms value m d xs) (sym c.slice-4.ensures) (c.in_ok-rows.ensures.rooms (value c.args.energy) (value c.args.price)) in
+    let d = certified_duals value c.args.duals.now in
+    let named = subst (λ (xs : List (NamedRoom g.row.N.Denot)). AreNamedRooms value m d xs) (sym c.slice-4.ensures) (c.in_ok-rows.ensures.rooms) in
     let p = err_from_is_err_and c.from_residual-in_err-unsupported_offer.result c.from_residual-in_err-unsupported_offer.ensures.1 in
     rw (p.1, p.2) (inr (c.in_err-unsupported_offer.ensures.stops d refl named))
 
@@ -64,13 +62,11 @@ pub returns-clause-first : goal.returns-clause-first
 returns-clause-first g c =
     let m = c.args.market.now in
     let value = g.N.Exact.value in
-    let d = duals_with (value c.args.energy) (map (dual_at value) c.args.limits.now) (value c.args.price) (map (room_dual_at value) c.args.rooms.now) in
-    let rows = subst (λ (xs : List (NamedRow g.row.N.Denot)). AreNamed value m d xs) (sym c.slice.ensures) (c.in_ok-rows.ensures.rows (value c.args.energy) (value c.args.price)) in
-    let rooms = subst (λ (xs : List (NamedRoom g.row.N.Denot)). AreNamedRooms value m d xs) (sym c.slice-2.ensures) (c.in_ok-rows.ensures.rooms (value c.args.energy) (value c.args.price)) in
-    let named = subst (λ (xs : List (NamedRoom g.row.N.Denot)). AreNamedRooms value m d xs) (sym c.slice-4.ensures) (c.in_ok-rows.ensures.rooms (value c.args.energy) (value c.args.price)) in
+    let d = certified_duals value c.args.duals.now in
+    let rows = subst (λ (xs : List (NamedRow g.row.N.Denot)). AreNamed value m d xs) (sym c.slice.ensures) (c.in_ok-rows.ensures.rows) in
+    let rooms = subst (λ (xs : List (NamedRoom g.row.N.Denot)). AreNamedRooms value m d xs) (sym c.slice-2.ensures) (c.in_ok-rows.ensures.rooms) in
+    let named = subst (λ (xs : List (NamedRoom g.row.N.Denot)). AreNamedRooms value m d xs) (sym c.slice-4.ensures) (c.in_ok-rows.ensures.rooms) in
     let worths = ap (map value) c.slice-3.ensures ∙ c.in_ok-worths.ensures.worths d refl rows rooms in
-    let xs = map value c.args.blocks.now in
-    let rs = map value c.args.quantities.now in
-    let x = dispatch_with xs rs in
-    sym (ap (λ o. option_or o (first_of (reserve_support_reason m x d ∷ []))) (sym (c.unsupported_block.ensures d rs worths) ∙ c.in_default.is)
-    ∙ or_none (reserve_support_reason m x d) ∙ sym (c.in_ok-unsupported_offer.ensures.first d xs refl named))
+    let x = certified_dispatch value c.args.dispatch.now in
+    sym (ap (λ o. option_or o (first_of (reserve_support_reason m x d ∷ []))) (sym (c.unsupported_block.ensures d x.reserve worths) ∙ c.in_default.is)
+    ∙ or_none (reserve_support_reason m x d) ∙ sym (c.in_ok-unsupported_offer.ensures.first d x.blocks refl named))

@@ -17,24 +17,24 @@ named_at-requires-clause-lost g c =
     (taken_listed c.args.market.now _ _ _ c.loop-row.yielded (c.into_iter-row-iterator.ensures.into_iter_gives ∙ c.rows-row-items.ensures.rows) c.loop-row.yielded_by c.next.result c.in-Some.row c.in-Some.is c.next.ensures.steps)).1
 
 pub loop-row-preserved-in-Continue-branch-2 : goal.loop-row-preserved-in-Continue-branch-2
-loop-row-preserved-in-Continue-branch-2 g c = λ energy price rooms.
+loop-row-preserved-in-Continue-branch-2 g c = λ energy reserve_price rooms.
     let m = c.args.market.now in
     let value = g.N.Exact.value in
-    let d = duals_with energy (map (dual_at value) c.args.limits.now) price rooms in
-    row_more value m d c.loop-row.yielded c.in-Some.row _ _ (c.loop-row.invariant energy price rooms)
-    (ap (map (priced_at value)) c.in_ok-push.ensures ∙ row_kept value m d c.in-Some.row c.loop-row.named c.in-Some-named_at.entry (c.in-Some-named_at.ensures c.args.limits.now energy price rooms c.in_ok-duals.ensures))
+    let d = duals_with energy (map (dual_at value) c.args.limits.now) reserve_price rooms in
+    row_more value m d c.loop-row.yielded c.in-Some.row _ _ (c.loop-row.invariant energy reserve_price rooms)
+    (ap (map (priced_at value)) c.in_ok-push.ensures ∙ row_kept value m d c.in-Some.row c.loop-row.named c.in-Some-named_at.entry (c.in-Some-named_at.ensures c.args.limits.now energy reserve_price rooms c.in_ok-duals.ensures))
 
 pub loop-row-preserved : goal.loop-row-preserved
-loop-row-preserved g c = λ energy price rooms.
+loop-row-preserved g c = λ energy reserve_price rooms.
     let m = c.args.market.now in
     let value = g.N.Exact.value in
-    let d = duals_with energy (map (dual_at value) c.args.limits.now) price rooms in
-    row_more value m d c.loop-row.yielded c.in-Some.row _ _ (c.loop-row.invariant energy price rooms)
-    (row_passed value m d c.in-Some.row c.loop-row.named (c.in_default.ensures c.args.limits.now energy price rooms c.in_ok-duals.ensures))
+    let d = duals_with energy (map (dual_at value) c.args.limits.now) reserve_price rooms in
+    row_more value m d c.loop-row.yielded c.in-Some.row _ _ (c.loop-row.invariant energy reserve_price rooms)
+    (row_passed value m d c.in-Some.row c.loop-row.named (c.in_default.ensures c.args.limits.now energy reserve_price rooms c.in_ok-duals.ensures))
 
 pub returns : goal.returns
-returns g c = λ energy price rooms.
+returns g c = λ energy reserve_price rooms.
     let m = c.args.market.now in
-    let d = duals_with energy (map (dual_at g.N.Exact.value) c.args.limits.now) price rooms in
-    c.loop-row.invariant energy price rooms
+    let d = duals_with energy (map (dual_at g.N.Exact.value) c.args.limits.now) reserve_price rooms in
+    c.loop-row.invariant energy reserve_price rooms
     ∙ ap (prices_of m d) (all_taken m _ _ _ c.loop-row.yielded (c.into_iter-row-iterator.ensures.into_iter_gives ∙ c.rows-row-items.ensures.rows) c.loop-row.yielded_by c.next.result c.in-None.is c.next.ensures.steps)

@@ -7,4 +7,4 @@ use Rattle.cert_verify.specs.Naming.{prices_of}
 use Rattle.cert_verify.proofs.naming.named_rows.Given as goal
 
 abbrev pub invariant-loop-row : goal.invariant-loop-row
-invariant-loop-row g l = (energy price : Fraction) (rooms : List (RoomDual Fraction)) → map (priced_at g.N.Exact.value) l.named ≡ prices_of l.market (duals_with energy (map (dual_at g.N.Exact.value) l.limits) price rooms) l.yielded
+invariant-loop-row g l = (energy reserve_price : Fraction) (rooms : List (RoomDual Fraction)) → map (priced_at g.N.Exact.value) l.named ≡ prices_of l.market (duals_with energy (map (dual_at g.N.Exact.value) l.limits) reserve_price rooms) l.yielded

@@ -9,5 +9,5 @@ use Rattle.cert_verify.proofs.offers.unsupported_offer.Given as goal
 
 abbrev pub invariant-loop-at : goal.invariant-loop-at
 invariant-loop-at g l =
-    (d : Duals Fraction) (blocks : List Fraction) → g.N.Exact.value l.price ≡ d.reserve → AreNamedRooms g.N.Exact.value l.market d l.rooms
+    (d : Duals Fraction) (blocks : List Fraction) → g.N.Exact.value l.reserve_price ≡ d.reserve → AreNamedRooms g.N.Exact.value l.market d l.rooms
     → find (is_offer_unsupported l.market (dispatch_with blocks (map g.N.Exact.value l.quantities)) d) (places l.at) ≡ None

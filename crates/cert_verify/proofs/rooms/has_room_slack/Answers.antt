@@ -1,12 +1,13 @@
-use Rattle.std.proofs.Common.{rules, Err, ◌≡◌, ◌<◌, ◌∙◌, ℕ, List, ap, ap₂, map, sym, length, pos, arith}
+use Rattle.std.proofs.Common.{rules, Err, ◌≡◌, ◌<◌, ◌∙◌, ℕ, List, ap, ap₂, sym, length, pos, arith}
 use Rattle.std.specs.Prelude.{◌==◌, ◌&&◌, slice_index_or}
 use Rattle.std.proofs.lemmas.Bool.{and_from, eq-eqb, eqb-true, false_from_ne_true}
 use Rattle.fraction_theory.specs.Fraction.{Fraction}
 use Rattle.market_data.specs.declared.participants.Unit.{Unit}
-use Rattle.market_model.specs.Dispatch.{dispatch_with, unit_at}
+use Rattle.market_model.specs.Dispatch.{unit_at}
 use Rattle.market_model.specs.Reserves.{offers_reserve, room, room_terms, room_used}
 use Rattle.market_model.specs.SumTables.{used_of_room}
 use Rattle.market_model.proofs.RoomLemmas.{offers-listed}
+use Rattle.cert_verify.specs.Certified.{certified_dispatch}
 use Rattle.cert_verify.specs.Reasons.{is_slack}
 use Rattle.cert_verify.proofs.TestLemmas.{not_both}
 use Rattle.cert_verify.proofs.UnitLemmas.{any_here, any_more, left_false}
@@ -20,7 +21,7 @@ pub returns-in_err-used-clause-stops : goal.returns-in_err-used-clause-stops
 returns-in_err-used-clause-stops g c =
     let m = c.args.market.now in
     let k = c.loop-at.at in
-    let x = dispatch_with (map g.N.Exact.value c.args.blocks.now) (map g.N.Exact.value c.args.quantities.now) in
+    let x = certified_dispatch g.N.Exact.value c.args.dispatch.now in
     let inside : k < length m.units = omega (arith, c.loop-at-test.true, ap length (c.slice-unit-items.ensures ∙ c.units.ensures.list)) in
     let given : c.from_residual.result ≡ Err c.in_err-used.field-0.0 = search rules in
     rw given (room_terms m x k, used_of_room k (offers-listed m k inside (sym c.offers_reserve.ensures ∙ c.if-offers_reserve.true)), c.in_err-used.ensures.stops)
@@ -30,7 +31,7 @@ returns-then-is_slack-clause-slack g c =
     let m = c.args.market.now in
     let k = c.loop-at.at in
     let value = g.N.Exact.value in
-    let x = dispatch_with (map value c.args.blocks.now) (map value c.args.quantities.now) in
+    let x = certified_dispatch value c.args.dispatch.now in
     let units = c.slice-unit-items.ensures ∙ c.units.ensures.list in
     let row_is = ap (λ (us : List Unit). (slice_index_or us k (record { row = 0; bus = 0; fixed = pos 0; up = pos 0; down = pos 0 })).row) units in
     let test = λ (u : ℕ). ((unit_at m u).row == c.args.dual.now.unit) && is_slack (value c.args.dual.now.price) (room_used m x u) (room m u) in
@@ -45,7 +46,7 @@ loop-at-preserved g c =
     let m = c.args.market.now in
     let k = c.loop-at.at in
     let value = g.N.Exact.value in
-    let x = dispatch_with (map value c.args.blocks.now) (map value c.args.quantities.now) in
+    let x = certified_dispatch value c.args.dispatch.now in
     let units = c.slice-unit-items.ensures ∙ c.units.ensures.list in
     let row_is = ap (λ (us : List Unit). (slice_index_or us k (record { row = 0; bus = 0; fixed = pos 0; up = pos 0; down = pos 0 })).row) units in
     let test = λ (u : ℕ). ((unit_at m u).row == c.args.dual.now.unit) && is_slack (value c.args.dual.now.price) (room_used m x u) (room m u) in

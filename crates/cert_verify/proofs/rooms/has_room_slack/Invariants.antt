@@ -1,8 +1,9 @@
-use Rattle.std.proofs.Common.{◌≡◌, false, map}
+use Rattle.std.proofs.Common.{◌≡◌, false}
 use Rattle.std.specs.Prelude.{◌==◌, ◌&&◌, filter}
 use Rattle.std.specs.List.{list_any}
-use Rattle.market_model.specs.Dispatch.{dispatch_with, places, unit_at}
+use Rattle.market_model.specs.Dispatch.{places, unit_at}
 use Rattle.market_model.specs.Reserves.{offers_reserve, room, room_used}
+use Rattle.cert_verify.specs.Certified.{certified_dispatch}
 use Rattle.cert_verify.specs.Reasons.{is_slack}
 use Rattle.cert_verify.proofs.rooms.has_room_slack.Given as goal
 
@@ -10,5 +11,5 @@ use Rattle.cert_verify.proofs.rooms.has_room_slack.Given as goal
 abbrev pub invariant-loop-at : goal.invariant-loop-at
 invariant-loop-at g l =
     list_any (λ u. ((unit_at l.market u).row == l.dual.unit)
-    && is_slack (g.N.Exact.value l.dual.price) (room_used l.market (dispatch_with (map g.N.Exact.value l.blocks) (map g.N.Exact.value l.quantities)) u) (room l.market u))
+    && is_slack (g.N.Exact.value l.dual.price) (room_used l.market (certified_dispatch g.N.Exact.value l.dispatch) u) (room l.market u))
     (filter (offers_reserve l.market) (places l.at)) ≡ false
