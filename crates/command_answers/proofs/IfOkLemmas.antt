@@ -5,3 +5,7 @@ use Rattle.std.specs.Prelude.{IfOk}
 pub if_ok-map : {A E : Type 0} (P Q : A → Type 0) (r : Result A E) → ((x : A) → P x → Q x) → IfOk r P → IfOk r Q
 if_ok-map P Q (Ok x) f right = f x right
 if_ok-map P Q (Err e) f right = tt
+
+pub if_ok-both : {A E : Type 0} (P Q R : A → Type 0) (r : Result A E) → ((x : A) → P x → Q x → R x) → IfOk r P → IfOk r Q → IfOk r R
+if_ok-both P Q R (Ok x) f one other = f x one other
+if_ok-both P Q R (Err e) f one other = tt

@@ -8,3 +8,4 @@ pub mod RingLemmas
 pub mod RoundTripLemmas
 pub mod SidesLemmas
 pub mod TellingLemmas
+pub mod WiderLemmas

@@ -101,7 +101,7 @@ module _ (m : Parts) (o q : Outcome Fraction) where
       let here : q ≡ o = cc same in
       subst (IsDecided m) here (law_of_completeness m before bound q market none is.right)
 
-are_decided : (bound : ℕ) (m : Parts) (before after : List Taking) (steps : List Step) (outcomes : List (StepOutcome Fraction)) → IsMarket m → All IsStep steps
+pub are_decided : (bound : ℕ) (m : Parts) (before after : List Taking) (steps : List Step) (outcomes : List (StepOutcome Fraction)) → IsMarket m → All IsStep steps
     → NoPairPassesIn m (limits_of before) steps bound → IsReplay bound m before steps outcomes after → AreDecided m steps outcomes
 are_decided bound m before after [] [] market data_ok none replay k o is = cc is
 are_decided bound m before after [] (p ∷ outcomes) market data_ok none replay k o is = absurd replay

@@ -15,7 +15,7 @@ use Rattle.market_system.specs.Outcomes.{IsRightOutcome}
 use Rattle.market_dict.specs.Takings.{limits_of}
 use Rattle.market_dict.specs.declared.taking.Taking.{Taking}
 use Rattle.cert_format.specs.declared.certificate.Cert.{Cert}
-use Rattle.cert_format.specs.Certificates.{NumbersFit, RowsAreDistinct, cert_against, cert_of, cert_of_outcome, most_part}
+use Rattle.cert_format.specs.Certificates.{NumbersFit, RowsAreDistinct, cert_against, cert_of, cert_of_outcome}
 use Rattle.cert_format.specs.Grammar.{cert_read}
 use Rattle.cert_format.specs.Written.{cert_text, certificate_of}
 use Rattle.cert_format.proofs.CertLemmas.{reads-back}
@@ -52,28 +52,29 @@ use Rattle.command_answers.specs.Verifying.{TellsVerdict, judged, passed, verdic
 use Rattle.command_answers.specs.declared.told.Outputs.{Outputs}
 use Rattle.command_answers.proofs.ReplayLemmas.{last_first, last_none}
 
--- ---- of one clear
--- the text of a certificate that fits and holds
-certified : (m : Parts) (c : Cert Fraction) (text : List ℕ) → RowsAreDistinct c × (verdict_of (first_reason m c) ≡ Yes) → NumbersFit most_part c → Some (cert_text c) ≡ Some text → Certifies m text c
-certified m c text right fits is =
-    let text_is : cert_text c ≡ text = cc is in record {
-      read = sym (ap (cert_read most_part) text_is) ∙ reads-back most_part c (record { numbers = fits; distinct = right.0 });
-      holds = (law_of_the_verdict m c right.0).0 right.1;
-      yes = right.1;
-    }
+module _ (bound : ℕ) where
+  -- ---- of one clear
+  -- the text of a certificate that fits and holds
+  certified : (m : Parts) (c : Cert Fraction) (text : List ℕ) → RowsAreDistinct c × (verdict_of (first_reason m c) ≡ Yes) → NumbersFit bound c → Some (cert_text c) ≡ Some text → Certifies bound m text c
+  certified m c text right fits is =
+      let text_is : cert_text c ≡ text = cc is in record {
+        read = sym (ap (cert_read bound) text_is) ∙ reads-back bound c (record { numbers = fits; distinct = right.0 });
+        holds = (law_of_the_verdict m c right.0).0 right.1;
+        yes = right.1;
+      }
 
--- that of a right outcome
-of_outcome : (m : Parts) (taken : List Row) (o : Outcome Fraction) (text : List ℕ) → IsMarket m → IsRightOutcome most_part m taken o
-    → IfSome (cert_of_outcome m.factor_places m.reserve.listed o) (NumbersFit most_part) → certificate_of m.factor_places m.reserve.listed o ≡ Some text
-    → (c : Cert Fraction) × (cert_of_outcome m.factor_places m.reserve.listed o ≡ Some c) × Certifies m text c
-of_outcome m taken (outcome.Cleared a) text market right fits is =
-    let c = cert_of m.factor_places m.reserve.listed a in (c, refl, certified m c text (law_of_right_answers m a market right) fits is)
-of_outcome m taken (outcome.Infeasible f) text market right fits is =
-    let c = cert_against m.factor_places m.reserve.listed f in (c, refl, certified m c text (law_of_farkas_duals m f market right) fits is)
-of_outcome m taken (outcome.Range p) text market right fits is = cc is
+  -- that of a right outcome
+  of_outcome : (m : Parts) (taken : List Row) (o : Outcome Fraction) (text : List ℕ) → IsMarket m → IsRightOutcome bound m taken o
+      → IfSome (cert_of_outcome m.factor_places m.reserve.listed o) (NumbersFit bound) → certificate_of m.factor_places m.reserve.listed o ≡ Some text
+      → (c : Cert Fraction) × (cert_of_outcome m.factor_places m.reserve.listed o ≡ Some c) × Certifies bound m text c
+  of_outcome m taken (outcome.Cleared a) text market right fits is =
+      let c = cert_of m.factor_places m.reserve.listed a in (c, refl, certified m c text (law_of_right_answers m a market right) fits is)
+  of_outcome m taken (outcome.Infeasible f) text market right fits is =
+      let c = cert_against m.factor_places m.reserve.listed f in (c, refl, certified m c text (law_of_farkas_duals m f market right) fits is)
+  of_outcome m taken (outcome.Range p) text market right fits is = cc is
 
 pub law_of_the_round_trip : LawOfTheRoundTrip
-law_of_the_round_trip m t text (market, clears) is = of_outcome m [] clears.outcome text market clears.right clears.told.certificate_fits (sym (ap (λ (o : Outputs (List ℕ)). o.certificate) clears.told.certificate_is) ∙ is)
+law_of_the_round_trip bound m t text (market, clears) is = of_outcome bound m [] clears.outcome text market clears.right clears.told.certificate_fits (sym (ap (λ (o : Outputs (List ℕ)). o.certificate) clears.told.certificate_is) ∙ is)
 
 -- ---- of the last clear of a replay
 -- an outcome is that of the last clear of steps
@@ -119,7 +120,7 @@ last_of bound m before after (edit.Clear ∷ steps) (step.Refused f ∷ outcomes
 last_of bound m before after (edit.Clear ∷ steps) (step.Clear q ∷ outcomes) prior o replay is =
     clear_first bound m (limits_of before) steps prior q o replay.1.0.right (last_of bound m replay.0 after steps outcomes (Some q) o replay.2 (sym (last_first prior (step.Clear q) outcomes) ∙ is))
 
-module _ (r : MarketSteps) (t : Telling) (text : List ℕ) (replays : ReplaysTo most_part r.market r.steps t) where
+module _ (bound : ℕ) (r : MarketSteps) (t : Telling) (text : List ℕ) (replays : ReplaysTo bound r.market r.steps t) where
   -- the certificate of an outcome of a market, and its text: edits change neither how many places factors have nor whether reserve is listed
   abbrev cert_in : Parts → Outcome Fraction → Option (Cert Fraction)
   cert_in m = cert_of_outcome m.factor_places m.reserve.listed
@@ -127,40 +128,40 @@ module _ (r : MarketSteps) (t : Telling) (text : List ℕ) (replays : ReplaysTo 
   abbrev text_in : Parts → Outcome Fraction → Option (List ℕ)
   text_in m = certificate_of m.factor_places m.reserve.listed
 
-  last_certifies : (o : Outcome Fraction) → IsOfLast most_part r.market r.steps o → IfSome (cert_in r.market o) (NumbersFit most_part) → text_in r.market o ≡ Some text
-      → (c : Cert Fraction) × (cert_in r.market o ≡ Some c) × CertifiesLast r text c
+  last_certifies : (o : Outcome Fraction) → IsOfLast bound r.market r.steps o → IfSome (cert_in r.market o) (NumbersFit bound) → text_in r.market o ≡ Some text
+      → (c : Cert Fraction) × (cert_in r.market o ≡ Some c) × CertifiesLast bound r text c
   last_certifies o h fits is =
       let front_is : take (length h.front) r.steps ≡ h.front = ap (take (length h.front)) h.steps_are ∙ take-append_seam h.front (edit.Clear ∷ h.rest) in
       let market = subst (λ (ss : List Step). IsMarket (edited_by r.market ss)) front_is (replays.markets (length h.front)) in
       let last : Parts = edited_by r.market h.front in
       let same : SameFrame r.market last = steps_frame r.market h.front in
       let cert = ap (λ (p : Parts). cert_in p o) same in
-      let k = of_outcome last h.taken o text market h.right (subst (λ (c : Option (Cert Fraction)). IfSome c (NumbersFit most_part)) cert fits) (sym (ap (λ (p : Parts). text_in p o) same) ∙ is) in
+      let k = of_outcome bound last h.taken o text market h.right (subst (λ (c : Option (Cert Fraction)). IfSome c (NumbersFit bound)) cert fits) (sym (ap (λ (p : Parts). text_in p o) same) ∙ is) in
       (k.0, cert ∙ k.1, record { front = h.front; rest = h.rest; steps_are = h.steps_are; last = h.last; certifies = k.2 })
 
-  by_last : (last : Option (Outcome Fraction)) → last_clear None replays.outcomes ≡ last → IfSome (option_and_then (cert_in r.market) last) (NumbersFit most_part) → option_and_then (text_in r.market) last ≡ Some text
-      → (c : Cert Fraction) × (option_and_then (cert_in r.market) last ≡ Some c) × CertifiesLast r text c
+  by_last : (last : Option (Outcome Fraction)) → last_clear None replays.outcomes ≡ last → IfSome (option_and_then (cert_in r.market) last) (NumbersFit bound) → option_and_then (text_in r.market) last ≡ Some text
+      → (c : Cert Fraction) × (option_and_then (cert_in r.market) last ≡ Some c) × CertifiesLast bound r text c
   by_last None e fits is = cc is
-  by_last (Some o) e fits is = from (last_of most_part r.market [] replays.taken r.steps replays.outcomes None o replays.right e)
+  by_last (Some o) e fits is = from (last_of bound r.market [] replays.taken r.steps replays.outcomes None o replays.right e)
     where
-      from : LastOr most_part r.market r.steps None o → (c : Cert Fraction) × (cert_in r.market o ≡ Some c) × CertifiesLast r text c
+      from : LastOr bound r.market r.steps None o → (c : Cert Fraction) × (cert_in r.market o ≡ Some c) × CertifiesLast bound r text c
       from (inl (none, all)) = cc none
       from (inr h) = last_certifies o h fits is
 
 pub law_of_the_replay : LawOfTheReplay
-law_of_the_replay r t text (market, replays) is = by_last r t text replays (last_clear None replays.outcomes) refl replays.told.certificate_fits (sym (ap (λ (o : Outputs (List ℕ)). o.certificate) replays.told.certificate_is) ∙ is)
+law_of_the_replay bound r t text (market, replays) is = by_last bound r t text replays (last_clear None replays.outcomes) refl replays.told.certificate_fits (sym (ap (λ (o : Outputs (List ℕ)). o.certificate) replays.told.certificate_is) ∙ is)
 
 -- ---- of verifying
 pub law_of_yes : LawOfYes
 unfolding verdict_line
-law_of_yes m text c t certifies (market, judged is) = inl (is ∙ ap (λ why. uncertified (verdict_status why) (verdict_line why)) (yes_none (first_reason m c) certifies.yes))
-law_of_yes m text c t certifies (market, passed p stop within is) = inr (ap (λ (s : Telling). s.status) is)
+law_of_yes bound m text c t certifies (market, judged is) = inl (is ∙ ap (λ why. uncertified (verdict_status why) (verdict_line why)) (yes_none (first_reason m c) certifies.yes))
+law_of_yes bound m text c t certifies (market, passed p stop within is) = inr (ap (λ (s : Telling). s.status) is)
 
 -- ---- with the same files
 -- a text that is no longer than a file may be is read as its certificate
-read_whole : (text : List ℕ) (c : Cert Fraction) → length text ≤ most_file → cert_read most_part text ≡ Ok c → certificate_in most_part (sized (refusal.TooLong input.Certificate) text) ≡ Ok c
+read_whole : (bound : ℕ) (text : List ℕ) (c : Cert Fraction) → length text ≤ most_file → cert_read bound text ≡ Ok c → certificate_in bound (sized (refusal.TooLong input.Certificate) text) ≡ Ok c
 unfolding sized
-read_whole text c short read = rw (le-ltb most_file (length text) short, read) refl
+read_whole bound text c short read = rw (le-ltb most_file (length text) short, read) refl
 
 -- files stand for one market, with steps or with a certificate
 pub limited-once : (rating : PostRating) (places : FactorPlaces) (files : MarketTexts) → OfOne (IsLimited rating places files)
@@ -179,25 +180,25 @@ pub entitled-once : (rating : PostRating) (places : FactorPlaces) (files : Marke
 entitled-once rating places files rights =
     then-once _ _ (limited-once rating places files) (λ market _. then-once _ _ (is-once (rights_in market (sized (refusal.TooLong input.Rights) rights))) (λ held _. is-once _))
 
-module _ (rating : PostRating) (places : FactorPlaces) (files : MarketTexts) (edits text : List ℕ) (none : steps_in (sized (refusal.TooLong input.Edits) edits) ≡ Ok []) where
+module _ (bound : ℕ) (rating : PostRating) (places : FactorPlaces) (files : MarketTexts) (edits text : List ℕ) (none : steps_in (sized (refusal.TooLong input.Edits) edits) ≡ Ok []) where
   -- what they stand for with a certificate
-  stands_with : (m : Parts) (c : Cert Fraction) → IsLimited rating places files (Ok m) → certificate_in most_part (sized (refusal.TooLong input.Certificate) text) ≡ Ok c
-      → IsCertified most_part rating places files edits text (Ok (record { market = m; certificate = c }))
+  stands_with : (m : Parts) (c : Cert Fraction) → IsLimited rating places files (Ok m) → certificate_in bound (sized (refusal.TooLong input.Certificate) text) ≡ Ok c
+      → IsCertified bound rating places files edits text (Ok (record { market = m; certificate = c }))
   stands_with m c limited read = record {
     made = Ok (record { market = m; steps = [] });
     is = record { made = Ok m; is = limited; rest = record { made = Ok []; is = none; rest = refl } };
     rest = record { made = Ok c; is = read; rest = refl };
   }
 
-  told_yes : (clear verify : Telling) → length text ≤ most_file → clear.outputs.certificate ≡ Some text → (told : Result Parts Refusal) → IsLimited rating places files told → ComesTo TellsClear told clear
-      → Tells (IsCertified most_part rating places files edits text) TellsVerdict verify → IsYesOrRange verify
+  told_yes : (clear verify : Telling) → length text ≤ most_file → clear.outputs.certificate ≡ Some text → (told : Result Parts Refusal) → IsLimited rating places files told → ComesTo (TellsClear bound) told clear
+      → Tells (IsCertified bound rating places files edits text) (TellsVerdict bound) verify → IsYesOrRange verify
   told_yes clear verify short is (Err r) limited comes verified = let no = ap (λ (t : Telling). t.outputs.certificate) comes in cc (is, no)
   told_yes clear verify short is (Ok m) limited comes verified =
-      let trip = law_of_the_round_trip m clear text comes is in
+      let trip = law_of_the_round_trip bound m clear text comes is in
       let c = trip.0 in
-      let here : IsCertified most_part rating places files edits text (Ok (record { market = m; certificate = c })) = stands_with m c limited (read_whole text c short trip.2.read) in
-      let same = certified-once most_part rating places files edits text verified.told (Ok (record { market = m; certificate = c })) verified.stands here in
-      law_of_yes m text c verify trip.2 (subst (λ (r : Result MarketCertificate Refusal). ComesTo TellsVerdict r verify) same verified.comes)
+      let here : IsCertified bound rating places files edits text (Ok (record { market = m; certificate = c })) = stands_with m c limited (read_whole bound text c short trip.2.read) in
+      let same = certified-once bound rating places files edits text verified.told (Ok (record { market = m; certificate = c })) verified.stands here in
+      law_of_yes bound m text c verify trip.2 (subst (λ (r : Result MarketCertificate Refusal). ComesTo (TellsVerdict bound) r verify) same verified.comes)
 
 pub law_of_the_same_files : LawOfTheSameFiles
-law_of_the_same_files rating places files edits text clear verify cleared is short none verified = told_yes rating places files edits text none clear verify short is cleared.told cleared.stands cleared.comes verified
+law_of_the_same_files bound rating places files edits text clear verify cleared is short none verified = told_yes bound rating places files edits text none clear verify short is cleared.told cleared.stands cleared.comes verified

@@ -8,7 +8,7 @@ use Rattle.market_model.specs.declared.answered.Outcome.TheVariants as outcome
 use Rattle.market_model.specs.Market.{IsMarket}
 use Rattle.market_system.specs.Outcomes.{IsRightOutcome}
 use Rattle.report_text.specs.Reports.{report_text}
-use Rattle.cert_format.specs.Certificates.{NumbersFit, cert_of_outcome, most_part, Fits}
+use Rattle.cert_format.specs.Certificates.{NumbersFit, cert_of_outcome, Fits}
 use Rattle.cert_format.specs.Written.{certificate_of}
 use Rattle.command_answers.specs.declared.status.Status.{Status}
 use Rattle.command_answers.specs.declared.status.Status.TheVariants as status
@@ -46,6 +46,6 @@ pub record ClearsTo (bound : ℕ) (m : Parts) (t : Telling) : Type 0 where
   pub sides : AreSidesWithin bound outcome
   pub told : TellsCertified bound m outcome t
 
--- the same of a market, which keeps what every market keeps, by numbers of 127 bits
-abbrev pub TellsClear : Parts → Telling → Type 0
-TellsClear m t = IsMarket m × ClearsTo most_part m t
+-- the same of a market, which keeps what every market keeps
+abbrev pub TellsClear : ℕ → Parts → Telling → Type 0
+TellsClear bound m t = IsMarket m × ClearsTo bound m t

@@ -9,7 +9,7 @@ use Rattle.market_model.specs.declared.participants.Parts.{Parts}
 use Rattle.market_model.specs.declared.participants.TransmissionRight.{TransmissionRight}
 use Rattle.market_model.specs.Reserves.{no_reserve}
 use Rattle.cert_format.specs.declared.certificate.Cert.{Cert}
-use Rattle.cert_format.specs.Certificates.{cert_of_outcome, most_part}
+use Rattle.cert_format.specs.Certificates.{cert_of_outcome}
 use Rattle.cert_format.specs.Grammar.{cert_read}
 use Rattle.cert_verify.specs.Certificates.{IsTrueOf, first_reason}
 use Rattle.cert_verify.specs.Reasons.{verdict_of}
@@ -45,34 +45,34 @@ abbrev pub LawOfListedReserve : Type 0
 LawOfListedReserve = (rating : PostRating) (places : FactorPlaces) (files : MarketTexts) (m : Parts) → IsLimited rating places files (Ok m) → (m.reserve ≡ no_reserve) ↔ ListsNoReserve files.reserves
 
 -- ---- certificates
--- a text is read as this certificate, which is true of the market, and the verdict on it is yes
-pub record Certifies (m : Parts) (text : List ℕ) (c : Cert Fraction) : Type 0 where
-  pub read : cert_read most_part text ≡ Ok c
+-- a text is read as this certificate, of numbers within the bound, which is true of the market, and the verdict on it is yes
+pub record Certifies (bound : ℕ) (m : Parts) (text : List ℕ) (c : Cert Fraction) : Type 0 where
+  pub read : cert_read bound text ≡ Ok c
   pub holds : IsTrueOf m c
   pub yes : verdict_of (first_reason m c) ≡ Yes
 
 -- what a clear of a market writes is read as the certificate of what it came to, which is true of the market
 abbrev pub LawOfTheRoundTrip : Type 0
 LawOfTheRoundTrip =
-    (m : Parts) (t : Telling) (text : List ℕ) (tells : TellsClear m t) → t.outputs.certificate ≡ Some text → (c : Cert Fraction) × (cert_of_outcome m.factor_places m.reserve.listed tells.1.outcome ≡ Some c) × Certifies m text c
+    (bound : ℕ) (m : Parts) (t : Telling) (text : List ℕ) (tells : TellsClear bound m t) → t.outputs.certificate ≡ Some text → (c : Cert Fraction) × (cert_of_outcome m.factor_places m.reserve.listed tells.1.outcome ≡ Some c) × Certifies bound m text c
 
 abbrev pub IsEdit : Step → Type 0
 IsEdit (step.Edit e) = Unit {0}
 IsEdit step.Clear = ⊥
 
 -- the same for the market as the steps before the last clear have edited it
-pub record CertifiesLast (r : MarketSteps) (text : List ℕ) (c : Cert Fraction) : Type 0 where
+pub record CertifiesLast (bound : ℕ) (r : MarketSteps) (text : List ℕ) (c : Cert Fraction) : Type 0 where
   pub front : List Step
   pub rest : List Step
   pub steps_are : r.steps ≡ front ++ step.Clear ∷ rest
   pub last : All IsEdit rest
-  pub certifies : Certifies (edited_by r.market front) text c
+  pub certifies : Certifies bound (edited_by r.market front) text c
 
 -- so is what a replay writes, as that of what its last clear came to
 abbrev pub LawOfTheReplay : Type 0
 LawOfTheReplay =
-    (r : MarketSteps) (t : Telling) (text : List ℕ) (tells : TellsReplay r t) → t.outputs.certificate ≡ Some text
-    → (c : Cert Fraction) × (option_and_then (cert_of_outcome r.market.factor_places r.market.reserve.listed) (last_clear None tells.1.outcomes) ≡ Some c) × CertifiesLast r text c
+    (bound : ℕ) (r : MarketSteps) (t : Telling) (text : List ℕ) (tells : TellsReplay bound r t) → t.outputs.certificate ≡ Some text
+    → (c : Cert Fraction) × (option_and_then (cert_of_outcome r.market.factor_places r.market.reserve.listed) (last_clear None tells.1.outcomes) ≡ Some c) × CertifiesLast bound r text c
 
 -- ---- when it is verified
 -- yes is told, or that numbers are too large
@@ -81,14 +81,14 @@ IsYesOrRange t = (t ≡ uncertified status.Done (codes "yes\n")) ⊎ (t.status �
 
 -- so it is where such a certificate is verified against the market
 abbrev pub LawOfYes : Type 0
-LawOfYes = (m : Parts) (text : List ℕ) (c : Cert Fraction) (t : Telling) → Certifies m text c → TellsVerdict (record { market = m; certificate = c }) t → IsYesOrRange t
+LawOfYes = (bound : ℕ) (m : Parts) (text : List ℕ) (c : Cert Fraction) (t : Telling) → Certifies bound m text c → TellsVerdict bound (record { market = m; certificate = c }) t → IsYesOrRange t
 
 -- and where what a clear of some files comes to as its certificate is verified with the same files and without edits, as one that is no
 -- longer than a file may be
 abbrev pub LawOfTheSameFiles : Type 0
 LawOfTheSameFiles =
-    (rating : PostRating) (places : FactorPlaces) (files : MarketTexts) (edits text : List ℕ) (clear verify : Telling) → Tells (IsLimited rating places files) TellsClear clear → clear.outputs.certificate ≡ Some text → length text ≤ most_file
-    → steps_in (sized (refusal.TooLong input.Edits) edits) ≡ Ok [] → Tells (IsCertified most_part rating places files edits text) TellsVerdict verify → IsYesOrRange verify
+    (bound : ℕ) (rating : PostRating) (places : FactorPlaces) (files : MarketTexts) (edits text : List ℕ) (clear verify : Telling) → Tells (IsLimited rating places files) (TellsClear bound) clear → clear.outputs.certificate ≡ Some text → length text ≤ most_file
+    → steps_in (sized (refusal.TooLong input.Edits) edits) ≡ Ok [] → Tells (IsCertified bound rating places files edits text) (TellsVerdict bound) verify → IsYesOrRange verify
 
 -- ---- what is told of rights
 -- What `rights` prints of a market: an answer with whether the rights fit and what they are paid; an answer with two numbers that became too

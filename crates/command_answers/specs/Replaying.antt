@@ -3,13 +3,14 @@ use Rattle.std.specs.Prelude.{◌≡◌, ℕ, Bool, true, false, if◌then◌els
 use Rattle.fraction_theory.specs.Fraction.{Fraction}
 use Rattle.market_model.specs.declared.participants.Parts.{Parts}
 use Rattle.market_model.specs.declared.answered.Outcome.{Outcome}
+use Rattle.market_model.specs.declared.answered.Outcome.TheVariants as outcome
 use Rattle.market_model.specs.declared.limits.Row.{Row}
 use Rattle.market_model.specs.Market.{IsMarket}
 use Rattle.market_system.specs.Growth.{Growth}
 use Rattle.market_system.specs.Outcomes.{IsDecided}
 use Rattle.market_system.specs.WorkingPairs.{NoPairPasses}
 use Rattle.market_dict.specs.declared.taking.Taking.{Taking}
-use Rattle.cert_format.specs.Certificates.{NumbersFit, cert_of_outcome, most_part}
+use Rattle.cert_format.specs.Certificates.{NumbersFit, cert_of_outcome}
 use Rattle.cert_format.specs.Written.{certificate_of}
 use Rattle.offer_book.specs.Edits.{step_of}
 use Rattle.edit_table.specs.declared.Step.{Step}
@@ -62,6 +63,14 @@ AreStepSidesWithin bound step.Accepted = Unit {0}
 AreStepSidesWithin bound (step.Refused f) = Unit {0}
 AreStepSidesWithin bound (step.Clear o) = AreSidesWithin bound o
 
+-- a step that is no clear which ended with numbers that became too large
+abbrev pub IsWithin : StepOutcome Fraction → Type 0
+IsWithin step.Accepted = Unit {0}
+IsWithin (step.Refused f) = Unit {0}
+IsWithin (step.Clear (outcome.Cleared a)) = Unit {0}
+IsWithin (step.Clear (outcome.Infeasible f)) = Unit {0}
+IsWithin (step.Clear (outcome.Range p)) = ⊥
+
 -- With these limits taken before, no working pair passes the bound at any clear of the steps: none of the market as it is edited by then,
 -- over limits that are reached from those that the clear before can have left.
 abbrev pub NoPairPassesIn : Parts → List Row → List Step → ℕ → Type 0
@@ -92,6 +101,6 @@ pub record ReplaysTo (bound : ℕ) (m : Parts) (steps : List Step) (t : Telling)
   pub decided : NoPairPassesIn m [] steps bound → AreDecided m steps outcomes
   pub told : TellsSteps bound m steps outcomes t
 
--- the same of a market, which keeps what every market keeps, by numbers of 127 bits
-abbrev pub TellsReplay : MarketSteps → Telling → Type 0
-TellsReplay r t = IsMarket r.market × ReplaysTo most_part r.market r.steps t
+-- the same of a market, which keeps what every market keeps
+abbrev pub TellsReplay : ℕ → MarketSteps → Telling → Type 0
+TellsReplay bound r t = IsMarket r.market × ReplaysTo bound r.market r.steps t

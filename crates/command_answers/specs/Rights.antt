@@ -21,7 +21,6 @@ use Rattle.command_answers.specs.Clearing.{ArePassedWithin, AreSidesWithin}
 use Rattle.command_answers.specs.Inputs.{MarketRights}
 use Rattle.command_answers.specs.RightsLines.{rights_lines}
 use Rattle.command_answers.specs.Tellings.{Telling, uncertified}
-use Rattle.cert_format.specs.Certificates.{most_part}
 
 -- done where they fit, and refuted where they do not
 abbrev pub fit_status : Fit Fraction → Status
@@ -53,8 +52,8 @@ pub record EntitlesTo (bound : ℕ) (m : Parts) (rights : List TransmissionRight
   pub sides : AreSidesWithin bound outcome
   pub told : TellsOutcome bound m rights outcome t
 
--- the same of a market, which keeps what every market keeps, and of rights between its buses, by numbers of 127 bits
-pub record TellsRights (r : MarketRights) (t : Telling) : Type 0 where
+-- the same of a market, which keeps what every market keeps, and of rights between its buses
+pub record TellsRights (bound : ℕ) (r : MarketRights) (t : Telling) : Type 0 where
   pub market : IsMarket r.market
   pub rights : All (IsTransmissionRight (length r.market.buses)) r.rights
-  pub entitles : EntitlesTo most_part r.market r.rights t
+  pub entitles : EntitlesTo bound r.market r.rights t

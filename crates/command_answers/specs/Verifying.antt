@@ -6,7 +6,6 @@ use Rattle.market_model.specs.declared.participants.Parts.{Parts}
 use Rattle.market_model.specs.Market.{IsMarket}
 use Rattle.report_text.specs.Reports.{range_text}
 use Rattle.cert_format.specs.declared.certificate.Cert.{Cert}
-use Rattle.cert_format.specs.Certificates.{most_part}
 use Rattle.cert_verify.specs.Certificates.{first_reason}
 use Rattle.cert_verify.specs.Stops.{IsCertificateStop}
 use Rattle.cert_verify.specs.declared.verdicts.Reason.{Reason}
@@ -28,6 +27,6 @@ pub data VerifiesTo (bound : ℕ) (m : Parts) (c : Cert Fraction) (t : Telling) 
   judged : t ≡ uncertified (verdict_status (first_reason m c)) (verdict_line (first_reason m c)) → VerifiesTo bound m c t
   passed : (p : Passed Fraction) → IsCertificateStop m bound c p → ArePassedWithin bound p → t ≡ uncertified status.Range (range_text p) → VerifiesTo bound m c t
 
--- the same of a market, which keeps what every market keeps, by numbers of 127 bits
-abbrev pub TellsVerdict : MarketCertificate → Telling → Type 0
-TellsVerdict v t = IsMarket v.market × VerifiesTo most_part v.market v.certificate t
+-- the same of a market, which keeps what every market keeps
+abbrev pub TellsVerdict : ℕ → MarketCertificate → Telling → Type 0
+TellsVerdict bound v t = IsMarket v.market × VerifiesTo bound v.market v.certificate t

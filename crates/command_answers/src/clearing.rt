@@ -11,17 +11,21 @@ ghost use Rattle.command_answers.specs.Clearing.{AreSidesWithin, ClearsTo, Tells
 ghost use Rattle.command_answers.specs.Status.{IsOfWork};
 ghost use Rattle.command_answers.specs.Tellings.{MadeTo, Tells, telling_of};
 ghost use Rattle.market_inputs.specs.Texts.{IsPool, IsLimited};
+ghost use Rattle.number_bits.specs.Bits.{most_of};
 
+use crate::anew::is_made_anew;
 use crate::status::Status;
 use crate::told::{Outputs, Told, refused};
 use cert_format::outcome_json;
 use clear_loop::{Clearer, outcome};
 use exact_fraction::{Exact, Frac, Passed};
+use long_fraction::Frac1023;
 use market_data::FactorPlaces;
 use market_inputs::{InputStop, clear_market, pool_market};
 use market_model::{Market, Memory, Outcome};
 use market_tables::MarketTables;
 use net_case::PostRating;
+use number_bits::NumberBits;
 use report_text::report;
 use std::alloc::Global;
 
@@ -87,14 +91,32 @@ fn clear_outcome<N: Exact>(alloc: Global, market: &Market) -> Result<Told, Memor
     outcome_told(alloc, market, &outcome)
 }
 
-/// What a market comes to, or why none was made.
-fn market_told(alloc: Global, made: Result<Market, InputStop>) -> Result<Told, Memory>
+/// What clearing a market comes to by numbers of so many bits. It is cleared by numbers of 127 bits, and anew where these become too large
+/// and wider ones are asked for.
+fn clear_by(alloc: Global, market: &Market, bits: NumberBits) -> Result<Told, Memory>
+    ensures status { IfOk result (λ told. IsOfWork told.status) }
+    ensures clears { IfOk result (λ told. ClearsTo (most_of bits) market.now (telling_of told)) }
+{
+    let told = clear_outcome::<Frac>(alloc, market)?;
+    if is_made_anew(bits, told.status) {
+        clear_outcome::<Frac1023>(alloc, market)
+    } else {
+        Ok(told)
+    }
+}
+
+/// What a market comes to by numbers of so many bits, or why none was made.
+fn market_told(
+    alloc: Global,
+    made: Result<Market, InputStop>,
+    bits: NumberBits,
+) -> Result<Told, Memory>
     requires { IfOk made IsMarket }
     ensures status { IfOk result (λ told. IsOfWork told.status) }
-    ensures tells { IfOk result (λ told. MadeTo TellsClear made (telling_of told)) }
+    ensures tells { IfOk result (λ told. MadeTo (TellsClear (most_of bits)) made (telling_of told)) }
 {
     match made {
-        Ok(market) => clear_outcome::<Frac>(alloc, &market),
+        Ok(market) => clear_by(alloc, &market, bits),
         Err(InputStop::Refused(refusal)) => refused(alloc, &refusal),
         Err(InputStop::Memory) => Err(Memory),
     }
@@ -103,20 +125,23 @@ fn market_told(alloc: Global, made: Result<Market, InputStop>) -> Result<Told, M
 /// What the whole bytes of a case and of offers come to, as if no branch had a limit.
 pub fn pool_told(alloc: Global, case: &[u8], offers: &[u8]) -> Result<Told, Memory>
     ensures status { IfOk result (λ told. IsOfWork told.status) }
-    ensures tells { IfOk result (λ told. Tells (IsPool case.now offers.now) TellsClear (telling_of told)) }
+    ensures tells { IfOk result (λ told. Tells (IsPool case.now offers.now) (TellsClear (most_of NumberBits.Bits127)) (telling_of told)) }
 {
-    market_told(alloc, pool_market(alloc, case, offers))
+    let market = pool_market(alloc, case, offers);
+    market_told(alloc, market, NumberBits::Bits127)
 }
 
-/// What the whole bytes of the files of a market come to, by the rating that limits branches after an outage.
+/// What the whole bytes of the files of a market come to, by the rating that limits branches after an outage, and by numbers of so many bits.
 pub fn clear_told(
     alloc: Global,
     bytes: &MarketTables<&[u8]>,
     rating: PostRating,
     places: FactorPlaces,
+    bits: NumberBits,
 ) -> Result<Told, Memory>
     ensures status { IfOk result (λ told. IsOfWork told.status) }
-    ensures tells { IfOk result (λ told. Tells (IsLimited rating places (tables_lent bytes.now)) TellsClear (telling_of told)) }
+    ensures tells { IfOk result (λ told. Tells (IsLimited rating places (tables_lent bytes.now)) (TellsClear (most_of bits)) (telling_of told)) }
 {
-    market_told(alloc, clear_market(alloc, bytes, rating, places))
+    let market = clear_market(alloc, bytes, rating, places);
+    market_told(alloc, market, bits)
 }

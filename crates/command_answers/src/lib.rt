@@ -1,6 +1,7 @@
 //! What the inputs of each command come to: a status, the text that goes with it, and what there is to write to files.
 #![tactic(auto)]
 
+mod anew;
 mod checking;
 mod clearing;
 mod factors;

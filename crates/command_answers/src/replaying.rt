@@ -1,6 +1,6 @@
 //! Edits and clears of a market, one after another.
 
-ghost use Rattle.std.specs.Prelude.{◌≡◌, ◌≢◌, None, All, IfOk, IfSome, OnOk, length, map, option_and_then, option_map};
+ghost use Rattle.std.specs.Prelude.{◌≡◌, ◌≢◌, ◌≤◌, ℕ, false, None, All, IfOk, IfSome, OnOk, length, map, option_and_then, option_map};
 ghost use Rattle.fraction_theory.specs.Fraction.{Fraction};
 ghost use Rattle.cert_format.specs.Certificates.{NumbersFit, cert_of_outcome};
 ghost use Rattle.cert_format.specs.Written.{certificate_of};
@@ -14,9 +14,10 @@ ghost use Rattle.market_model.specs.Market.{IsMarket};
 ghost use Rattle.market_model.specs.declared.participants.Parts.{Parts};
 ghost use Rattle.market_model.specs.Valued.{outcome_at};
 ghost use Rattle.command_answers.specs.Inputs.{IsReplayed, steps_with};
-ghost use Rattle.command_answers.specs.Replaying.{ReplaysTo, TellsReplay, TellsSteps, clear_or, is_done, last_clear, replay_status, step_status};
+ghost use Rattle.command_answers.specs.Replaying.{IsWithin, ReplaysTo, TellsReplay, TellsSteps, clear_or, is_done, last_clear, replay_status, step_status};
 ghost use Rattle.command_answers.specs.Status.{IsOfWork};
 ghost use Rattle.command_answers.specs.Tellings.{Tells, telling_of};
+ghost use Rattle.number_bits.specs.Bits.{most_of};
 
 use crate::clearing::clear_status;
 use crate::status::Status;
@@ -24,11 +25,13 @@ use crate::told::{Outputs, Told, refused};
 use cert_format::outcome_json;
 use edit_replay::{Outcomes, Session, StepOutcome, Steps};
 use exact_fraction::{Exact, Frac};
+use long_fraction::Frac1023;
 use market_data::FactorPlaces;
 use market_inputs::{InputStop, clear_market, edit_steps};
 use market_model::{Market, Memory, Outcome};
 use market_tables::MarketTables;
 use net_case::PostRating;
+use number_bits::NumberBits;
 use replay_text::replay_text;
 use std::alloc::Global;
 
@@ -120,6 +123,36 @@ fn last_certificate<N: Exact>(
     }
 }
 
+/// Whether a step was a clear that ended with numbers that became too large.
+fn is_passed<N: Exact>(outcome: &StepOutcome<N>) -> bool
+    ensures { result ≡ false → IsWithin (step_outcome_at N.value outcome.now) }
+{
+    match outcome {
+        StepOutcome::Clear(Outcome::Range(_)) => true,
+        StepOutcome::Clear(Outcome::Cleared(_) | Outcome::Infeasible(_)) => false,
+        StepOutcome::Accepted | StepOutcome::Refused(_) => false,
+    }
+}
+
+/// Whether one of the steps was.
+fn is_any_passed<N: Exact>(outcomes: &Outcomes<N>) -> bool
+    ensures { result ≡ false → All IsWithin (map (step_outcome_at N.value) outcomes.now) }
+{
+    for outcome in outcomes.slice() {
+        if is_passed(outcome) {
+            return true;
+        }
+    }
+    false
+}
+
+/// What a replay comes to by one type of numbers, and whether a clear in it ended with numbers that became too large.
+#[derive(Drop)]
+struct ReplayTold {
+    told: Told,
+    is_passed: bool,
+}
+
 /// The text of the outcomes of steps, by a market of their frame and by the need of reserve before the first step, with their status and
 /// the certificate of the last clear.
 fn outcomes_told<N: Exact>(
@@ -128,20 +161,23 @@ fn outcomes_told<N: Exact>(
     need: i64,
     steps: &Steps,
     outcomes: &Outcomes<N>,
-) -> Result<Told, Memory>
+) -> Result<ReplayTold, Memory>
     requires count { length outcomes.now ≡ length steps.now }
     requires fits { All (FitsStep market.now) outcomes.now }
-    ensures status { IfOk result (λ told. IsOfWork told.status) }
-    ensures tells { (m : Parts) → SameFrame market.now m → IfOk result (λ told. TellsSteps N.bound (with_need m need) steps.now (map (step_outcome_at N.value) outcomes.now) (telling_of told)) }
+    ensures status { IfOk result (λ made. IsOfWork made.told.status) }
+    ensures tells { (m : Parts) → SameFrame market.now m → IfOk result (λ made. TellsSteps N.bound (with_need m need) steps.now (map (step_outcome_at N.value) outcomes.now) (telling_of made.told)) }
+    ensures within { IfOk result (λ made. made.is_passed ≡ false → All IsWithin (map (step_outcome_at N.value) outcomes.now)) }
 {
     let text = replay_text(alloc, market, need, steps, outcomes)?;
     let places = market.factor_places();
     let certificate = last_certificate(alloc, outcomes, places, market.reserve().listed)?;
-    Ok(Told {
+    let told = Told {
         status: replay_status(outcomes),
         text,
         outputs: Outputs::certified(certificate),
-    })
+    };
+    let is_passed = is_any_passed(outcomes);
+    Ok(ReplayTold { told, is_passed })
 }
 
 /// How much reserve is needed, in 10^-9 MW.
@@ -152,11 +188,16 @@ fn need_of(market: &Market) -> i64
 }
 
 /// What replaying the steps of a market comes to.
-fn replay_outcome<N: Exact>(alloc: Global, market: Market, steps: &Steps) -> Result<Told, Memory>
+fn replay_outcome<N: Exact>(
+    alloc: Global,
+    market: Market,
+    steps: &Steps,
+) -> Result<ReplayTold, Memory>
     requires market { IsMarket market }
     requires steps { All IsStep steps.now }
-    ensures status { IfOk result (λ told. IsOfWork told.status) }
-    ensures replays { IfOk result (λ told. ReplaysTo N.bound market steps.now (telling_of told)) }
+    ensures status { IfOk result (λ made. IsOfWork made.told.status) }
+    ensures replays { IfOk result (λ made. ReplaysTo N.bound market steps.now (telling_of made.told)) }
+    ensures wider { (bound : ℕ) → N.bound ≤ bound → IfOk result (λ made. made.is_passed ≡ false → ReplaysTo bound market steps.now (telling_of made.told)) }
 {
     let need = need_of(&market);
     let mut session = Session::<N>::new(market);
@@ -164,20 +205,47 @@ fn replay_outcome<N: Exact>(alloc: Global, market: Market, steps: &Steps) -> Res
     outcomes_told(alloc, session.market(), need, steps, &outcomes)
 }
 
-/// What the whole bytes of the files of a market and of a table of edits come to.
+/// What the whole bytes of the files of a market and of a table of edits come to by one type of numbers.
+fn replay_by<N: Exact>(
+    alloc: Global,
+    bytes: &MarketTables<&[u8]>,
+    rating: PostRating,
+    places: FactorPlaces,
+    edits: &[u8],
+) -> Result<ReplayTold, Memory>
+    ensures status { IfOk result (λ made. IsOfWork made.told.status) }
+    ensures tells { IfOk result (λ made. Tells (IsReplayed rating places (tables_lent bytes.now) edits.now) (TellsReplay N.bound) (telling_of made.told)) }
+    ensures wider { (bound : ℕ) → N.bound ≤ bound → IfOk result (λ made. made.is_passed ≡ false → Tells (IsReplayed rating places (tables_lent bytes.now) edits.now) (TellsReplay bound) (telling_of made.told)) }
+{
+    match replay_inputs(alloc, bytes, rating, places, edits) {
+        Ok(replayed) => replay_outcome::<N>(alloc, replayed.market, &replayed.steps),
+        Err(InputStop::Refused(refusal)) => Ok(ReplayTold {
+            told: refused(alloc, &refusal)?,
+            is_passed: false,
+        }),
+        Err(InputStop::Memory) => Err(Memory),
+    }
+}
+
+/// What the whole bytes of the files of a market and of a table of edits come to by numbers of so many bits. They are replayed by numbers of
+/// 127 bits, and anew as a whole where these become too large in a clear and wider ones are asked for.
 pub fn replay_told(
     alloc: Global,
     bytes: &MarketTables<&[u8]>,
     rating: PostRating,
     places: FactorPlaces,
     edits: &[u8],
+    bits: NumberBits,
 ) -> Result<Told, Memory>
     ensures status { IfOk result (λ told. IsOfWork told.status) }
-    ensures tells { IfOk result (λ told. Tells (IsReplayed rating places (tables_lent bytes.now) edits.now) TellsReplay (telling_of told)) }
+    ensures tells { IfOk result (λ told. Tells (IsReplayed rating places (tables_lent bytes.now) edits.now) (TellsReplay (most_of bits)) (telling_of told)) }
 {
-    match replay_inputs(alloc, bytes, rating, places, edits) {
-        Ok(replayed) => replay_outcome::<Frac>(alloc, replayed.market, &replayed.steps),
-        Err(InputStop::Refused(refusal)) => refused(alloc, &refusal),
-        Err(InputStop::Memory) => Err(Memory),
+    let made = replay_by::<Frac>(alloc, bytes, rating, places, edits)?;
+    match (bits, made.is_passed) {
+        (NumberBits::Bits1023, true) => {
+            let anew = replay_by::<Frac1023>(alloc, bytes, rating, places, edits)?;
+            Ok(anew.told)
+        }
+        _ => Ok(made.told),
     }
 }

@@ -15,18 +15,22 @@ ghost use Rattle.command_answers.specs.Inputs.{AreEntitled, rights_with};
 ghost use Rattle.command_answers.specs.Rights.{EntitlesTo, IsRightsRefusal, TellsFit, TellsOutcome, TellsRights, fit_status};
 ghost use Rattle.command_answers.specs.Status.{IsOfWork};
 ghost use Rattle.command_answers.specs.Tellings.{Tells, telling_of, uncertified};
+ghost use Rattle.number_bits.specs.Bits.{most_of};
 
+use crate::anew::is_made_anew;
 use crate::clearing::{clear_status, cleared, range_report};
 use crate::rights_lines::rights_lines;
 use crate::status::Status;
 use crate::told::{Told, refused, uncertified};
 use exact_fraction::{Exact, Frac};
 use line_text::Text;
+use long_fraction::Frac1023;
 use market_data::FactorPlaces;
 use market_inputs::{InputStop, clear_market, read_rights};
 use market_model::{Market, Memory, Outcome, Price, Stop, TransmissionRight};
 use market_tables::MarketTables;
 use net_case::PostRating;
+use number_bits::NumberBits;
 use report_text::report;
 use rights_test::{Fit, Payments, Rights, fit, pay};
 use std::alloc::Global;
@@ -172,19 +176,40 @@ fn rights_outcome<N: Exact>(
     outcome_told(alloc, market, rights, &outcome)
 }
 
-/// What the whole bytes of the files of a market and of a table of rights come to.
+/// What clearing a market with rights comes to by numbers of so many bits. It is made by numbers of 127 bits, and anew where these become too
+/// large and wider ones are asked for.
+fn rights_by(
+    alloc: Global,
+    market: &Market,
+    rights: &[TransmissionRight],
+    bits: NumberBits,
+) -> Result<Told, Memory>
+    requires { All (IsTransmissionRight (length market.now.buses)) rights.now }
+    ensures status { IfOk result (λ told. IsOfWork told.status) }
+    ensures entitles { IfOk result (λ told. EntitlesTo (most_of bits) market.now rights.now (telling_of told)) }
+{
+    let told = rights_outcome::<Frac>(alloc, market, rights)?;
+    if is_made_anew(bits, told.status) {
+        rights_outcome::<Frac1023>(alloc, market, rights)
+    } else {
+        Ok(told)
+    }
+}
+
+/// What the whole bytes of the files of a market and of a table of rights come to, by numbers of so many bits.
 pub fn rights_told(
     alloc: Global,
     bytes: &MarketTables<&[u8]>,
     rating: PostRating,
     places: FactorPlaces,
     rights: &[u8],
+    bits: NumberBits,
 ) -> Result<Told, Memory>
     ensures status { IfOk result (λ told. IsOfWork told.status) }
-    ensures tells { IfOk result (λ told. Tells (AreEntitled rating places (tables_lent bytes.now) rights.now) TellsRights (telling_of told)) }
+    ensures tells { IfOk result (λ told. Tells (AreEntitled rating places (tables_lent bytes.now) rights.now) (TellsRights (most_of bits)) (telling_of told)) }
 {
     match rights_inputs(alloc, bytes, rating, places, rights) {
-        Ok(made) => rights_outcome::<Frac>(alloc, &made.market, made.rights.slice()),
+        Ok(made) => rights_by(alloc, &made.market, made.rights.slice(), bits),
         Err(InputStop::Refused(refusal)) => refused(alloc, &refusal),
         Err(InputStop::Memory) => Err(Memory),
     }

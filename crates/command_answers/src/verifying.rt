@@ -2,7 +2,7 @@
 
 ghost use Rattle.std.specs.Prelude.{◌≡◌, All, IfOk, Option};
 ghost use Rattle.cert_verify.specs.declared.verdicts.Reason.{Reason};
-ghost use Rattle.cert_format.specs.Certificates.{RowsAreDistinct, cert_at, most_part};
+ghost use Rattle.cert_format.specs.Certificates.{RowsAreDistinct, cert_at};
 ghost use Rattle.cert_verify.specs.Certificates.{first_reason};
 ghost use Rattle.cert_verify.specs.Reasons.{verdict_of};
 ghost use Rattle.edit_replay.specs.Replays.{edited_by};
@@ -15,6 +15,7 @@ ghost use Rattle.command_answers.specs.Status.{IsOfWork};
 ghost use Rattle.command_answers.specs.Tellings.{Tells, telling_of};
 ghost use Rattle.command_answers.specs.Verdicts.{verdict_line};
 ghost use Rattle.command_answers.specs.Verifying.{TellsVerdict, VerifiesTo, verdict_status};
+ghost use Rattle.number_bits.specs.Bits.{most_of};
 
 use crate::clearing::range_report;
 use crate::replaying::replay_inputs;
@@ -25,11 +26,13 @@ use cert_format::Cert;
 use cert_verify::{Verdict, VerifyStop, verify};
 use edit_table::{Step, Steps};
 use exact_fraction::{Exact, Frac};
+use long_fraction::Frac1023;
 use market_data::FactorPlaces;
 use market_inputs::{InputStop, read_certificate};
 use market_model::{Market, Memory};
 use market_tables::MarketTables;
 use net_case::PostRating;
+use number_bits::NumberBits;
 use offer_book::edit;
 use std::alloc::Global;
 
@@ -109,8 +112,8 @@ fn verdict_told<N: Exact>(
     }
 }
 
-/// What the whole bytes of the files of a market, of a table of edits and of a certificate come to.
-pub fn verify_told(
+/// What the whole bytes of the files of a market, of a table of edits and of a certificate come to by one type of numbers.
+fn verify_by<N: Exact>(
     alloc: Global,
     bytes: &MarketTables<&[u8]>,
     rating: PostRating,
@@ -119,11 +122,35 @@ pub fn verify_told(
     certificate: &[u8],
 ) -> Result<Told, Memory>
     ensures status { IfOk result (λ told. IsOfWork told.status) }
-    ensures tells { IfOk result (λ told. Tells (IsCertified most_part rating places (tables_lent bytes.now) edits.now certificate.now) TellsVerdict (telling_of told)) }
+    ensures tells { IfOk result (λ told. Tells (IsCertified N.bound rating places (tables_lent bytes.now) edits.now certificate.now) (TellsVerdict N.bound) (telling_of told)) }
 {
-    match verify_inputs::<Frac>(alloc, bytes, rating, places, edits, certificate) {
+    match verify_inputs::<N>(alloc, bytes, rating, places, edits, certificate) {
         Ok(made) => verdict_told(alloc, &made.market, &made.certificate),
         Err(InputStop::Refused(refusal)) => refused(alloc, &refusal),
         Err(InputStop::Memory) => Err(Memory),
+    }
+}
+
+/// What the whole bytes of the files of a market, of a table of edits and of a certificate come to by numbers of so many bits. A certificate whose
+/// numbers have more is at fault.
+pub fn verify_told(
+    alloc: Global,
+    bytes: &MarketTables<&[u8]>,
+    rating: PostRating,
+    places: FactorPlaces,
+    edits: &[u8],
+    certificate: &[u8],
+    bits: NumberBits,
+) -> Result<Told, Memory>
+    ensures status { IfOk result (λ told. IsOfWork told.status) }
+    ensures tells { IfOk result (λ told. Tells (IsCertified (most_of bits) rating places (tables_lent bytes.now) edits.now certificate.now) (TellsVerdict (most_of bits)) (telling_of told)) }
+{
+    match bits {
+        NumberBits::Bits127 => {
+            verify_by::<Frac>(alloc, bytes, rating, places, edits, certificate)
+        }
+        NumberBits::Bits1023 => {
+            verify_by::<Frac1023>(alloc, bytes, rating, places, edits, certificate)
+        }
     }
 }

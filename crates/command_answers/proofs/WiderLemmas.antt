@@ -1,0 +1,120 @@
+-- What is told by numbers within a bound is told by those within a greater one, where no two became too large.
+use Rattle.std.proofs.Common.{◌≡◌, ◌≢◌, ◌≤◌, ◌∙◌, ℕ, List, [], ◌∷◌, All, Option, Some, None, IfSome, arith, refl, sym, ap, subst, zero, suc}
+use Rattle.std.proofs.lemmas.List.Elements.{All-cons, All-nil, All-tail}
+use Rattle.fraction_theory.specs.Fraction.{Fraction}
+use Rattle.market_model.specs.declared.answered.Outcome.{Outcome}
+use Rattle.market_model.specs.declared.answered.Outcome.TheVariants as outcome
+use Rattle.market_model.specs.declared.limits.Row.{Row}
+use Rattle.market_model.specs.declared.participants.Parts.{Parts}
+use Rattle.market_model.specs.declared.participants.TransmissionRight.{TransmissionRight}
+use Rattle.market_model.specs.Market.{IsMarket}
+use Rattle.market_model.specs.Valued.{total_at}
+use Rattle.market_system.specs.Outcomes.{IsClear, IsRightOutcome}
+use Rattle.market_dict.specs.Takings.{limits_of}
+use Rattle.market_dict.specs.declared.taking.Taking.{Taking}
+use Rattle.cert_format.specs.declared.certificate.Cert.{Cert}
+use Rattle.cert_format.specs.Certificates.{NumbersFit}
+use Rattle.cert_format.proofs.CertLemmas.{numbers-more}
+use Rattle.edit_table.specs.EditTable.{IsStep}
+use Rattle.edit_table.specs.declared.Step.{Step}
+use Rattle.edit_table.specs.declared.Step.TheVariants as edit
+use Rattle.edit_replay.specs.Replays.{IsReplay, IsReply, stepped}
+use Rattle.edit_replay.specs.declared.step_outcome.StepOutcome.{StepOutcome}
+use Rattle.edit_replay.specs.declared.step_outcome.StepOutcome.TheVariants as step
+use Rattle.command_answers.specs.Clearing.{AreSidesWithin, ClearsTo, TellsCertified}
+use Rattle.command_answers.specs.Replaying.{AreStepSidesWithin, IsWithin, ReplaysTo, TellsSteps}
+use Rattle.command_answers.specs.Rights.{EntitlesTo, TellsFit, TellsOutcome, fitted, passed}
+use Rattle.command_answers.specs.Tellings.{Telling}
+use Rattle.command_answers.specs.declared.status.Status.TheVariants as status
+use Rattle.command_answers.proofs.ReplayLemmas.{are_decided}
+use Rattle.report_text.specs.Reports.{report_text}
+
+module _ (less bound : ℕ) (wide : less ≤ bound) where
+  some-wider : (c : Option (Cert Fraction)) → IfSome c (NumbersFit less) → IfSome c (NumbersFit bound)
+  some-wider None h = tt
+  some-wider (Some c) h = numbers-more less bound wide c h
+
+  -- ---- one clear
+  right-wider : (m : Parts) (taken : List Row) (o : Outcome Fraction) → IsWithin (step.Clear o) → IsRightOutcome less m taken o → IsRightOutcome bound m taken o
+  right-wider m taken (outcome.Cleared a) within right = right
+  right-wider m taken (outcome.Infeasible f) within right = right
+  right-wider m taken (outcome.Range p) within right = absurd within
+
+  sides-wider : (o : Outcome Fraction) → IsWithin (step.Clear o) → AreSidesWithin bound o
+  sides-wider (outcome.Cleared a) within = tt
+  sides-wider (outcome.Infeasible f) within = tt
+  sides-wider (outcome.Range p) within = absurd within
+
+  certified-wider : (m : Parts) (o : Outcome Fraction) (t : Telling) → TellsCertified less m o t → TellsCertified bound m o t
+  certified-wider m o t h = record { status_is = h.status_is; text_is = h.text_is; certificate_is = h.certificate_is; certificate_fits = some-wider _ h.certificate_fits }
+
+  -- a clear whose status is another has no two numbers that became too large
+  clear-within : (m : Parts) (o : Outcome Fraction) (t : Telling) → TellsCertified less m o t → t.status ≢ status.Range → IsWithin (step.Clear o)
+  clear-within m (outcome.Cleared a) t h other = tt
+  clear-within m (outcome.Infeasible f) t h other = tt
+  clear-within m (outcome.Range p) t h other = absurd (other h.status_is)
+
+  pub clears-wider : (m : Parts) (t : Telling) → ClearsTo less m t → t.status ≢ status.Range → ClearsTo bound m t
+  clears-wider m t h other =
+      let within = clear-within m h.outcome t h.told other in
+      record { outcome = h.outcome; right = right-wider m [] h.outcome within h.right; sides = sides-wider h.outcome within; told = certified-wider m h.outcome t h.told }
+
+  -- ---- rights
+  fit-wider : (m : Parts) (rights : List TransmissionRight) (price : ℕ → Fraction) (report : List ℕ) (t : Telling) → TellsFit less m rights price report t → t.status ≢ status.Range → TellsFit bound m rights price report t
+  fit-wider m rights price report t (fitted f is told) other = fitted f is told
+  fit-wider m rights price report t (passed p stop within told) other = absurd (other (ap (λ (s : Telling). s.status) told))
+
+  outcome-within : (m : Parts) (rights : List TransmissionRight) (o : Outcome Fraction) (t : Telling) → TellsOutcome less m rights o t → t.status ≢ status.Range → IsWithin (step.Clear o) × TellsOutcome bound m rights o t
+  outcome-within m rights (outcome.Cleared a) t h other = (tt, fit-wider m rights (total_at (λ x. x) a.prices) (report_text m (outcome.Cleared a)) t h other)
+  outcome-within m rights (outcome.Infeasible f) t h other = (tt, h)
+  outcome-within m rights (outcome.Range p) t h other = absurd (other (ap (λ (s : Telling). s.status) h))
+
+  pub entitles-wider : (m : Parts) (rights : List TransmissionRight) (t : Telling) → EntitlesTo less m rights t → t.status ≢ status.Range → EntitlesTo bound m rights t
+  entitles-wider m rights t h other =
+      let told = outcome-within m rights h.outcome t h.told other in
+      record { outcome = h.outcome; right = right-wider m [] h.outcome told.0 h.right; sides = sides-wider h.outcome told.0; told = told.1 }
+
+  -- ---- replays
+  clear-wider : (m : Parts) (before after : List Row) (o : Outcome Fraction) → IsWithin (step.Clear o) → IsClear less m before o after → IsClear bound m before o after
+  clear-wider m before after o within h = record { rows = h.rows; right = right-wider m before o within h.right; taken = h.taken; priced = h.priced }
+
+  reply-wider : (m : Parts) (before after : List Taking) (s : Step) (o : StepOutcome Fraction) → IsWithin o → IsReply less m before s o after → IsReply bound m before s o after
+  reply-wider m before after (edit.Edit e) step.Accepted within h = h
+  reply-wider m before after (edit.Edit e) (step.Refused f) within h = h
+  reply-wider m before after (edit.Edit e) (step.Clear o) within h = absurd h
+  reply-wider m before after edit.Clear step.Accepted within h = absurd h
+  reply-wider m before after edit.Clear (step.Refused f) within h = absurd h
+  reply-wider m before after edit.Clear (step.Clear o) within h = (clear-wider m (limits_of before) (limits_of after) o within h.0, h.1)
+
+  replay-wider : (m : Parts) (before after : List Taking) (steps : List Step) (outcomes : List (StepOutcome Fraction)) → All IsWithin outcomes → IsReplay less m before steps outcomes after → IsReplay bound m before steps outcomes after
+  replay-wider m before after [] [] within h = h
+  replay-wider m before after [] (o ∷ outcomes) within h = absurd h
+  replay-wider m before after (s ∷ steps) [] within h = absurd h
+  replay-wider m before after (s ∷ steps) (o ∷ outcomes) within h =
+      (h.0, reply-wider m before h.0 s o (within 0 o (omega arith)) h.1, replay-wider (stepped m s) h.0 after steps outcomes (All-tail IsWithin o outcomes within) h.2)
+
+  step-sides-wider : (o : StepOutcome Fraction) → IsWithin o → AreStepSidesWithin bound o
+  step-sides-wider step.Accepted within = tt
+  step-sides-wider (step.Refused f) within = tt
+  step-sides-wider (step.Clear o) within = sides-wider o within
+
+  all-sides-wider : (outcomes : List (StepOutcome Fraction)) → All IsWithin outcomes → All (AreStepSidesWithin bound) outcomes
+  all-sides-wider [] within = All-nil (AreStepSidesWithin bound)
+  all-sides-wider (o ∷ outcomes) within =
+      All-cons (AreStepSidesWithin bound) o outcomes (step-sides-wider o (within 0 o (omega arith))) (all-sides-wider outcomes (All-tail IsWithin o outcomes within))
+
+  steps-wider : (m : Parts) (steps : List Step) (outcomes : List (StepOutcome Fraction)) (t : Telling) → TellsSteps less m steps outcomes t → TellsSteps bound m steps outcomes t
+  steps-wider m steps outcomes t h = record { status_is = h.status_is; text_is = h.text_is; certificate_is = h.certificate_is; certificate_fits = some-wider _ h.certificate_fits }
+
+  pub replays-wider : (m : Parts) (steps : List Step) (t : Telling) → IsMarket m → All IsStep steps → (h : ReplaysTo less m steps t) → All IsWithin h.outcomes → ReplaysTo bound m steps t
+  replays-wider m steps t market data_ok h within =
+      let right = replay-wider m [] h.taken steps h.outcomes within h.right in
+      record {
+        outcomes = h.outcomes;
+        taken = h.taken;
+        right = right;
+        sides = all-sides-wider h.outcomes within;
+        markets = h.markets;
+        decided = λ none. are_decided bound m [] h.taken steps h.outcomes market data_ok none right;
+        told = steps-wider m steps h.outcomes t h.told;
+      }

@@ -1,0 +1,18 @@
+//! Which answers are made anew by wider numbers.
+
+ghost use Rattle.std.specs.Prelude.{◌≡◌, ◌≢◌, ◌⊎◌, true, false};
+
+use crate::status::Status;
+use number_bits::NumberBits;
+
+/// Whether what numbers of 127 bits come to with this status is to be made anew by numbers of 1,023 bits: where these are asked for and numbers became
+/// too large.
+pub(crate) fn is_made_anew(bits: NumberBits, status: Status) -> bool
+    ensures anew { result ≡ true → bits ≡ NumberBits.Bits1023 }
+    ensures kept { result ≡ false → (bits ≡ NumberBits.Bits127) ⊎ (status ≢ Status.Range) }
+{
+    match (bits, status) {
+        (NumberBits::Bits1023, Status::Range) => true,
+        _ => false,
+    }
+}
