@@ -13,7 +13,9 @@ use Rattle.market_inputs.specs.Clearing.{IsClearMarket}
 use Rattle.market_inputs.specs.Files.{sized}
 use Rattle.market_inputs.specs.Pooling.{IsPoolMarket}
 use Rattle.market_inputs.specs.Replaying.{certificate_in}
-use Rattle.cert_format.specs.Certificates.{most_part}
+use Rattle.number_bits.specs.Bits.{most_of}
+use Rattle.number_bits.specs.declared.NumberBits.{NumberBits}
+use Rattle.number_bits.specs.declared.NumberBits.TheVariants.{Bits127}
 use Rattle.market_inputs.proofs.FileLemmas.{AreAlike, alike-grid, alike-tables, sized-cut}
 use Rattle.market_tables.specs.Tables.{EachOf, GridTexts, MarketTexts}
 use Rattle.market_tables.proofs.EachLemmas.{Found, found-grid, found-tables}
@@ -70,7 +72,7 @@ whole-market f names bytes read = found-tables (ReadsTable (Some f)) (IsTableFil
 
 -- ---- what is told of the files
 pub files-pool : (files : Option Files) (case offers case_read offers_read : List ℕ) (t : Telling) → Reads files case 33554432 case_read → Reads files offers 33554432 offers_read
-    → Tells (IsPool case_read offers_read) TellsClear t → OfFiles files (λ f. ArePoolFiles f case offers) TellsClear t
+    → Tells (IsPool case_read offers_read) (TellsClear (most_of Bits127)) t → OfFiles files (λ f. ArePoolFiles f case offers) (TellsClear (most_of Bits127)) t
 files-pool None case offers case_read offers_read t first second right = tt
 files-pool (Some f) case offers case_read offers_read t first second right =
     let a = whole-table f (in_file case) case_read first in
@@ -87,8 +89,8 @@ files-pool (Some f) case offers case_read offers_read t first second right =
       comes = right.comes;
     }
 
-pub files-clear : (files : Option Files) (names : MarketNames) (bytes : MarketTexts) (t : Telling) → ReadsMarket files names bytes → Tells (IsLimited names.rating names.places bytes) TellsClear t
-    → OfFiles files (λ f. AreClearFiles f names) TellsClear t
+pub files-clear : (files : Option Files) (names : MarketNames) (bytes : MarketTexts) (t : Telling) → ReadsMarket files names bytes → Tells (IsLimited names.rating names.places bytes) (TellsClear (most_of names.bits)) t
+    → OfFiles files (λ f. AreClearFiles f names) (TellsClear (most_of names.bits)) t
 files-clear None names bytes t read right = tt
 files-clear (Some f) names bytes t read right =
     let w = whole-market f names bytes read in
@@ -99,7 +101,7 @@ files-clear (Some f) names bytes t read right =
     }
 
 pub files-replay : (files : Option Files) (names : MarketNames) (edits : List ℕ) (bytes : MarketTexts) (edits_read : List ℕ) (t : Telling) → ReadsMarket files names bytes
-    → Reads files edits 33554432 edits_read → Tells (IsReplayed names.rating names.places bytes edits_read) TellsReplay t → OfFiles files (λ f. AreReplayFiles f names edits) TellsReplay t
+    → Reads files edits 33554432 edits_read → Tells (IsReplayed names.rating names.places bytes edits_read) (TellsReplay (most_of names.bits)) t → OfFiles files (λ f. AreReplayFiles f names edits) (TellsReplay (most_of names.bits)) t
 files-replay None names edits bytes edits_read t read read_edits right = tt
 files-replay (Some f) names edits bytes edits_read t read read_edits right =
     let w = whole-market f names bytes read in
@@ -118,7 +120,7 @@ files-replay (Some f) names edits bytes edits_read t read read_edits right =
 
 pub files-verify : (files : Option Files) (names : MarketNames) (edits : Option (List ℕ)) (certificate : List ℕ) (bytes : MarketTexts) (edits_read certificate_read : List ℕ) (t : Telling)
     → ReadsMarket files names bytes → ReadsTable files (source_of edit_header edits) edits_read → Reads files certificate 33554432 certificate_read
-    → Tells (IsCertified most_part names.rating names.places bytes edits_read certificate_read) TellsVerdict t → OfFiles files (λ f. AreVerifyFiles f names edits certificate) TellsVerdict t
+    → Tells (IsCertified (most_of names.bits) names.rating names.places bytes edits_read certificate_read) (TellsVerdict (most_of names.bits)) t → OfFiles files (λ f. AreVerifyFiles f names edits certificate) (TellsVerdict (most_of names.bits)) t
 files-verify None names edits certificate bytes edits_read certificate_read t read read_edits read_certificate right = tt
 files-verify (Some f) names edits certificate bytes edits_read certificate_read t read read_edits read_certificate right =
     let w = whole-market f names bytes read in
@@ -133,7 +135,7 @@ files-verify (Some f) names edits certificate bytes edits_read certificate_read 
         have = w.first;
         edits_are = e.1;
         certificate_is = c.1;
-        certified = certified-same most_part names.rating names.places bytes w.found edits_read e.0 certificate_read c.0 right.told w.second (e.2 (refusal.TooLong input.Edits))
+        certified = certified-same (most_of names.bits) names.rating names.places bytes w.found edits_read e.0 certificate_read c.0 right.told w.second (e.2 (refusal.TooLong input.Edits))
             (c.2 (refusal.TooLong input.Certificate)) right.stands;
       };
       comes = right.comes;
@@ -148,7 +150,7 @@ entitled-same rating places a b rights rights' told same same_rights h = record 
 }
 
 pub files-rights : (files : Option Files) (names : MarketNames) (rights : List ℕ) (bytes : MarketTexts) (rights_read : List ℕ) (t : Telling) → ReadsMarket files names bytes
-    → Reads files rights 33554432 rights_read → Tells (AreEntitled names.rating names.places bytes rights_read) TellsRights t → OfFiles files (λ f. AreRightsFiles f names rights) TellsRights t
+    → Reads files rights 33554432 rights_read → Tells (AreEntitled names.rating names.places bytes rights_read) (TellsRights (most_of names.bits)) t → OfFiles files (λ f. AreRightsFiles f names rights) (TellsRights (most_of names.bits)) t
 files-rights None names rights bytes rights_read t read read_rights right = tt
 files-rights (Some f) names rights bytes rights_read t read read_rights right =
     let w = whole-market f names bytes read in
@@ -165,14 +167,14 @@ files-rights (Some f) names rights bytes rights_read t read read_rights right =
       comes = right.comes;
     }
 
-pub file-migrate : (files : Option Files) (certificate certificate_read : List ℕ) (t : Telling) → Reads files certificate 33554432 certificate_read → Tells (IsCertificate most_part certificate_read) TellsMigration t
-    → OfFiles files (λ f. IsMigratedFile f certificate) TellsMigration t
-file-migrate None certificate certificate_read t read right = tt
-file-migrate (Some f) certificate certificate_read t read right =
+pub file-migrate : (files : Option Files) (certificate certificate_read : List ℕ) (bits : NumberBits) (t : Telling) → Reads files certificate 33554432 certificate_read → Tells (IsCertificate (most_of bits) certificate_read) TellsMigration t
+    → OfFiles files (λ f. IsMigratedFile f certificate bits) TellsMigration t
+file-migrate None certificate certificate_read bits t read right = tt
+file-migrate (Some f) certificate certificate_read bits t read right =
     let c = whole-table f (in_file certificate) certificate_read read in
     record {
       told = right.told;
-      stands = record { certificate = c.0; certificate_is = c.1; read = ap (certificate_in most_part) (sym (c.2 (refusal.TooLong input.Certificate))) ∙ right.stands };
+      stands = record { certificate = c.0; certificate_is = c.1; read = ap (certificate_in (most_of bits)) (sym (c.2 (refusal.TooLong input.Certificate))) ∙ right.stands };
       comes = right.comes;
     }
 

@@ -3,7 +3,8 @@ use Rattle.std.specs.Prelude.{◌≡◌, ℕ, List, Option, Some, None, Result, 
 use Rattle.fraction_theory.specs.Fraction.{Fraction}
 use Rattle.outside_store.specs.Files.{Files}
 use Rattle.cert_format.specs.declared.certificate.Cert.{Cert}
-use Rattle.cert_format.specs.Certificates.{most_part}
+use Rattle.number_bits.specs.Bits.{most_of}
+use Rattle.number_bits.specs.declared.NumberBits.{NumberBits}
 use Rattle.market_inputs.specs.declared.checking.Inputs.{Inputs}
 use Rattle.market_inputs.specs.declared.making.FactorInputs.{FactorInputs}
 use Rattle.market_inputs.specs.Texts.{IsPool, IsLimited, IsCheck}
@@ -48,7 +49,7 @@ pub record AreVerifyFiles (files : Files) (names : MarketNames) (edits_name : Op
   pub have : HaveTexts files names texts
   pub edits_are : IsTableFile files (source_of edit_header edits_name) edits
   pub certificate_is : files certificate_name ≡ Some certificate
-  pub certified : IsCertified most_part names.rating names.places texts edits certificate told
+  pub certified : IsCertified (most_of names.bits) names.rating names.places texts edits certificate told
 
 -- those of a clear with rights stand for this market and these rights
 pub record AreRightsFiles (files : Files) (names : MarketNames) (rights_name : List ℕ) (told : Result MarketRights Refusal) : Type 0 where
@@ -58,11 +59,11 @@ pub record AreRightsFiles (files : Files) (names : MarketNames) (rights_name : L
   pub rights_are : files rights_name ≡ Some rights
   pub entitled : AreEntitled names.rating names.places texts rights told
 
--- that of a certificate which is written anew stands for it
-pub record IsMigratedFile (files : Files) (certificate_name : List ℕ) (told : Result (Cert Fraction) Refusal) : Type 0 where
+-- that of a certificate which is written anew stands for it, whose numbers may have so many bits
+pub record IsMigratedFile (files : Files) (certificate_name : List ℕ) (bits : NumberBits) (told : Result (Cert Fraction) Refusal) : Type 0 where
   pub certificate : List ℕ
   pub certificate_is : files certificate_name ≡ Some certificate
-  pub read : IsCertificate most_part certificate told
+  pub read : IsCertificate (most_of bits) certificate told
 
 -- those of a check stand for these inputs
 pub record AreCheckFiles (files : Files) (names : CheckNames) (told : Result Inputs Refusal) : Type 0 where

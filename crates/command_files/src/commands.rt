@@ -11,6 +11,8 @@ ghost use Rattle.command_answers.specs.Tellings.{telling_of};
 ghost use Rattle.command_answers.specs.Verifying.{TellsVerdict};
 ghost use Rattle.command_words.specs.Requests.{names_of_factors, names_of_market, names_to_check};
 ghost use Rattle.command_words.specs.Words.{IsCheckFile, IsFactorFile, IsMarketFile, IsPoolFile, IsReplayFile, IsRightsFile, IsVerifyFile};
+ghost use Rattle.number_bits.specs.declared.NumberBits.TheVariants as NumberBits;
+ghost use Rattle.number_bits.specs.Bits.{most_of};
 ghost use Rattle.command_files.specs.OnlyReads.{IsSilent, OnlyReads};
 ghost use Rattle.command_files.specs.Standing.{AreCheckFiles, AreClearFiles, AreFactorFiles, ArePoolFiles, AreReplayFiles, AreRightsFiles, AreVerifyFiles, IsMigratedFile, OfFiles, TellsFactorsOf};
 
@@ -20,7 +22,8 @@ use command_answers::{
     rights_told, verify_told,
 };
 use command_words::{
-    CheckNames, FactorNames, MarketNames, PoolFiles, ReplayFiles, RightsFiles, VerifyFiles,
+    CheckNames, FactorNames, MarketNames, MigrateFiles, PoolFiles, ReplayFiles, RightsFiles,
+    VerifyFiles,
 };
 use edit_table::EDIT_HEADER;
 use factor_tables::OUTAGE_HEADER;
@@ -46,7 +49,7 @@ pub fn pool_files<S: Store>(
     store: &mut S,
 ) -> Result<Told, Status>
     ensures told { MatchResult result (λ told. IsOfWork told.status) IsSilent }
-    ensures right { IfOk result (λ told. OfFiles (S.files store.old) (λ f. ArePoolFiles f files.now.case.now files.now.offers.now) TellsClear (telling_of told)) }
+    ensures right { IfOk result (λ told. OfFiles (S.files store.old) (λ f. ArePoolFiles f files.now.case.now files.now.offers.now) (TellsClear (most_of NumberBits.Bits127)) (telling_of told)) }
     ensures reads { OnlyReads S.Store store.old store.new (IsPoolFile files.now.case.now files.now.offers.now) (result ≡ Err Status.ReadFailed) }
 {
     let case = read_file(alloc, store, files.case)?;
@@ -61,11 +64,12 @@ pub fn clear_files<S: Store>(
     store: &mut S,
 ) -> Result<Told, Status>
     ensures told { MatchResult result (λ told. IsOfWork told.status) IsSilent }
-    ensures right { IfOk result (λ told. OfFiles (S.files store.old) (λ f. AreClearFiles f (names_of_market files.now)) TellsClear (telling_of told)) }
+    ensures right { IfOk result (λ told. OfFiles (S.files store.old) (λ f. AreClearFiles f (names_of_market files.now)) (TellsClear (most_of files.now.bits)) (telling_of told)) }
     ensures reads { OnlyReads S.Store store.old store.new (IsMarketFile (names_of_market files.now)) (result ≡ Err Status.ReadFailed) }
 {
     let bytes = read_market(alloc, files, store)?;
-    or_memory(clear_told(alloc, &bytes.as_slices(), files.rating, files.places))
+    let lent = bytes.as_slices();
+    or_memory(clear_told(alloc, &lent, files.rating, files.places, files.bits))
 }
 
 /// What these come to with a table of edits.
@@ -76,7 +80,7 @@ pub fn replay_files<S: Store>(
     store: &mut S,
 ) -> Result<Told, Status>
     ensures told { MatchResult result (λ told. IsOfWork told.status) IsSilent }
-    ensures right { IfOk result (λ told. OfFiles (S.files store.old) (λ f. AreReplayFiles f (names_of_market files.now.market) files.now.edits.now) TellsReplay (telling_of told)) }
+    ensures right { IfOk result (λ told. OfFiles (S.files store.old) (λ f. AreReplayFiles f (names_of_market files.now.market) files.now.edits.now) (TellsReplay (most_of files.now.market.bits)) (telling_of told)) }
     ensures reads { OnlyReads S.Store store.old store.new (IsReplayFile (names_of_market files.now.market) files.now.edits.now) (result ≡ Err Status.ReadFailed) }
 {
     let bytes = read_market(alloc, &files.market, store)?;
@@ -87,6 +91,7 @@ pub fn replay_files<S: Store>(
         files.market.rating,
         files.market.places,
         edits.as_slice(),
+        files.market.bits,
     );
     or_memory(told)
 }
@@ -99,7 +104,7 @@ pub fn verify_files<S: Store>(
     store: &mut S,
 ) -> Result<Told, Status>
     ensures told { MatchResult result (λ told. IsOfWork told.status) IsSilent }
-    ensures right { IfOk result (λ told. OfFiles (S.files store.old) (λ f. AreVerifyFiles f (names_of_market files.now.market) (option_map (λ n. n.now) files.now.edits) files.now.certificate.now) TellsVerdict (telling_of told)) }
+    ensures right { IfOk result (λ told. OfFiles (S.files store.old) (λ f. AreVerifyFiles f (names_of_market files.now.market) (option_map (λ n. n.now) files.now.edits) files.now.certificate.now) (TellsVerdict (most_of files.now.market.bits)) (telling_of told)) }
     ensures reads { OnlyReads S.Store store.old store.new (IsVerifyFile (names_of_market files.now.market) (option_map (λ n. n.now) files.now.edits) files.now.certificate.now) (result ≡ Err Status.ReadFailed) }
 {
     let bytes = read_market(alloc, &files.market, store)?;
@@ -112,6 +117,7 @@ pub fn verify_files<S: Store>(
         files.market.places,
         edits.as_slice(),
         certificate.as_slice(),
+        files.market.bits,
     ))
 }
 
@@ -123,7 +129,7 @@ pub fn rights_files<S: Store>(
     store: &mut S,
 ) -> Result<Told, Status>
     ensures told { MatchResult result (λ told. IsOfWork told.status) IsSilent }
-    ensures right { IfOk result (λ told. OfFiles (S.files store.old) (λ f. AreRightsFiles f (names_of_market files.now.market) files.now.rights.now) TellsRights (telling_of told)) }
+    ensures right { IfOk result (λ told. OfFiles (S.files store.old) (λ f. AreRightsFiles f (names_of_market files.now.market) files.now.rights.now) (TellsRights (most_of files.now.market.bits)) (telling_of told)) }
     ensures reads { OnlyReads S.Store store.old store.new (IsRightsFile (names_of_market files.now.market) files.now.rights.now) (result ≡ Err Status.ReadFailed) }
 {
     let bytes = read_market(alloc, &files.market, store)?;
@@ -134,18 +140,23 @@ pub fn rights_files<S: Store>(
         files.market.rating,
         files.market.places,
         rights.as_slice(),
+        files.market.bits,
     );
     or_memory(told)
 }
 
 /// What a certificate comes to that is to be written anew.
-pub fn migrate_file<S: Store>(alloc: Global, name: &str, store: &mut S) -> Result<Told, Status>
+pub fn migrate_file<S: Store>(
+    alloc: Global,
+    files: &MigrateFiles<'_>,
+    store: &mut S,
+) -> Result<Told, Status>
     ensures told { MatchResult result (λ told. IsOfWork told.status) IsSilent }
-    ensures right { IfOk result (λ told. OfFiles (S.files store.old) (λ f. IsMigratedFile f name.now) TellsMigration (telling_of told)) }
-    ensures reads { OnlyReads S.Store store.old store.new (λ file. file ≡ name.now) (result ≡ Err Status.ReadFailed) }
+    ensures right { IfOk result (λ told. OfFiles (S.files store.old) (λ f. IsMigratedFile f files.now.certificate.now files.now.bits) TellsMigration (telling_of told)) }
+    ensures reads { OnlyReads S.Store store.old store.new (λ file. file ≡ files.now.certificate.now) (result ≡ Err Status.ReadFailed) }
 {
-    let certificate = read_file(alloc, store, name)?;
-    or_memory(migrate_told(alloc, certificate.as_slice()))
+    let certificate = read_file(alloc, store, files.certificate)?;
+    or_memory(migrate_told(alloc, certificate.as_slice(), files.bits))
 }
 
 /// What the case and its tables come to.

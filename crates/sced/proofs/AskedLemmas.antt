@@ -16,6 +16,9 @@ use Rattle.market_inputs.proofs.OnceLemmas.{OfOne, factor-inputs-once, inputs-on
 use Rattle.market_inputs.specs.Texts.{IsLimited, IsCheck}
 use Rattle.command_words.specs.Words.{AsksClear, AsksMake, AsksPool, CheckNames, Enters, FactorNames, GridNames, MarketNames, refuses}
 use Rattle.command_words.proofs.WordsLemmas.{asks-once, checks-once, clears-once, enters-one, factors-once, makes-once, migrates-once, names-apart, replays-once, rights-once, verifies-once}
+use Rattle.number_bits.specs.Bits.{most_of}
+use Rattle.number_bits.specs.declared.NumberBits.{NumberBits}
+use Rattle.number_bits.specs.declared.NumberBits.TheVariants.{Bits127}
 use Rattle.command_answers.specs.Checking.{TellsCheck}
 use Rattle.command_answers.specs.Clearing.{TellsClear}
 use Rattle.command_answers.specs.Inputs.{AreEntitled, IsCertificate, IsCertified, IsFactorWork, IsReplayed, MarketCertificate, MarketRights, MarketSteps}
@@ -26,7 +29,7 @@ use Rattle.command_answers.specs.Making.{MakesTo}
 use Rattle.command_answers.specs.Tellings.{ComesTo, Telling, Tells}
 use Rattle.command_answers.specs.Verifying.{TellsVerdict}
 use Rattle.command_answers.proofs.RoundTripLemmas.{certified-once, entitled-once, limited-once, replayed-once}
-use Rattle.sced.specs.Asked.{AsksForFactors, AsksForRights, AsksToCheck, AsksToClear, AsksToMigrate, AsksToReplay, AsksToVerify, as_clear, as_pool}
+use Rattle.sced.specs.Asked.{AsksForFactors, AsksForRights, AsksToCheck, AsksToClear, AsksToMigrate, AsksToReplay, AsksToVerify, as_clear, as_pool, clear_bound}
 use Rattle.edit_table.specs.EditTable.{edit_header}
 use Rattle.factor_tables.specs.OutageNumbers.{outage_header}
 use Rattle.market_tables.specs.Tables.{GridTexts, MarketTexts}
@@ -73,9 +76,9 @@ verify-files-once : (files : Files) (names : MarketNames) (edits : Option (List 
 verify-files-once files names edits certificate a b h k =
     let same_edits = same-table files (source_of edit_header edits) k.edits h.edits k.edits_are h.edits_are in
     let same_certificate = same-bytes k.certificate h.certificate (files certificate) k.certificate_is h.certificate_is in
-    let certified = subst (λ texts. IsCertified most_part names.rating names.places texts k.edits k.certificate b) (same-texts files names k.texts h.texts k.have h.have) k.certified in
-    let edited = subst (λ table. IsCertified most_part names.rating names.places h.texts table k.certificate b) same_edits certified in
-    certified-once most_part names.rating names.places h.texts h.edits h.certificate a b h.certified (subst (λ text. IsCertified most_part names.rating names.places h.texts h.edits text b) same_certificate edited)
+    let certified = subst (λ texts. IsCertified (most_of names.bits) names.rating names.places texts k.edits k.certificate b) (same-texts files names k.texts h.texts k.have h.have) k.certified in
+    let edited = subst (λ table. IsCertified (most_of names.bits) names.rating names.places h.texts table k.certificate b) same_edits certified in
+    certified-once (most_of names.bits) names.rating names.places h.texts h.edits h.certificate a b h.certified (subst (λ text. IsCertified (most_of names.bits) names.rating names.places h.texts h.edits text b) same_certificate edited)
 
 rights-files-once : (files : Files) (names : MarketNames) (rights : List ℕ) → OfOne (AreRightsFiles files names rights)
 rights-files-once files names rights a b h k =
@@ -92,9 +95,9 @@ factor-files-once files names a b h k =
     let same_outages = same-table files (source_of outage_header names.contingencies) k.outages h.outages k.outages_are h.outages_are in
     factor-work-once h.case h.outages a b h.work (subst (λ o. IsFactorWork h.case o b) same_outages (subst (λ c. IsFactorWork c k.outages b) same_case k.work))
 
-migrated-file-once : (files : Files) (certificate : List ℕ) → OfOne (IsMigratedFile files certificate)
-migrated-file-once files certificate a b h k =
-    sym h.read ∙ subst (λ text. IsCertificate most_part text b) (same-bytes k.certificate h.certificate (files certificate) k.certificate_is h.certificate_is) k.read
+migrated-file-once : (files : Files) (certificate : List ℕ) (bits : NumberBits) → OfOne (IsMigratedFile files certificate bits)
+migrated-file-once files certificate bits a b h k =
+    sym h.read ∙ subst (λ text. IsCertificate (most_of bits) text b) (same-bytes k.certificate h.certificate (files certificate) k.certificate_is h.certificate_is) k.read
 
 -- what is told is told of what the files stand for, or of their first fault
 told-of : {A : Type 0} (stand : Result A Refusal → Type 0) (right : A → Telling → Type 0) (r : Result A Refusal) (t : Telling) → OfOne stand → stand r → Tells stand right t → ComesTo right r t
@@ -127,38 +130,40 @@ taken-market words nothing (enters_clear rows h) = not-refused words _ rows noth
 
 -- what is told is what these files come to
 module _ (files : Files) (words : List (List ℕ)) (t : Telling) where
-  pooled-told : (r : Result Parts Refusal) (case offers : List ℕ) → AsksPool words case offers → Tells (ArePoolFiles files case offers) TellsClear t → AsksToClear files words r → ComesTo TellsClear r t
+  pooled-told : (r : Result Parts Refusal) (case offers : List ℕ) → AsksPool words case offers → Tells (ArePoolFiles files case offers) (TellsClear (most_of Bits127)) t → (asks : AsksToClear files words r) → ComesTo (TellsClear (clear_bound asks)) r t
   pooled-told r case offers asked told (as_clear names file asks stands) = absurd (no-other words (codes "pool") (codes "clear") asked.rows asks.rows refl asked.enters asks.enters)
   pooled-told r case offers asked told (as_pool case' offers' asks stands) =
       let same = asks-once words case' offers' case offers asks asked in
       let here : ArePoolFiles files case offers r = subst (λ o. ArePoolFiles files case o r) same.1 (subst (λ c. ArePoolFiles files c offers' r) same.0 stands) in
-      told-of (ArePoolFiles files case offers) TellsClear r t (pool-files-once files case offers) here told
+      told-of (ArePoolFiles files case offers) (TellsClear (most_of Bits127)) r t (pool-files-once files case offers) here told
 
-  cleared-told : (r : Result Parts Refusal) (names : MarketNames) (file : Option (List ℕ)) → AsksClear words names file → Tells (AreClearFiles files names) TellsClear t → AsksToClear files words r → ComesTo TellsClear r t
+  cleared-told : (r : Result Parts Refusal) (names : MarketNames) (file : Option (List ℕ)) → AsksClear words names file → Tells (AreClearFiles files names) (TellsClear (most_of names.bits)) t → (asks : AsksToClear files words r)
+      → ComesTo (TellsClear (clear_bound asks)) r t
   cleared-told r names file asked told (as_pool case offers asks stands) = absurd (no-other words (codes "pool") (codes "clear") asks.rows asked.rows refl asks.enters asked.enters)
   cleared-told r names file asked told (as_clear names' file' asks stands) =
-      let here : AreClearFiles files names r = subst (λ (n : MarketNames). AreClearFiles files n r) (clears-once words names' names file' file asks asked).0 stands in
-      told-of (AreClearFiles files names) TellsClear r t (clear-files-once files names) here told
+      let same = (clears-once words names' names file' file asks asked).0 in
+      let here : AreClearFiles files names r = subst (λ (n : MarketNames). AreClearFiles files n r) same stands in
+      subst (λ (n : MarketNames). ComesTo (TellsClear (most_of n.bits)) r t) (sym same) (told-of (AreClearFiles files names) (TellsClear (most_of names.bits)) r t (clear-files-once files names) here told)
 
-  pub clear-told : (w : List (List ℕ × List ℕ)) (r : Result Parts Refusal) → AnswersTo (Some files) words t w → AsksToClear files words r → ComesTo TellsClear r t
+  pub clear-told : (w : List (List ℕ × List ℕ)) (r : Result Parts Refusal) → AnswersTo (Some files) words t w → (asks : AsksToClear files words r) → ComesTo (TellsClear (clear_bound asks)) r t
   clear-told _ r (refused nothing usage) asks = absurd (taken-market words nothing (entered files words r asks))
   clear-told _ r (pooled case offers asked told) asks = pooled-told r case offers asked told asks
   clear-told _ r (cleared names file asked told) asks = cleared-told r names file asked told asks
   clear-told _ r (replayed names edits file asked told) asks = absurd (neither words (codes "replay") asked.rows refl refl asked.enters (entered files words r asks))
   clear-told _ r (verified names edits certificate asked told) asks = absurd (neither words (codes "verify") asked.rows refl refl asked.enters (entered files words r asks))
   clear-told _ r (entitled names held asked told) asks = absurd (neither words (codes "rights") asked.rows refl refl asked.enters (entered files words r asks))
-  clear-told _ r (migrated old out asked told) asks = absurd (neither words (codes "migrate") asked.rows refl refl asked.enters (entered files words r asks))
+  clear-told _ r (migrated old out bits asked told) asks = absurd (neither words (codes "migrate") asked.rows refl refl asked.enters (entered files words r asks))
   clear-told _ r (checked names asked told) asks = absurd (neither words (codes "check") asked.rows refl refl asked.enters (entered files words r asks))
   clear-told _ r (factored names asked told) asks = absurd (neither words (codes "factors") asked.rows refl refl asked.enters (entered files words r asks))
   clear-told _ r (made buses seed asked told) asks = absurd (neither words (codes "make") asked.rows refl refl asked.enters (entered files words r asks))
 
-  pub replay-told : (w : List (List ℕ × List ℕ)) (r : Result MarketSteps Refusal) → AnswersTo (Some files) words t w → AsksToReplay files words r → ComesTo TellsReplay r t
+  pub replay-told : (w : List (List ℕ × List ℕ)) (r : Result MarketSteps Refusal) → AnswersTo (Some files) words t w → (asks : AsksToReplay files words r) → ComesTo (TellsReplay (most_of asks.names.bits)) r t
   replay-told _ r (refused nothing usage) asks = absurd (not-refused words _ asks.asks.rows nothing asks.asks.enters)
   replay-told _ r (pooled case offers asked told) asks = absurd (no-other words (codes "pool") (codes "replay") asked.rows asks.asks.rows refl asked.enters asks.asks.enters)
   replay-told _ r (cleared names file asked told) asks = absurd (no-other words (codes "clear") (codes "replay") asked.rows asks.asks.rows refl asked.enters asks.asks.enters)
   replay-told _ r (verified names edits certificate asked told) asks = absurd (no-other words (codes "verify") (codes "replay") asked.rows asks.asks.rows refl asked.enters asks.asks.enters)
   replay-told _ r (entitled names held asked told) asks = absurd (no-other words (codes "rights") (codes "replay") asked.rows asks.asks.rows refl asked.enters asks.asks.enters)
-  replay-told _ r (migrated old out asked told) asks = absurd (no-other words (codes "migrate") (codes "replay") asked.rows asks.asks.rows refl asked.enters asks.asks.enters)
+  replay-told _ r (migrated old out bits asked told) asks = absurd (no-other words (codes "migrate") (codes "replay") asked.rows asks.asks.rows refl asked.enters asks.asks.enters)
   replay-told _ r (checked names asked told) asks = absurd (no-other words (codes "check") (codes "replay") asked.rows asks.asks.rows refl asked.enters asks.asks.enters)
   replay-told _ r (factored names asked told) asks = absurd (no-other words (codes "factors") (codes "replay") asked.rows asks.asks.rows refl asked.enters asks.asks.enters)
   replay-told _ r (made buses seed asked told) asks = absurd (no-other words (codes "make") (codes "replay") asked.rows asks.asks.rows refl asked.enters asks.asks.enters)
@@ -166,15 +171,15 @@ module _ (files : Files) (words : List (List ℕ)) (t : Telling) where
       let same = replays-once words asks.names names asks.edits edits asks.certificate file asks.asks asked in
       let here : AreReplayFiles files names edits r =
       subst (λ (x : List ℕ). AreReplayFiles files names x r) same.1 (subst (λ (x : MarketNames). AreReplayFiles files x asks.edits r) same.0 asks.stand) in
-      told-of (AreReplayFiles files names edits) TellsReplay r t (replay-files-once files names edits) here told
+      subst (λ (n : MarketNames). ComesTo (TellsReplay (most_of n.bits)) r t) (sym same.0) (told-of (AreReplayFiles files names edits) (TellsReplay (most_of names.bits)) r t (replay-files-once files names edits) here told)
 
-  pub verify-told : (w : List (List ℕ × List ℕ)) (r : Result MarketCertificate Refusal) → AnswersTo (Some files) words t w → AsksToVerify files words r → ComesTo TellsVerdict r t
+  pub verify-told : (w : List (List ℕ × List ℕ)) (r : Result MarketCertificate Refusal) → AnswersTo (Some files) words t w → (asks : AsksToVerify files words r) → ComesTo (TellsVerdict (most_of asks.names.bits)) r t
   verify-told _ r (refused nothing usage) asks = absurd (not-refused words _ asks.asks.rows nothing asks.asks.enters)
   verify-told _ r (pooled case offers asked told) asks = absurd (no-other words (codes "pool") (codes "verify") asked.rows asks.asks.rows refl asked.enters asks.asks.enters)
   verify-told _ r (cleared names file asked told) asks = absurd (no-other words (codes "clear") (codes "verify") asked.rows asks.asks.rows refl asked.enters asks.asks.enters)
   verify-told _ r (replayed names edits file asked told) asks = absurd (no-other words (codes "replay") (codes "verify") asked.rows asks.asks.rows refl asked.enters asks.asks.enters)
   verify-told _ r (entitled names held asked told) asks = absurd (no-other words (codes "rights") (codes "verify") asked.rows asks.asks.rows refl asked.enters asks.asks.enters)
-  verify-told _ r (migrated old out asked told) asks = absurd (no-other words (codes "migrate") (codes "verify") asked.rows asks.asks.rows refl asked.enters asks.asks.enters)
+  verify-told _ r (migrated old out bits asked told) asks = absurd (no-other words (codes "migrate") (codes "verify") asked.rows asks.asks.rows refl asked.enters asks.asks.enters)
   verify-told _ r (checked names asked told) asks = absurd (no-other words (codes "check") (codes "verify") asked.rows asks.asks.rows refl asked.enters asks.asks.enters)
   verify-told _ r (factored names asked told) asks = absurd (no-other words (codes "factors") (codes "verify") asked.rows asks.asks.rows refl asked.enters asks.asks.enters)
   verify-told _ r (made buses seed asked told) asks = absurd (no-other words (codes "make") (codes "verify") asked.rows asks.asks.rows refl asked.enters asks.asks.enters)
@@ -184,15 +189,16 @@ module _ (files : Files) (words : List (List ℕ)) (t : Telling) where
       subst (λ (x : List ℕ). AreVerifyFiles files names edits x r) same.2
       (subst (λ (x : Option (List ℕ)). AreVerifyFiles files names x asks.certificate r) same.1
       (subst (λ (x : MarketNames). AreVerifyFiles files x asks.edits asks.certificate r) same.0 asks.stand)) in
-      told-of (AreVerifyFiles files names edits certificate) TellsVerdict r t (verify-files-once files names edits certificate) here told
+      subst (λ (n : MarketNames). ComesTo (TellsVerdict (most_of n.bits)) r t) (sym same.0)
+      (told-of (AreVerifyFiles files names edits certificate) (TellsVerdict (most_of names.bits)) r t (verify-files-once files names edits certificate) here told)
 
-  pub rights-told : (w : List (List ℕ × List ℕ)) (r : Result MarketRights Refusal) → AnswersTo (Some files) words t w → AsksForRights files words r → ComesTo TellsRights r t
+  pub rights-told : (w : List (List ℕ × List ℕ)) (r : Result MarketRights Refusal) → AnswersTo (Some files) words t w → (asks : AsksForRights files words r) → ComesTo (TellsRights (most_of asks.names.bits)) r t
   rights-told _ r (refused nothing usage) asks = absurd (not-refused words _ asks.asks.rows nothing asks.asks.enters)
   rights-told _ r (pooled case offers asked told) asks = absurd (no-other words (codes "pool") (codes "rights") asked.rows asks.asks.rows refl asked.enters asks.asks.enters)
   rights-told _ r (cleared names file asked told) asks = absurd (no-other words (codes "clear") (codes "rights") asked.rows asks.asks.rows refl asked.enters asks.asks.enters)
   rights-told _ r (replayed names edits file asked told) asks = absurd (no-other words (codes "replay") (codes "rights") asked.rows asks.asks.rows refl asked.enters asks.asks.enters)
   rights-told _ r (verified names edits certificate asked told) asks = absurd (no-other words (codes "verify") (codes "rights") asked.rows asks.asks.rows refl asked.enters asks.asks.enters)
-  rights-told _ r (migrated old out asked told) asks = absurd (no-other words (codes "migrate") (codes "rights") asked.rows asks.asks.rows refl asked.enters asks.asks.enters)
+  rights-told _ r (migrated old out bits asked told) asks = absurd (no-other words (codes "migrate") (codes "rights") asked.rows asks.asks.rows refl asked.enters asks.asks.enters)
   rights-told _ r (checked names asked told) asks = absurd (no-other words (codes "check") (codes "rights") asked.rows asks.asks.rows refl asked.enters asks.asks.enters)
   rights-told _ r (factored names asked told) asks = absurd (no-other words (codes "factors") (codes "rights") asked.rows asks.asks.rows refl asked.enters asks.asks.enters)
   rights-told _ r (made buses seed asked told) asks = absurd (no-other words (codes "make") (codes "rights") asked.rows asks.asks.rows refl asked.enters asks.asks.enters)
@@ -200,7 +206,7 @@ module _ (files : Files) (words : List (List ℕ)) (t : Telling) where
       let same = rights-once words asks.names names asks.rights held asks.asks asked in
       let here : AreRightsFiles files names held r =
       subst (λ (x : List ℕ). AreRightsFiles files names x r) same.1 (subst (λ (x : MarketNames). AreRightsFiles files x asks.rights r) same.0 asks.stand) in
-      told-of (AreRightsFiles files names held) TellsRights r t (rights-files-once files names held) here told
+      subst (λ (n : MarketNames). ComesTo (TellsRights (most_of n.bits)) r t) (sym same.0) (told-of (AreRightsFiles files names held) (TellsRights (most_of names.bits)) r t (rights-files-once files names held) here told)
 
   pub migrate-told : (w : List (List ℕ × List ℕ)) (r : Result (Cert Fraction) Refusal) → AnswersTo (Some files) words t w → AsksToMigrate files words r → ComesTo TellsMigration r t
   migrate-told _ r (refused nothing usage) asks = absurd (not-refused words _ asks.asks.rows nothing asks.asks.enters)
@@ -212,9 +218,10 @@ module _ (files : Files) (words : List (List ℕ)) (t : Telling) where
   migrate-told _ r (checked names asked told) asks = absurd (no-other words (codes "check") (codes "migrate") asked.rows asks.asks.rows refl asked.enters asks.asks.enters)
   migrate-told _ r (factored names asked told) asks = absurd (no-other words (codes "factors") (codes "migrate") asked.rows asks.asks.rows refl asked.enters asks.asks.enters)
   migrate-told _ r (made buses seed asked told) asks = absurd (no-other words (codes "make") (codes "migrate") asked.rows asks.asks.rows refl asked.enters asks.asks.enters)
-  migrate-told _ r (migrated old out asked told) asks =
-      let here : IsMigratedFile files old r = subst (λ (x : List ℕ). IsMigratedFile files x r) (migrates-once words asks.certificate old asks.out out asks.asks asked).0 asks.stand in
-      told-of (IsMigratedFile files old) TellsMigration r t (migrated-file-once files old) here told
+  migrate-told _ r (migrated old out bits asked told) asks =
+      let same = migrates-once words asks.certificate old asks.out out asks.bits bits asks.asks asked in
+      let here : IsMigratedFile files old bits r = subst (λ (x : NumberBits). IsMigratedFile files old x r) same.2 (subst (λ (x : List ℕ). IsMigratedFile files x asks.bits r) same.0 asks.stand) in
+      told-of (IsMigratedFile files old bits) TellsMigration r t (migrated-file-once files old bits) here told
 
   pub check-told : (w : List (List ℕ × List ℕ)) (r : Result Inputs Refusal) → AnswersTo (Some files) words t w → AsksToCheck files words r → ComesTo TellsCheck r t
   check-told _ r (refused nothing usage) asks = absurd (not-refused words _ asks.asks.rows nothing asks.asks.enters)
@@ -223,7 +230,7 @@ module _ (files : Files) (words : List (List ℕ)) (t : Telling) where
   check-told _ r (replayed names edits file asked told) asks = absurd (no-other words (codes "replay") (codes "check") asked.rows asks.asks.rows refl asked.enters asks.asks.enters)
   check-told _ r (verified names edits certificate asked told) asks = absurd (no-other words (codes "verify") (codes "check") asked.rows asks.asks.rows refl asked.enters asks.asks.enters)
   check-told _ r (entitled names held asked told) asks = absurd (no-other words (codes "rights") (codes "check") asked.rows asks.asks.rows refl asked.enters asks.asks.enters)
-  check-told _ r (migrated old out asked told) asks = absurd (no-other words (codes "migrate") (codes "check") asked.rows asks.asks.rows refl asked.enters asks.asks.enters)
+  check-told _ r (migrated old out bits asked told) asks = absurd (no-other words (codes "migrate") (codes "check") asked.rows asks.asks.rows refl asked.enters asks.asks.enters)
   check-told _ r (made buses seed asked told) asks = absurd (no-other words (codes "make") (codes "check") asked.rows asks.asks.rows refl asked.enters asks.asks.enters)
   check-told _ r (factored names asked told) asks = absurd (no-other words (codes "factors") (codes "check") asked.rows asks.asks.rows refl asked.enters asks.asks.enters)
   check-told _ r (checked names asked told) asks =
@@ -237,7 +244,7 @@ module _ (files : Files) (words : List (List ℕ)) (t : Telling) where
   factors-told _ r (replayed names edits file asked told) asks = absurd (no-other words (codes "replay") (codes "factors") asked.rows asks.asks.rows refl asked.enters asks.asks.enters)
   factors-told _ r (verified names edits certificate asked told) asks = absurd (no-other words (codes "verify") (codes "factors") asked.rows asks.asks.rows refl asked.enters asks.asks.enters)
   factors-told _ r (entitled names held asked told) asks = absurd (no-other words (codes "rights") (codes "factors") asked.rows asks.asks.rows refl asked.enters asks.asks.enters)
-  factors-told _ r (migrated old out asked told) asks = absurd (no-other words (codes "migrate") (codes "factors") asked.rows asks.asks.rows refl asked.enters asks.asks.enters)
+  factors-told _ r (migrated old out bits asked told) asks = absurd (no-other words (codes "migrate") (codes "factors") asked.rows asks.asks.rows refl asked.enters asks.asks.enters)
   factors-told _ r (checked names asked told) asks = absurd (no-other words (codes "check") (codes "factors") asked.rows asks.asks.rows refl asked.enters asks.asks.enters)
   factors-told _ r (made buses seed asked told) asks = absurd (no-other words (codes "make") (codes "factors") asked.rows asks.asks.rows refl asked.enters asks.asks.enters)
   factors-told _ r (factored names asked told) asks =
@@ -257,7 +264,7 @@ module _ (files : Option Files) (words : List (List ℕ)) (t : Telling) (buses s
   make-told _ (replayed names edits file asked told) = other-made (codes "replay") asked.rows refl asked.enters
   make-told _ (verified names edits certificate asked told) = other-made (codes "verify") asked.rows refl asked.enters
   make-told _ (entitled names held asked told) = other-made (codes "rights") asked.rows refl asked.enters
-  make-told _ (migrated old out asked told) = other-made (codes "migrate") asked.rows refl asked.enters
+  make-told _ (migrated old out bits asked told) = other-made (codes "migrate") asked.rows refl asked.enters
   make-told _ (checked names asked told) = other-made (codes "check") asked.rows refl asked.enters
   make-told _ (factored names asked told) = other-made (codes "factors") asked.rows refl asked.enters
   make-told _ (made n s asked told) =

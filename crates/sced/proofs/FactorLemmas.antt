@@ -45,7 +45,7 @@ factors-written files words t _ names asks (cleared names' file asked tells) = a
 factors-written files words t _ names asks (replayed names' edits file asked tells) = absurd (no-other words (codes "replay") (codes "factors") asked.rows asks.rows refl asked.enters asks.enters)
 factors-written files words t _ names asks (verified names' edits certificate asked tells) = absurd (no-other words (codes "verify") (codes "factors") asked.rows asks.rows refl asked.enters asks.enters)
 factors-written files words t _ names asks (entitled names' held asked tells) = absurd (no-other words (codes "rights") (codes "factors") asked.rows asks.rows refl asked.enters asks.enters)
-factors-written files words t _ names asks (migrated old out asked tells) = absurd (no-other words (codes "migrate") (codes "factors") asked.rows asks.rows refl asked.enters asks.enters)
+factors-written files words t _ names asks (migrated old out bits asked tells) = absurd (no-other words (codes "migrate") (codes "factors") asked.rows asks.rows refl asked.enters asks.enters)
 factors-written files words t _ names asks (checked names' asked tells) = absurd (no-other words (codes "check") (codes "factors") asked.rows asks.rows refl asked.enters asks.enters)
 factors-written files words t _ names asks (told.made buses seed asked makes) = absurd (no-other words (codes "make") (codes "factors") asked.rows asks.rows refl asked.enters asks.enters)
 

@@ -10,6 +10,7 @@ use Rattle.market_inputs.specs.declared.making.FactorInputs.{FactorInputs}
 use Rattle.market_tables.specs.Tables.{GridTexts, MarketTexts}
 use Rattle.record_reading.specs.Records.{Record}
 use Rattle.refusal_text.specs.declared.refusals.Refusal.{Refusal}
+use Rattle.number_bits.specs.declared.NumberBits.{NumberBits}
 use Rattle.command_words.specs.Words.{AsksCheck, AsksClear, AsksFactors, AsksMigrate, AsksPool, AsksReplay, AsksRights, AsksVerify, CheckNames, FactorNames, GridNames, IsCheckFile, IsFactorFile, IsGridFile, IsMarketFile, IsPoolFile, IsReplayFile, IsRightsFile, IsVerifyFile, MarketNames, NamesFile}
 use Rattle.command_words.proofs.WordsLemmas.{asks-once, checks-once, clears-once, factors-once, migrates-once, replays-once, rights-once, verifies-once}
 use Rattle.command_answers.specs.Inputs.{MarketCertificate, MarketRights, MarketSteps}
@@ -180,7 +181,7 @@ module _ (files : Files) (name : List ℕ) where
     told-pool case' offers' _ (replayed names edits file asked tells) asks named = absurd (no-other words (codes "replay") (codes "pool") asked.rows asks.rows refl asked.enters asks.enters)
     told-pool case' offers' _ (verified names edits certificate asked tells) asks named = absurd (no-other words (codes "verify") (codes "pool") asked.rows asks.rows refl asked.enters asks.enters)
     told-pool case' offers' _ (entitled names held asked tells) asks named = absurd (no-other words (codes "rights") (codes "pool") asked.rows asks.rows refl asked.enters asks.enters)
-    told-pool case' offers' _ (migrated old out asked tells) asks named = absurd (no-other words (codes "migrate") (codes "pool") asked.rows asks.rows refl asked.enters asks.enters)
+    told-pool case' offers' _ (migrated old out bits asked tells) asks named = absurd (no-other words (codes "migrate") (codes "pool") asked.rows asks.rows refl asked.enters asks.enters)
     told-pool case' offers' _ (checked names asked tells) asks named = absurd (no-other words (codes "check") (codes "pool") asked.rows asks.rows refl asked.enters asks.enters)
     told-pool case' offers' _ (factored names asked tells) asks named = absurd (no-other words (codes "factors") (codes "pool") asked.rows asks.rows refl asked.enters asks.enters)
     told-pool case' offers' _ (made buses seed asked makes) asks named = absurd (no-other words (codes "make") (codes "pool") asked.rows asks.rows refl asked.enters asks.enters)
@@ -192,7 +193,7 @@ module _ (files : Files) (name : List ℕ) where
     told-clear names' file' _ (replayed names edits file asked tells) asks named = absurd (no-other words (codes "replay") (codes "clear") asked.rows asks.rows refl asked.enters asks.enters)
     told-clear names' file' _ (verified names edits certificate asked tells) asks named = absurd (no-other words (codes "verify") (codes "clear") asked.rows asks.rows refl asked.enters asks.enters)
     told-clear names' file' _ (entitled names held asked tells) asks named = absurd (no-other words (codes "rights") (codes "clear") asked.rows asks.rows refl asked.enters asks.enters)
-    told-clear names' file' _ (migrated old out asked tells) asks named = absurd (no-other words (codes "migrate") (codes "clear") asked.rows asks.rows refl asked.enters asks.enters)
+    told-clear names' file' _ (migrated old out bits asked tells) asks named = absurd (no-other words (codes "migrate") (codes "clear") asked.rows asks.rows refl asked.enters asks.enters)
     told-clear names' file' _ (checked names asked tells) asks named = absurd (no-other words (codes "check") (codes "clear") asked.rows asks.rows refl asked.enters asks.enters)
     told-clear names' file' _ (factored names asked tells) asks named = absurd (no-other words (codes "factors") (codes "clear") asked.rows asks.rows refl asked.enters asks.enters)
     told-clear names' file' _ (made buses seed asked makes) asks named = absurd (no-other words (codes "make") (codes "clear") asked.rows asks.rows refl asked.enters asks.enters)
@@ -204,7 +205,7 @@ module _ (files : Files) (name : List ℕ) where
     told-replay names' edits' file' _ (replayed names edits file asked tells) asks named = let same = replays-once words names names' edits edits' file file' asked asks in replay-there names edits tells.stands (subst₂ (λ n e. IsReplayFile n e name) (sym same.0) (sym same.1) named)
     told-replay names' edits' file' _ (verified names edits certificate asked tells) asks named = absurd (no-other words (codes "verify") (codes "replay") asked.rows asks.rows refl asked.enters asks.enters)
     told-replay names' edits' file' _ (entitled names held asked tells) asks named = absurd (no-other words (codes "rights") (codes "replay") asked.rows asks.rows refl asked.enters asks.enters)
-    told-replay names' edits' file' _ (migrated old out asked tells) asks named = absurd (no-other words (codes "migrate") (codes "replay") asked.rows asks.rows refl asked.enters asks.enters)
+    told-replay names' edits' file' _ (migrated old out bits asked tells) asks named = absurd (no-other words (codes "migrate") (codes "replay") asked.rows asks.rows refl asked.enters asks.enters)
     told-replay names' edits' file' _ (checked names asked tells) asks named = absurd (no-other words (codes "check") (codes "replay") asked.rows asks.rows refl asked.enters asks.enters)
     told-replay names' edits' file' _ (factored names asked tells) asks named = absurd (no-other words (codes "factors") (codes "replay") asked.rows asks.rows refl asked.enters asks.enters)
     told-replay names' edits' file' _ (made buses seed asked makes) asks named = absurd (no-other words (codes "make") (codes "replay") asked.rows asks.rows refl asked.enters asks.enters)
@@ -216,7 +217,7 @@ module _ (files : Files) (name : List ℕ) where
     told-verify names' edits' certificate' _ (replayed names edits file asked tells) asks named = absurd (no-other words (codes "replay") (codes "verify") asked.rows asks.rows refl asked.enters asks.enters)
     told-verify names' edits' certificate' _ (verified names edits certificate asked tells) asks named = let same = verifies-once words names names' edits edits' certificate certificate' asked asks in verify-there names edits certificate tells.stands (subst (λ n. IsVerifyFile n edits certificate name) (sym same.0) (subst₂ (λ e c. IsVerifyFile names' e c name) (sym same.1) (sym same.2) named))
     told-verify names' edits' certificate' _ (entitled names held asked tells) asks named = absurd (no-other words (codes "rights") (codes "verify") asked.rows asks.rows refl asked.enters asks.enters)
-    told-verify names' edits' certificate' _ (migrated old out asked tells) asks named = absurd (no-other words (codes "migrate") (codes "verify") asked.rows asks.rows refl asked.enters asks.enters)
+    told-verify names' edits' certificate' _ (migrated old out bits asked tells) asks named = absurd (no-other words (codes "migrate") (codes "verify") asked.rows asks.rows refl asked.enters asks.enters)
     told-verify names' edits' certificate' _ (checked names asked tells) asks named = absurd (no-other words (codes "check") (codes "verify") asked.rows asks.rows refl asked.enters asks.enters)
     told-verify names' edits' certificate' _ (factored names asked tells) asks named = absurd (no-other words (codes "factors") (codes "verify") asked.rows asks.rows refl asked.enters asks.enters)
     told-verify names' edits' certificate' _ (made buses seed asked makes) asks named = absurd (no-other words (codes "make") (codes "verify") asked.rows asks.rows refl asked.enters asks.enters)
@@ -228,7 +229,7 @@ module _ (files : Files) (name : List ℕ) where
     told-check names' _ (replayed names edits file asked tells) asks named = absurd (no-other words (codes "replay") (codes "check") asked.rows asks.rows refl asked.enters asks.enters)
     told-check names' _ (verified names edits certificate asked tells) asks named = absurd (no-other words (codes "verify") (codes "check") asked.rows asks.rows refl asked.enters asks.enters)
     told-check names' _ (entitled names held asked tells) asks named = absurd (no-other words (codes "rights") (codes "check") asked.rows asks.rows refl asked.enters asks.enters)
-    told-check names' _ (migrated old out asked tells) asks named = absurd (no-other words (codes "migrate") (codes "check") asked.rows asks.rows refl asked.enters asks.enters)
+    told-check names' _ (migrated old out bits asked tells) asks named = absurd (no-other words (codes "migrate") (codes "check") asked.rows asks.rows refl asked.enters asks.enters)
     told-check names' _ (factored names asked tells) asks named = absurd (no-other words (codes "factors") (codes "check") asked.rows asks.rows refl asked.enters asks.enters)
     told-check names' _ (checked names asked tells) asks named = check-there names tells.stands (subst (λ n. IsCheckFile n name) (sym (checks-once words names names' asked asks)) named)
     told-check names' _ (made buses seed asked makes) asks named = absurd (no-other words (codes "make") (codes "check") asked.rows asks.rows refl asked.enters asks.enters)
@@ -240,22 +241,22 @@ module _ (files : Files) (name : List ℕ) where
     told-rights names' rights' _ (replayed names edits file asked tells) asks named = absurd (no-other words (codes "replay") (codes "rights") asked.rows asks.rows refl asked.enters asks.enters)
     told-rights names' rights' _ (verified names edits certificate asked tells) asks named = absurd (no-other words (codes "verify") (codes "rights") asked.rows asks.rows refl asked.enters asks.enters)
     told-rights names' rights' _ (entitled names held asked tells) asks named = let same = rights-once words names names' held rights' asked asks in rights-there names held tells.stands (subst₂ (λ n r. IsRightsFile n r name) (sym same.0) (sym same.1) named)
-    told-rights names' rights' _ (migrated old out asked tells) asks named = absurd (no-other words (codes "migrate") (codes "rights") asked.rows asks.rows refl asked.enters asks.enters)
+    told-rights names' rights' _ (migrated old out bits asked tells) asks named = absurd (no-other words (codes "migrate") (codes "rights") asked.rows asks.rows refl asked.enters asks.enters)
     told-rights names' rights' _ (checked names asked tells) asks named = absurd (no-other words (codes "check") (codes "rights") asked.rows asks.rows refl asked.enters asks.enters)
     told-rights names' rights' _ (factored names asked tells) asks named = absurd (no-other words (codes "factors") (codes "rights") asked.rows asks.rows refl asked.enters asks.enters)
     told-rights names' rights' _ (made buses seed asked makes) asks named = absurd (no-other words (codes "make") (codes "rights") asked.rows asks.rows refl asked.enters asks.enters)
 
-    told-migrate : (certificate' out' : List ℕ) (w : List (List ℕ × List ℕ)) → AnswersTo (Some files) words t w → AsksMigrate words certificate' out' → name ≡ certificate' → There files name
-    told-migrate certificate' out' _ (refused nothing usage) asks named = absurd (not-refused words _ asks.rows nothing asks.enters)
-    told-migrate certificate' out' _ (pooled case offers asked tells) asks named = absurd (no-other words (codes "pool") (codes "migrate") asked.rows asks.rows refl asked.enters asks.enters)
-    told-migrate certificate' out' _ (cleared names file asked tells) asks named = absurd (no-other words (codes "clear") (codes "migrate") asked.rows asks.rows refl asked.enters asks.enters)
-    told-migrate certificate' out' _ (replayed names edits file asked tells) asks named = absurd (no-other words (codes "replay") (codes "migrate") asked.rows asks.rows refl asked.enters asks.enters)
-    told-migrate certificate' out' _ (verified names edits certificate asked tells) asks named = absurd (no-other words (codes "verify") (codes "migrate") asked.rows asks.rows refl asked.enters asks.enters)
-    told-migrate certificate' out' _ (entitled names held asked tells) asks named = absurd (no-other words (codes "rights") (codes "migrate") asked.rows asks.rows refl asked.enters asks.enters)
-    told-migrate certificate' out' _ (migrated old out asked tells) asks named = here-as old tells.stands.certificate (named ∙ sym (migrates-once words old certificate' out out' asked asks).0) tells.stands.certificate_is
-    told-migrate certificate' out' _ (checked names asked tells) asks named = absurd (no-other words (codes "check") (codes "migrate") asked.rows asks.rows refl asked.enters asks.enters)
-    told-migrate certificate' out' _ (factored names asked tells) asks named = absurd (no-other words (codes "factors") (codes "migrate") asked.rows asks.rows refl asked.enters asks.enters)
-    told-migrate certificate' out' _ (made buses seed asked makes) asks named = absurd (no-other words (codes "make") (codes "migrate") asked.rows asks.rows refl asked.enters asks.enters)
+    told-migrate : (certificate' out' : List ℕ) (bits' : NumberBits) (w : List (List ℕ × List ℕ)) → AnswersTo (Some files) words t w → AsksMigrate words certificate' out' bits' → name ≡ certificate' → There files name
+    told-migrate certificate' out' bits' _ (refused nothing usage) asks named = absurd (not-refused words _ asks.rows nothing asks.enters)
+    told-migrate certificate' out' bits' _ (pooled case offers asked tells) asks named = absurd (no-other words (codes "pool") (codes "migrate") asked.rows asks.rows refl asked.enters asks.enters)
+    told-migrate certificate' out' bits' _ (cleared names file asked tells) asks named = absurd (no-other words (codes "clear") (codes "migrate") asked.rows asks.rows refl asked.enters asks.enters)
+    told-migrate certificate' out' bits' _ (replayed names edits file asked tells) asks named = absurd (no-other words (codes "replay") (codes "migrate") asked.rows asks.rows refl asked.enters asks.enters)
+    told-migrate certificate' out' bits' _ (verified names edits certificate asked tells) asks named = absurd (no-other words (codes "verify") (codes "migrate") asked.rows asks.rows refl asked.enters asks.enters)
+    told-migrate certificate' out' bits' _ (entitled names held asked tells) asks named = absurd (no-other words (codes "rights") (codes "migrate") asked.rows asks.rows refl asked.enters asks.enters)
+    told-migrate certificate' out' bits' _ (migrated old out bits asked tells) asks named = here-as old tells.stands.certificate (named ∙ sym (migrates-once words old certificate' out out' bits bits' asked asks).0) tells.stands.certificate_is
+    told-migrate certificate' out' bits' _ (checked names asked tells) asks named = absurd (no-other words (codes "check") (codes "migrate") asked.rows asks.rows refl asked.enters asks.enters)
+    told-migrate certificate' out' bits' _ (factored names asked tells) asks named = absurd (no-other words (codes "factors") (codes "migrate") asked.rows asks.rows refl asked.enters asks.enters)
+    told-migrate certificate' out' bits' _ (made buses seed asked makes) asks named = absurd (no-other words (codes "make") (codes "migrate") asked.rows asks.rows refl asked.enters asks.enters)
 
     told-factors : (names' : FactorNames) (w : List (List ℕ × List ℕ)) → AnswersTo (Some files) words t w → AsksFactors words names' → IsFactorFile names' name → There files name
     told-factors names' _ (refused nothing usage) asks named = absurd (not-refused words _ asks.rows nothing asks.enters)
@@ -264,7 +265,7 @@ module _ (files : Files) (name : List ℕ) where
     told-factors names' _ (replayed names edits file asked tells) asks named = absurd (no-other words (codes "replay") (codes "factors") asked.rows asks.rows refl asked.enters asks.enters)
     told-factors names' _ (verified names edits certificate asked tells) asks named = absurd (no-other words (codes "verify") (codes "factors") asked.rows asks.rows refl asked.enters asks.enters)
     told-factors names' _ (entitled names held asked tells) asks named = absurd (no-other words (codes "rights") (codes "factors") asked.rows asks.rows refl asked.enters asks.enters)
-    told-factors names' _ (migrated old out asked tells) asks named = absurd (no-other words (codes "migrate") (codes "factors") asked.rows asks.rows refl asked.enters asks.enters)
+    told-factors names' _ (migrated old out bits asked tells) asks named = absurd (no-other words (codes "migrate") (codes "factors") asked.rows asks.rows refl asked.enters asks.enters)
     told-factors names' _ (checked names asked tells) asks named = absurd (no-other words (codes "check") (codes "factors") asked.rows asks.rows refl asked.enters asks.enters)
     told-factors names' _ (factored names asked tells) asks named = factors-there names tells.stands (subst (λ n. IsFactorFile n name) (sym (factors-once words names names' asked asks)) named)
     told-factors names' _ (made buses seed asked makes) asks named = absurd (no-other words (codes "make") (codes "factors") asked.rows asks.rows refl asked.enters asks.enters)
@@ -276,7 +277,7 @@ module _ (files : Files) (name : List ℕ) where
     named-there w a (inr (inr (inr (inl (names, edits, certificate, asks, named))))) = told-verify names edits certificate w a asks named
     named-there w a (inr (inr (inr (inr (inl (names, asks, named)))))) = told-check names w a asks named
     named-there w a (inr (inr (inr (inr (inr (inl (names, held, asks, named))))))) = told-rights names held w a asks named
-    named-there w a (inr (inr (inr (inr (inr (inr (inl (old, out, asks, named)))))))) = told-migrate old out w a asks named
+    named-there w a (inr (inr (inr (inr (inr (inr (inl (old, out, bits, asks, named)))))))) = told-migrate old out bits w a asks named
     named-there w a (inr (inr (inr (inr (inr (inr (inr (names, asks, named)))))))) = told-factors names w a asks named
 
 pub law_of_missing : LawOfMissing

@@ -1,10 +1,13 @@
 -- The laws of every run.
 use Rattle.std.specs.Prelude.{◌≡◌, ◌≢◌, ◌⊎◌, ℕ, Bool, true, false, if◌then◌else◌, List, [], ◌∷◌, ◌++◌, Option, Some, None, Ok, Err, Result, codes, is_some, length, map, nat_lt, option_and_then, option_map, unwrap_or}
-use Rattle.std.proofs.Common.{inl, inr, refl, sym, subst, ap, ◌∙◌}
+use Rattle.std.proofs.Common.{arith, inl, inr, refl, sym, subst, ap, ◌∙◌, ◌+◌, ◌^◌, ◌<◌}
+use Rattle.std.proofs.lemmas.List.Elements.{All-nil}
 use Rattle.fraction_theory.specs.Fraction.{Fraction, ◌+ℚ◌}
 use Rattle.fraction_theory.specs.Order.{◌≤ℚ◌}
 use Rattle.fraction_theory.specs.Sums.{sum_by}
 use Rattle.exact_fraction.specs.declared.Passed.{Passed}
+use Rattle.number_bits.specs.Bits.{most_of}
+use Rattle.number_bits.specs.declared.NumberBits.TheVariants.{Bits127}
 use Rattle.outside_store.specs.Files.{Files, SameFiles}
 use Rattle.market_model.specs.declared.answered.Answer.{Answer}
 use Rattle.market_model.specs.declared.answered.Outcome.{Outcome}
@@ -29,13 +32,16 @@ use Rattle.case_maker.specs.Rings.{ring_of}
 use Rattle.factor_maker.specs.declared.stops.MakeStop.{MakeStop}
 use Rattle.factor_maker.specs.declared.stops.MakeStop.TheVariants as make_stop
 use Rattle.record_reading.specs.Steps.{or_as}
-use Rattle.cert_format.specs.Certificates.{RowsAreDistinct, cert_of_outcome, most_part}
+use Rattle.cert_format.specs.Certificates.{CertFits, NamesFit, RowsAreDistinct, cert_of_outcome, most_part}
 use Rattle.cert_format.specs.Grammar.{cert_read}
 use Rattle.cert_format.specs.Written.{cert_text, certificate_of}
 use Rattle.cert_format.specs.declared.certificate.Cert.{Cert}
+use Rattle.cert_format.specs.declared.certificate.Cert.TheVariants as cert
 use Rattle.cert_format.specs.declared.certificate.Key.{Key}
-use Rattle.cert_format.proofs.InverseLemmas.{cert_read-distinct}
-use Rattle.cert_verify.specs.Certificates.{first_reason}
+use Rattle.cert_format.proofs.CertLemmas.{numbers-more, reads-back}
+use Rattle.cert_format.proofs.InverseLemmas.{cert_read-distinct, cert_read-fits}
+use Rattle.cert_format.proofs.SameLemmas.{law_of_migrated_texts}
+use Rattle.cert_verify.specs.Certificates.{IsTrueOf, first_reason}
 use Rattle.cert_verify.specs.Reasons.{verdict_of}
 use Rattle.cert_verify.specs.declared.verdicts.Reason.{Reason}
 use Rattle.cert_verify.proofs.LawLemmas.{law_of_the_verdict}
@@ -77,7 +83,7 @@ use Rattle.command_answers.specs.Verdicts.{verdict_line}
 use Rattle.command_answers.specs.Verifying.{TellsVerdict, VerifiesTo, judged, passed, verdict_status}
 use Rattle.command_answers.specs.declared.status.Status.{Status}
 use Rattle.command_answers.specs.declared.status.Status.TheVariants as status
-use Rattle.sced.specs.Asked.{AsksForFactors, AsksSteps, AsksVerdict, as_clear, as_pool}
+use Rattle.sced.specs.Asked.{AsksForFactors, AsksMarket, AsksSteps, AsksVerdict, as_clear, as_pool, clear_bound}
 use Rattle.sced.specs.Headline.{HasCertificate, IsAsked, HasGreatestWelfare, IsFirstRefusal, IsRingText, IsPriced, IsReplayText, IsReported, IsVerdict, LawOfAsked, LawOfCertificate, LawOfCheck, LawOfCleared, LawOfComplete, LawOfFaults, LawOfInfeasible, LawOfLastCertificate, LawOfMake, LawOfOutside, LawOfRange, LawOfReplay, LawOfRoundTrip, LawOfSurplus, LawOfVerify, RefusesEdit, RefusesFactors, cleared_ring, for_check, for_clear, for_factors, for_holders, for_migration, for_nothing, for_rights, for_ring, for_steps, for_tables, for_verdict, no, passes, range_ring, to_check, to_clear, to_migrate, to_replay, to_verify, with_fault, yes}
 use Rattle.sced.specs.Runs.{KeepsWrites, Outside}
 use Rattle.sced.specs.Runs as ending
@@ -139,11 +145,11 @@ law_of_infeasible words files text s m f place prints reports =
 pub law_of_range : LawOfRange
 law_of_range words files text s m p place prints reports =
     let is = reported words files text s m (outcome.Range p) place _ (printed words files text s prints) reports in
-    record { taken = is.taken; begins = is.begins; pair = is.right; sides = is.sides }
+    record { taken = is.taken; bound = is.bound; begins = is.begins; pair = is.right; sides = is.sides }
 
 -- ---- complete
-market-reported : (m : Parts) (t : Telling) (text : List ℕ) (s : Status) → t.text ≡ text → t.status ≡ s → TellsClear m t → IsReported m text s
-market-reported m t text s words ends (market, clears) = record {
+market-reported : (bound : ℕ) (m : Parts) (t : Telling) (text : List ℕ) (s : Status) → t.text ≡ text → t.status ≡ s → TellsClear bound m t → IsReported m text s
+market-reported bound m t text s words ends (market, clears) = record {
   outcome = clears.outcome;
   fits = outcome_fits _ m clears.outcome clears.right;
   text_is = sym words ∙ clears.told.text_is;
@@ -153,20 +159,21 @@ market-reported m t text s words ends (market, clears) = record {
 pub law_of_complete : LawOfComplete
 law_of_complete words files text s prints =
     let p = printed words files text s prints in (
-      λ m asks. market-reported m p.telling text s p.text_is p.status_is (clear-told files words p.telling p.written (Ok m) p.answers asks),
+      λ m asks. market-reported (clear_bound asks) m p.telling text s p.text_is p.status_is (clear-told files words p.telling p.written (Ok m) p.answers asks),
       λ m o place reports. (let is = reported words files text s m o place _ p reports in
           record {
             taken = is.taken;
+            bound = is.bound;
             begins = is.begins;
-            fits = λ fit. law_of_completeness m is.taken most_part o is.market (law_of_the_numbers m is.taken most_part fit) is.right;
-            decided = λ none. law_of_completeness m is.taken most_part o is.market none is.right;
+            fits = λ fit. law_of_completeness m is.taken is.bound o is.market (law_of_the_numbers m is.taken is.bound fit) is.right;
+            decided = λ none. law_of_completeness m is.taken is.bound o is.market none is.right;
           }),
     )
 
 -- ---- replay
-steps-replayed : (m : Parts) (steps : List Step) (t : Telling) (text : List ℕ) (s : Status) → t.text ≡ text → t.status ≡ s → TellsReplay (record { market = m; steps = steps }) t → IsReplayText m steps text s
-steps-replayed m steps t text s words ends (market, replays) =
-    let fit = replay_fits most_part m [] replays.taken steps replays.outcomes replays.right in
+steps-replayed : (bound : ℕ) (m : Parts) (steps : List Step) (t : Telling) (text : List ℕ) (s : Status) → t.text ≡ text → t.status ≡ s → TellsReplay bound (record { market = m; steps = steps }) t → IsReplayText m steps text s
+steps-replayed bound m steps t text s words ends (market, replays) =
+    let fit = replay_fits bound m [] replays.taken steps replays.outcomes replays.right in
     let is = sym words ∙ replays.told.text_is in
     record {
       outcomes = replays.outcomes;
@@ -174,14 +181,14 @@ steps-replayed m steps t text s words ends (market, replays) =
       text_is = is;
       only = λ others fits same. replays_read_apart m steps others replays.outcomes fits fit (sym same ∙ is);
       status_is = sym ends ∙ replays.told.status_is;
-      edits = λ k e at. edit-at most_part m [] replays.taken steps replays.outcomes k e replays.right at;
-      clears = λ k at. cleared-at most_part m [] replays.taken steps replays.outcomes k replays.right at;
+      edits = λ k e at. edit-at bound m [] replays.taken steps replays.outcomes k e replays.right at;
+      clears = λ k at. cleared-at bound m [] replays.taken steps replays.outcomes k replays.right at;
     }
 
 pub law_of_replay : LawOfReplay
 law_of_replay words files text s m steps prints asks =
     let p = printed words files text s prints in
-    steps-replayed m steps p.telling text s p.text_is p.status_is (replay-told files words p.telling p.written (Ok (record { market = m; steps = steps })) p.answers asks)
+    steps-replayed (most_of asks.names.bits) m steps p.telling text s p.text_is p.status_is (replay-told files words p.telling p.written (Ok (record { market = m; steps = steps })) p.answers asks)
 
 -- ---- asked
 -- what is told of files is told of what they stand for, or of their first fault
@@ -196,23 +203,23 @@ asked-of {A} words files s t stand right asks fault tells = by tells.told tells.
 asked-told : (words : List (List ℕ)) (files : Files) (s : Status) (t : Telling) (w : List (List ℕ × List ℕ)) → t.status ≡ s → AnswersTo (Some files) words t w → IsAsked words files s
 asked-told words files s t _ ends (refused nothing usage) = subst (IsAsked words files) (sym usage ∙ ends) (for_nothing nothing)
 asked-told words files s t _ ends (pooled case offers asked tells) =
-    asked-of words files s t (ArePoolFiles files case offers) TellsClear (λ m stands. for_clear s m (as_pool case offers asked stands)) (λ r stands. to_clear (as_pool case offers asked stands)) tells
+    asked-of words files s t (ArePoolFiles files case offers) (TellsClear (most_of Bits127)) (λ m stands. for_clear s m (as_pool case offers asked stands)) (λ r stands. to_clear (as_pool case offers asked stands)) tells
 asked-told words files s t _ ends (cleared names file asked tells) =
-    asked-of words files s t (AreClearFiles files names) TellsClear (λ m stands. for_clear s m (as_clear names file asked stands)) (λ r stands. to_clear (as_clear names file asked stands)) tells
+    asked-of words files s t (AreClearFiles files names) (TellsClear (most_of names.bits)) (λ m stands. for_clear s m (as_clear names file asked stands)) (λ r stands. to_clear (as_clear names file asked stands)) tells
 asked-told words files s t _ ends (replayed names edits file asked tells) =
-    asked-of words files s t (AreReplayFiles files names edits) TellsReplay
+    asked-of words files s t (AreReplayFiles files names edits) (TellsReplay (most_of names.bits))
     (λ r stands. for_steps s r.market r.steps (record { names = names; edits = edits; certificate = file; asks = asked; stand = stands }))
     (λ r stands. to_replay (record { names = names; edits = edits; certificate = file; asks = asked; stand = stands })) tells
 asked-told words files s t _ ends (verified names edits certificate asked tells) =
-    asked-of words files s t (AreVerifyFiles files names edits certificate) TellsVerdict
+    asked-of words files s t (AreVerifyFiles files names edits certificate) (TellsVerdict (most_of names.bits))
     (λ v stands. for_verdict s v.market v.certificate (record { names = names; edits = edits; certificate = certificate; asks = asked; stand = stands }))
     (λ r stands. to_verify (record { names = names; edits = edits; certificate = certificate; asks = asked; stand = stands })) tells
 asked-told words files s t _ ends (entitled names held asked tells) =
-    asked-of words files s t (AreRightsFiles files names held) TellsRights (λ r stands. for_holders s r.market r.rights (record { names = names; rights = held; asks = asked; stand = stands }))
+    asked-of words files s t (AreRightsFiles files names held) (TellsRights (most_of names.bits)) (λ r stands. for_holders s r.market r.rights (record { names = names; rights = held; asks = asked; stand = stands }))
     (λ r stands. for_rights (record { names = names; rights = held; asks = asked; stand = stands })) tells
-asked-told words files s t _ ends (migrated old out asked tells) =
-    asked-of words files s t (IsMigratedFile files old) TellsMigration (λ c stands. for_migration s c (record { certificate = old; out = out; asks = asked; stand = stands }))
-    (λ r stands. to_migrate (record { certificate = old; out = out; asks = asked; stand = stands })) tells
+asked-told words files s t _ ends (migrated old out bits asked tells) =
+    asked-of words files s t (IsMigratedFile files old bits) TellsMigration (λ c stands. for_migration s c (record { certificate = old; out = out; bits = bits; asks = asked; stand = stands }))
+    (λ r stands. to_migrate (record { certificate = old; out = out; bits = bits; asks = asked; stand = stands })) tells
 asked-told words files s t _ ends (checked names asked tells) =
     asked-of words files s t (AreCheckFiles files names) TellsCheck (λ inputs stands. for_check s inputs (record { names = names; asks = asked; stand = stands }))
     (λ r stands. to_check (record { names = names; asks = asked; stand = stands })) tells
@@ -232,59 +239,59 @@ seen-certificate : (r : Result (Cert Fraction) Key) (c : Cert Fraction) → or_a
 seen-certificate (Ok x) c is = cc is
 seen-certificate (Err e) c is = cc is
 
-sized-read : (long : Bool) (too_long : Refusal) (bytes : List ℕ) (c : Cert Fraction) → certificate_in most_part (if long then Err too_long else Ok bytes) ≡ Ok c → cert_read most_part bytes ≡ Ok c
-sized-read true too_long bytes c is = cc is
-sized-read false too_long bytes c is = seen-certificate (cert_read most_part bytes) c is
+sized-read : (bound : ℕ) (long : Bool) (too_long : Refusal) (bytes : List ℕ) (c : Cert Fraction) → certificate_in bound (if long then Err too_long else Ok bytes) ≡ Ok c → cert_read bound bytes ≡ Ok c
+sized-read bound true too_long bytes c is = cc is
+sized-read bound false too_long bytes c is = seen-certificate (cert_read bound bytes) c is
 
-pub read-in : (too_long : Refusal) (bytes : List ℕ) (c : Cert Fraction) → certificate_in most_part (sized too_long bytes) ≡ Ok c → cert_read most_part bytes ≡ Ok c
+pub read-in : (bound : ℕ) (too_long : Refusal) (bytes : List ℕ) (c : Cert Fraction) → certificate_in bound (sized too_long bytes) ≡ Ok c → cert_read bound bytes ≡ Ok c
 unfolding sized
-read-in too_long bytes c is = sized-read (nat_lt most_file (length bytes)) too_long bytes c is
+read-in bound too_long bytes c is = sized-read bound (nat_lt most_file (length bytes)) too_long bytes c is
 
 abbrev certificate_or : Cert Fraction → Result MarketCertificate Refusal → Cert Fraction
 certificate_or c (Ok stood) = stood.certificate
 certificate_or c (Err r) = c
 
-certified-read : (rating : PostRating) (places : FactorPlaces) (t : MarketTexts) (edits certificate : List ℕ) (m : Parts) (c : Cert Fraction) → IsCertified most_part rating places t edits certificate (Ok (record { market = m; certificate = c })) → cert_read most_part certificate ≡ Ok c
-certified-read rating places t edits certificate m c h = first h.made h.rest
+certified-read : (bound : ℕ) (rating : PostRating) (places : FactorPlaces) (t : MarketTexts) (edits certificate : List ℕ) (m : Parts) (c : Cert Fraction) → IsCertified bound rating places t edits certificate (Ok (record { market = m; certificate = c })) → cert_read bound certificate ≡ Ok c
+certified-read bound rating places t edits certificate m c h = first h.made h.rest
   where
-    second : (stepped : MarketSteps) (made : Result (Cert Fraction) Refusal) → certificate_in most_part (sized (refusal.TooLong input.Certificate) certificate) ≡ made
-        → Onward {B = MarketCertificate} made (λ read. Is (Ok (record { market = edited_by stepped.market stepped.steps; certificate = read }))) (Ok (record { market = m; certificate = c })) → cert_read most_part certificate ≡ Ok c
-    second stepped (Ok read) is rest = let same : read ≡ c = ap (certificate_or c) rest in read-in (refusal.TooLong input.Certificate) certificate c (is ∙ ap Ok same)
+    second : (stepped : MarketSteps) (made : Result (Cert Fraction) Refusal) → certificate_in bound (sized (refusal.TooLong input.Certificate) certificate) ≡ made
+        → Onward {B = MarketCertificate} made (λ read. Is (Ok (record { market = edited_by stepped.market stepped.steps; certificate = read }))) (Ok (record { market = m; certificate = c })) → cert_read bound certificate ≡ Ok c
+    second stepped (Ok read) is rest = let same : read ≡ c = ap (certificate_or c) rest in read-in bound (refusal.TooLong input.Certificate) certificate c (is ∙ ap Ok same)
     second stepped (Err r) is rest = cc rest
 
-    first : (made : Result MarketSteps Refusal) → Onward {B = MarketCertificate} made (λ stepped. Then (Is (certificate_in most_part (sized (refusal.TooLong input.Certificate) certificate))) (λ read. Is (Ok (record { market = edited_by stepped.market stepped.steps; certificate = read }))))
-        (Ok (record { market = m; certificate = c })) → cert_read most_part certificate ≡ Ok c
+    first : (made : Result MarketSteps Refusal) → Onward {B = MarketCertificate} made (λ stepped. Then (Is (certificate_in bound (sized (refusal.TooLong input.Certificate) certificate))) (λ read. Is (Ok (record { market = edited_by stepped.market stepped.steps; certificate = read }))))
+        (Ok (record { market = m; certificate = c })) → cert_read bound certificate ≡ Ok c
     first (Ok stepped) rest = second stepped rest.made rest.is rest.rest
     first (Err r) rest = cc rest
 
-asked-read : (files : Files) (words : List (List ℕ)) (m : Parts) (c : Cert Fraction) (asks : AsksVerdict files words m c) → cert_read most_part asks.stand.certificate ≡ Ok c
-asked-read files words m c asks = certified-read asks.names.rating asks.names.places asks.stand.texts asks.stand.edits asks.stand.certificate m c asks.stand.certified
+asked-read : (files : Files) (words : List (List ℕ)) (m : Parts) (c : Cert Fraction) (asks : AsksVerdict files words m c) → cert_read (most_of asks.names.bits) asks.stand.certificate ≡ Ok c
+asked-read files words m c asks = certified-read (most_of asks.names.bits) asks.names.rating asks.names.places asks.stand.texts asks.stand.edits asks.stand.certificate m c asks.stand.certified
 
 verdict-line-yes : verdict_line None ≡ codes "yes\n"
 unfolding verdict_line
 verdict-line-yes = refl
 
-module _ (m : Parts) (c : Cert Fraction) (apart : RowsAreDistinct c) (text : List ℕ) where
+module _ (bound : ℕ) (m : Parts) (c : Cert Fraction) (apart : RowsAreDistinct c) (text : List ℕ) where
   no-yes : (why : Reason) → verdict_of (Some why) ≡ verdict_of None → ⊥
   no-yes why bad = cc bad
 
-  verdict-by : (r : Option Reason) → first_reason m c ≡ r → text ≡ verdict_line r → IsVerdict m c text (verdict_status r)
+  verdict-by : (r : Option Reason) → first_reason m c ≡ r → text ≡ verdict_line r → IsVerdict bound m c text (verdict_status r)
   verdict-by None is line = yes ((law_of_the_verdict m c apart).0 (ap verdict_of is)) (line ∙ verdict-line-yes)
   verdict-by (Some why) is line = no (λ holds. no-yes why (sym (ap verdict_of is) ∙ (law_of_the_verdict m c apart).1 holds)) (line ∙ ap verdict_line (sym is))
 
-  verdict-of : (t : Telling) (s : Status) → t.text ≡ text → t.status ≡ s → VerifiesTo most_part m c t → IsVerdict m c text s
+  verdict-of : (t : Telling) (s : Status) → t.text ≡ text → t.status ≡ s → VerifiesTo bound m c t → IsVerdict bound m c text s
   verdict-of t s words ends (judged is) =
       let line = sym words ∙ ap (λ (x : Telling). x.text) is in
-      subst (IsVerdict m c text) (sym (ap (λ (x : Telling). x.status) is) ∙ ends) (verdict-by (first_reason m c) refl line)
+      subst (IsVerdict bound m c text) (sym (ap (λ (x : Telling). x.status) is) ∙ ends) (verdict-by (first_reason m c) refl line)
   verdict-of t s words ends (passed p pair within is) =
       let line = sym words ∙ ap (λ (x : Telling). x.text) is in
-      subst (IsVerdict m c text) (sym (ap (λ (x : Telling). x.status) is) ∙ ends) (passes p pair within line)
+      subst (IsVerdict bound m c text) (sym (ap (λ (x : Telling). x.status) is) ∙ ends) (passes p pair within line)
 
 pub law_of_verify : LawOfVerify
 law_of_verify words files text s m c prints asks =
     let p = printed words files text s prints in
     let told = verify-told files words p.telling p.written (Ok (record { market = m; certificate = c })) p.answers asks in
-    verdict-of m c (cert_read-distinct most_part asks.stand.certificate c (asked-read files words m c asks)) text p.telling s p.text_is p.status_is told.1
+    verdict-of (most_of asks.names.bits) m c (cert_read-distinct (most_of asks.names.bits) asks.stand.certificate c (asked-read files words m c asks)) text p.telling s p.text_is p.status_is told.1
 
 -- ---- round trip
 -- what is written of a clear is its certificate, where a file is named for it
@@ -295,7 +302,7 @@ clear-written files words t _ names file asks (pooled case offers asked told) = 
 clear-written files words t _ names file asks (replayed names' edits file' asked told) = absurd (no-other words (codes "replay") (codes "clear") asked.rows asks.rows refl asked.enters asks.enters)
 clear-written files words t _ names file asks (verified names' edits certificate asked told) = absurd (no-other words (codes "verify") (codes "clear") asked.rows asks.rows refl asked.enters asks.enters)
 clear-written files words t _ names file asks (entitled names' held asked told) = absurd (no-other words (codes "rights") (codes "clear") asked.rows asks.rows refl asked.enters asks.enters)
-clear-written files words t _ names file asks (migrated old out asked told) = absurd (no-other words (codes "migrate") (codes "clear") asked.rows asks.rows refl asked.enters asks.enters)
+clear-written files words t _ names file asks (migrated old out bits asked told) = absurd (no-other words (codes "migrate") (codes "clear") asked.rows asks.rows refl asked.enters asks.enters)
 clear-written files words t _ names file asks (checked names' asked told) = absurd (no-other words (codes "check") (codes "clear") asked.rows asks.rows refl asked.enters asks.enters)
 clear-written files words t _ names file asks (factored names' asked told) = absurd (no-other words (codes "factors") (codes "clear") asked.rows asks.rows refl asked.enters asks.enters)
 clear-written files words t _ names file asks (made buses seed asked told) = absurd (no-other words (codes "make") (codes "clear") asked.rows asks.rows refl asked.enters asks.enters)
@@ -306,8 +313,8 @@ has-certificate places listed (outcome.Infeasible f) is = (_, refl)
 has-certificate places listed (outcome.Range p) (inl is) = cc is
 has-certificate places listed (outcome.Range p) (inr is) = cc is
 
-told-certificate : (m : Parts) (t : Telling) (s : Status) → t.status ≡ s → (s ≡ status.Done) ⊎ (s ≡ status.Infeasible) → TellsClear m t → (bytes : List ℕ) × (t.outputs.certificate ≡ Some bytes)
-told-certificate m t s ends which (market, clears) =
+told-certificate : (bound : ℕ) (m : Parts) (t : Telling) (s : Status) → t.status ≡ s → (s ≡ status.Done) ⊎ (s ≡ status.Infeasible) → TellsClear bound m t → (bytes : List ℕ) × (t.outputs.certificate ≡ Some bytes)
+told-certificate bound m t s ends which (market, clears) =
     let is = sym clears.told.status_is ∙ ends in
     let some = has-certificate m.factor_places m.reserve.listed clears.outcome (subst (λ (x : Status). (x ≡ status.Done) ⊎ (x ≡ status.Infeasible)) (sym is) which) in
     (some.0, ap (λ (o : Outputs (List ℕ)). o.certificate) clears.told.certificate_is ∙ some.1)
@@ -356,17 +363,23 @@ certificate-kept holds certificate had has h each = record {
 one-certificate : (o : Option (Cert Fraction)) (a b : Cert Fraction) → o ≡ Some a → o ≡ Some b → a ≡ b
 one-certificate o a b first second = cc (first, second)
 
+-- a market that the words ask to clear, with these names, is cleared by their bits
+clear-bits : (files : Files) (words : List (List ℕ)) (names : MarketNames) (file : Option (List ℕ)) (m : Parts) → AsksClear words names file → (asks : AsksMarket files words m) → clear_bound asks ≡ most_of names.bits
+clear-bits files words names file m asked (as_pool case offers asks stands) = absurd (no-other words (codes "pool") (codes "clear") asks.rows asked.rows refl asks.enters asked.enters)
+clear-bits files words names file m asked (as_clear names' file' asks stands) = ap (λ (n : MarketNames). most_of n.bits) (clears-once words names' names file' file asks asked).0
+
 pub law_of_certificate : LawOfCertificate
 law_of_certificate words files later text s names file m o clear now asked market fits is =
     let p = printed words files text s clear in
-    let tells = clear-told files words p.telling p.written (Ok m) p.answers market in
+    let bound = most_of names.bits in
+    let tells = subst (λ b. TellsClear b m p.telling) (clear-bits files words names (Some file) m asked market) (clear-told files words p.telling p.written (Ok m) p.answers market) in
     let same : tells.1.outcome ≡ o = reports_apart m tells.1.outcome o (outcome_fits _ m tells.1.outcome tells.1.right) fits (sym tells.1.told.text_is ∙ p.text_is ∙ is) in
     let put : p.telling.outputs.certificate ≡ certificate_of m.factor_places m.reserve.listed o = ap (λ (x : Outputs (List ℕ)). x.certificate) tells.1.told.certificate_is ∙ ap (certificate_of m.factor_places m.reserve.listed) same in
     let written = clear-written files words p.telling p.written names (Some file) asked p.answers ∙ ap (λ c. named_bytes (Some file) c []) put in
-    certificate-kept (Certifies m) (cert_of_outcome m.factor_places m.reserve.listed o) (files file) (later file) (kept-as files later file (certificate_of m.factor_places m.reserve.listed o) p.written clear.after.files written now p.kept)
-    (λ c some. (let trip = law_of_the_round_trip m p.telling (cert_text c) tells (put ∙ ap (option_map cert_text) some) in
+    certificate-kept (Certifies bound m) (cert_of_outcome m.factor_places m.reserve.listed o) (files file) (later file) (kept-as files later file (certificate_of m.factor_places m.reserve.listed o) p.written clear.after.files written now p.kept)
+    (λ c some. (let trip = law_of_the_round_trip bound m p.telling (cert_text c) tells (put ∙ ap (option_map cert_text) some) in
     let one : trip.0 ≡ c = one-certificate (cert_of_outcome m.factor_places m.reserve.listed o) trip.0 c (ap (cert_of_outcome m.factor_places m.reserve.listed) (sym same) ∙ trip.1) some in
-    subst (Certifies m (cert_text c)) one trip.2))
+    subst (Certifies bound m (cert_text c)) one trip.2))
 
 -- what is written of a replay is its certificate, where a file is named for it
 replay-written : (files : Files) (words : List (List ℕ)) (t : Telling) (w : List (List ℕ × List ℕ)) (names : MarketNames) (edits : List ℕ) (file : Option (List ℕ)) → AsksReplay words names edits file → AnswersTo (Some files) words t w
@@ -377,7 +390,7 @@ replay-written files words t _ names edits file asks (pooled case offers asked t
 replay-written files words t _ names edits file asks (cleared names' file' asked told) = absurd (no-other words (codes "clear") (codes "replay") asked.rows asks.rows refl asked.enters asks.enters)
 replay-written files words t _ names edits file asks (verified names' edits' certificate asked told) = absurd (no-other words (codes "verify") (codes "replay") asked.rows asks.rows refl asked.enters asks.enters)
 replay-written files words t _ names edits file asks (entitled names' held asked told) = absurd (no-other words (codes "rights") (codes "replay") asked.rows asks.rows refl asked.enters asks.enters)
-replay-written files words t _ names edits file asks (migrated old out asked told) = absurd (no-other words (codes "migrate") (codes "replay") asked.rows asks.rows refl asked.enters asks.enters)
+replay-written files words t _ names edits file asks (migrated old out bits asked told) = absurd (no-other words (codes "migrate") (codes "replay") asked.rows asks.rows refl asked.enters asks.enters)
 replay-written files words t _ names edits file asks (checked names' asked told) = absurd (no-other words (codes "check") (codes "replay") asked.rows asks.rows refl asked.enters asks.enters)
 replay-written files words t _ names edits file asks (factored names' asked told) = absurd (no-other words (codes "factors") (codes "replay") asked.rows asks.rows refl asked.enters asks.enters)
 replay-written files words t _ names edits file asks (made buses seed asked told) = absurd (no-other words (codes "make") (codes "replay") asked.rows asks.rows refl asked.enters asks.enters)
@@ -390,34 +403,59 @@ text-of-last places listed (Some o) = refl
 pub law_of_last_certificate : LawOfLastCertificate
 law_of_last_certificate words files later text s names edits file r outcomes replay now asked steps fits is =
     let p = printed words files text s replay in
-    let tells = replay-told files words p.telling p.written (Ok r) p.answers steps in
+    let bound = most_of names.bits in
+    let one_names = (replays-once words steps.names names steps.edits edits steps.certificate (Some file) steps.asks asked).0 in
+    let tells = subst (λ (n : MarketNames). TellsReplay (most_of n.bits) r p.telling) one_names (replay-told files words p.telling p.written (Ok r) p.answers steps) in
     let same : tells.1.outcomes ≡ outcomes =
-    replays_read_apart r.market r.steps tells.1.outcomes outcomes (replay_fits most_part r.market [] tells.1.taken r.steps tells.1.outcomes tells.1.right) fits (sym tells.1.told.text_is ∙ p.text_is ∙ is) in
+    replays_read_apart r.market r.steps tells.1.outcomes outcomes (replay_fits bound r.market [] tells.1.taken r.steps tells.1.outcomes tells.1.right) fits (sym tells.1.told.text_is ∙ p.text_is ∙ is) in
     let last = last_clear None outcomes in
     let put : p.telling.outputs.certificate ≡ option_map cert_text (option_and_then (cert_of_outcome r.market.factor_places r.market.reserve.listed) last) =
     ap (λ (x : Outputs (List ℕ)). x.certificate) tells.1.told.certificate_is ∙ ap (λ os. option_and_then (certificate_of r.market.factor_places r.market.reserve.listed) (last_clear None os)) same ∙ text-of-last r.market.factor_places r.market.reserve.listed last in
     let written = replay-written files words p.telling p.written names edits (Some file) asked p.answers ∙ ap (λ c. named_bytes (Some file) c []) put in
-    certificate-kept (CertifiesLast r) (option_and_then (cert_of_outcome r.market.factor_places r.market.reserve.listed) last) (files file) (later file)
+    certificate-kept (CertifiesLast bound r) (option_and_then (cert_of_outcome r.market.factor_places r.market.reserve.listed) last) (files file) (later file)
     (kept-as files later file (option_map cert_text (option_and_then (cert_of_outcome r.market.factor_places r.market.reserve.listed) last)) p.written replay.after.files written now p.kept)
-    (λ c some. (let trip = law_of_the_replay r p.telling (cert_text c) tells (put ∙ ap (option_map cert_text) some) in
+    (λ c some. (let trip = law_of_the_replay bound r p.telling (cert_text c) tells (put ∙ ap (option_map cert_text) some) in
     let one : trip.0 ≡ c = one-certificate (option_and_then (cert_of_outcome r.market.factor_places r.market.reserve.listed) last) trip.0 c (ap (λ os. option_and_then (cert_of_outcome r.market.factor_places r.market.reserve.listed) (last_clear None os)) (sym same) ∙ trip.1) some in
-    subst (CertifiesLast r (cert_text c)) one trip.2))
+    subst (CertifiesLast bound r (cert_text c)) one trip.2))
+
+-- the text of a certificate is read as it by whatever bounds
+names-in : (most : ℕ) (c : Cert Fraction) → CertFits most c → NamesFit c
+names-in most (cert.Optimal blocks energy limits places None) h = record { limits = λ k d lt. (h.numbers.2 k d lt).row; rooms = All-nil (λ d. d.unit < 2 ^ 32) }
+names-in most (cert.Optimal blocks energy limits places (Some r)) h = record { limits = λ k d lt. (h.numbers.2 k d lt).row; rooms = λ k d lt. (h.numbers.3.duals.rooms k d lt).unit }
+names-in most (cert.Farkas energy limits places None) h = record { limits = λ k d lt. (h.numbers.1 k d lt).row; rooms = All-nil (λ d. d.unit < 2 ^ 32) }
+names-in most (cert.Farkas energy limits places (Some d)) h = record { limits = λ k d lt. (h.numbers.1 k d lt).row; rooms = λ k d lt. (h.numbers.2.rooms k d lt).unit }
+
+read-alike : (less more : ℕ) (c d : Cert Fraction) → cert_read less (cert_text c) ≡ Ok c → cert_read more (cert_text c) ≡ Ok d → c ≡ d
+read-alike less more c d one other =
+    let first = cert_read-fits less (cert_text c) c one in
+    let second = cert_read-fits more (cert_text c) d other in
+    let text : cert_text d ≡ cert_text c = law_of_migrated_texts more c d (names-in less c first) other in
+    let both = less + more in
+    let here : cert_read both (cert_text c) ≡ Ok c = reads-back both c (record { numbers = numbers-more less both (omega arith) c first.numbers; distinct = first.distinct }) in
+    let there : cert_read both (cert_text d) ≡ Ok d = reads-back both d (record { numbers = numbers-more more both (omega arith) d second.numbers; distinct = second.distinct }) in
+    let again : cert_read both (cert_text c) ≡ Ok d = sym (ap (cert_read both) text) ∙ there in
+    cc (here, again)
+
+some-text : (a b : List ℕ) → Some a ≡ Some b → a ≡ b
+some-text a b is = cc is
 
 pub law_of_round_trip : LawOfRoundTrip
 law_of_round_trip words again files later text answer s t names file m c clear now asked market which verify asks same =
     let p = printed words files text s clear in
     let q = printed again later answer t verify in
     let tells = clear-told files words p.telling p.written (Ok m) p.answers market in
-    let some = told-certificate m p.telling s p.status_is which tells in
+    let some = told-certificate (clear_bound market) m p.telling s p.status_is which tells in
     let written = clear-written files words p.telling p.written names (Some file) asked p.answers ∙ ap (λ c. named_bytes (Some file) c []) some.1 in
     let here : later file ≡ Some some.0 = kept-certificate p.written files later file some.0 clear.after.files written now p.kept in
     let there : later file ≡ Some asks.stand.certificate = sym (ap later same) ∙ asks.stand.certificate_is in
     let bytes : asks.stand.certificate ≡ some.0 = cc (here, there) in
-    let trip = law_of_the_round_trip m p.telling some.0 tells some.1 in
-    let read : cert_read most_part some.0 ≡ Ok c = ap (cert_read most_part) (sym bytes) ∙ asked-read later again m c asks in
-    let certificate : trip.0 ≡ c = cc (trip.2.read, read) in
+    let trip = law_of_the_round_trip (clear_bound market) m p.telling some.0 tells some.1 in
+    let bound = most_of asks.names.bits in
+    let read : cert_read bound some.0 ≡ Ok c = ap (cert_read bound) (sym bytes) ∙ asked-read later again m c asks in
+    let text_is : some.0 ≡ cert_text trip.0 = some-text some.0 (cert_text trip.0) (sym some.1 ∙ ap (λ (x : Outputs (List ℕ)). x.certificate) tells.1.told.certificate_is ∙ ap (option_map cert_text) trip.1) in
+    let certificate : trip.0 ≡ c = read-alike (clear_bound market) bound trip.0 c (sym (ap (cert_read (clear_bound market)) text_is) ∙ trip.2.read) (sym (ap (cert_read bound) text_is) ∙ read) in
     yes-or-range q.telling answer t q.text_is q.status_is
-    (law_of_yes m some.0 c q.telling (subst (Certifies m some.0) certificate trip.2)
+    (law_of_yes bound m some.0 c q.telling (record { read = read; holds = subst (IsTrueOf m) certificate trip.2.holds; yes = ap (λ (d : Cert Fraction). verdict_of (first_reason m d)) (sym certificate) ∙ trip.2.yes })
     (verify-told later again q.telling q.written (Ok (record { market = m; certificate = c })) q.answers asks))
 
 -- ---- check
@@ -446,7 +484,7 @@ none-written files words t _ none (cleared names file asked tells) = no-outputs 
 none-written files words t _ none (replayed names edits file asked tells) = no-outputs (certified file) t.outputs none
 none-written files words t _ none (verified names edits certificate asked tells) = refl
 none-written files words t _ none (entitled names held asked tells) = refl
-none-written files words t _ none (migrated old out asked tells) = no-outputs (certified (Some out)) t.outputs none
+none-written files words t _ none (migrated old out bits asked tells) = no-outputs (certified (Some out)) t.outputs none
 none-written files words t _ none (checked names asked tells) = refl
 none-written files words t _ none (factored names asked tells) = no-outputs (tabled names.ptdf_out names.lodf_out) t.outputs none
 none-written files words t _ none (made buses seed asked makes) = refl
@@ -491,36 +529,36 @@ module _ (words : List (List ℕ)) (files : Files) (text : List ℕ) (s : Status
     no-clear (outcome.Infeasible f) is = cc is
     no-clear (outcome.Range q) is = cc is
 
-    of-clear : (m : Parts) → TellsClear m p.telling → Why
-    of-clear m (market, clears) = no-clear clears.outcome (sym clears.told.status_is ∙ bad)
+    of-clear : (bound : ℕ) (m : Parts) → TellsClear bound m p.telling → Why
+    of-clear bound m (market, clears) = no-clear clears.outcome (sym clears.told.status_is ∙ bad)
 
-    of-steps : (r : MarketSteps) → AsksSteps files words r.market r.steps → TellsReplay r p.telling → Why
-    of-steps r asks (market, replays) =
+    of-steps : (bound : ℕ) (r : MarketSteps) → AsksSteps files words r.market r.steps → TellsReplay bound r p.telling → Why
+    of-steps bound r asks (market, replays) =
         let here = refused-status replays.outcomes (sym replays.told.status_is ∙ bad) in
-        let edit = refused-at most_part r.market [] replays.taken r.steps replays.outcomes here.0 here.1 replays.right here.2 in
+        let edit = refused-at bound r.market [] replays.taken r.steps replays.outcomes here.0 here.1 replays.right here.2 in
         inr (inl (record { market = r.market; steps = r.steps; asks = asks; place = here.0; edit = edit.0; stands = edit.1; fault = here.1; refused = edit.2 }))
 
-    of-verdict : (v : MarketCertificate) → TellsVerdict v p.telling → Why
-    of-verdict v (market, judged is) = verdict-status (first_reason v.market v.certificate) (sym (ap (λ (t : Telling). t.status) is) ∙ bad)
+    of-verdict : (bound : ℕ) (v : MarketCertificate) → TellsVerdict bound v p.telling → Why
+    of-verdict bound v (market, judged is) = verdict-status (first_reason v.market v.certificate) (sym (ap (λ (t : Telling). t.status) is) ∙ bad)
       where
         verdict-status : (r : Option Reason) → verdict_status r ≡ status.Refused → Why
         verdict-status None wrong = cc wrong
         verdict-status (Some why) wrong = cc wrong
-    of-verdict v (market, passed q pair within is) = absurd (range-refused (sym (ap (λ (t : Telling). t.status) is) ∙ bad))
+    of-verdict bound v (market, passed q pair within is) = absurd (range-refused (sym (ap (λ (t : Telling). t.status) is) ∙ bad))
       where
         range-refused : status.Range ≡ status.Refused → ⊥
         range-refused wrong = cc wrong
 
-    of-fit : (m : Parts) (rights : List TransmissionRight) (price : ℕ → Fraction) (report : List ℕ) → TellsFit most_part m rights price report p.telling → Why
-    of-fit m rights price report (fitted fit.Fits is-fit is) = let wrong : status.Done ≡ status.Refused = sym (ap (λ (t : Telling). t.status) is) ∙ bad in cc wrong
-    of-fit m rights price report (fitted (fit.Breaks row flow) is-fit is) = let wrong : status.Refuted ≡ status.Refused = sym (ap (λ (t : Telling). t.status) is) ∙ bad in cc wrong
-    of-fit m rights price report (answers.passed q pair within is) = let wrong : status.Range ≡ status.Refused = sym (ap (λ (t : Telling). t.status) is) ∙ bad in cc wrong
+    of-fit : (bound : ℕ) (m : Parts) (rights : List TransmissionRight) (price : ℕ → Fraction) (report : List ℕ) → TellsFit bound m rights price report p.telling → Why
+    of-fit bound m rights price report (fitted fit.Fits is-fit is) = let wrong : status.Done ≡ status.Refused = sym (ap (λ (t : Telling). t.status) is) ∙ bad in cc wrong
+    of-fit bound m rights price report (fitted (fit.Breaks row flow) is-fit is) = let wrong : status.Refuted ≡ status.Refused = sym (ap (λ (t : Telling). t.status) is) ∙ bad in cc wrong
+    of-fit bound m rights price report (answers.passed q pair within is) = let wrong : status.Range ≡ status.Refused = sym (ap (λ (t : Telling). t.status) is) ∙ bad in cc wrong
 
-    of-rights : (r : MarketRights) → TellsRights r p.telling → Why
-    of-rights r tells = by tells.entitles.outcome tells.entitles.told
+    of-rights : (bound : ℕ) (r : MarketRights) → TellsRights bound r p.telling → Why
+    of-rights bound r tells = by tells.entitles.outcome tells.entitles.told
       where
-        by : (o : Outcome Fraction) → TellsOutcome most_part r.market r.rights o p.telling → Why
-        by (outcome.Cleared a) told = of-fit r.market r.rights _ _ told
+        by : (o : Outcome Fraction) → TellsOutcome bound r.market r.rights o p.telling → Why
+        by (outcome.Cleared a) told = of-fit bound r.market r.rights _ _ told
         by (outcome.Infeasible f) is = let wrong : status.Infeasible ≡ status.Refused = sym (ap (λ (t : Telling). t.status) is) ∙ bad in cc wrong
         by (outcome.Range q) is = let wrong : status.Range ≡ status.Refused = sym (ap (λ (t : Telling). t.status) is) ∙ bad in cc wrong
 
@@ -556,18 +594,18 @@ module _ (words : List (List ℕ)) (files : Files) (text : List ℕ) (s : Status
 
     why-refused : (w : List (List ℕ × List ℕ)) → AnswersTo (Some files) words p.telling w → Why
     why-refused _ (refused nothing usage) = let wrong : status.Usage ≡ status.Refused = sym usage ∙ bad in cc wrong
-    why-refused _ (pooled case offers asked tells) = by-fault (ArePoolFiles files case offers) TellsClear (λ r stands. to_clear (as_pool case offers asked stands)) (λ m stands right. of-clear m right) tells
-    why-refused _ (cleared names file asked tells) = by-fault (AreClearFiles files names) TellsClear (λ r stands. to_clear (as_clear names file asked stands)) (λ m stands right. of-clear m right) tells
+    why-refused _ (pooled case offers asked tells) = by-fault (ArePoolFiles files case offers) (TellsClear (most_of Bits127)) (λ r stands. to_clear (as_pool case offers asked stands)) (λ m stands right. of-clear _ m right) tells
+    why-refused _ (cleared names file asked tells) = by-fault (AreClearFiles files names) (TellsClear (most_of names.bits)) (λ r stands. to_clear (as_clear names file asked stands)) (λ m stands right. of-clear _ m right) tells
     why-refused _ (replayed names edits file asked tells) =
-        by-fault (AreReplayFiles files names edits) TellsReplay (λ r stands. to_replay (record { names = names; edits = edits; certificate = file; asks = asked; stand = stands }))
-        (λ r stands right. of-steps r (record { names = names; edits = edits; certificate = file; asks = asked; stand = stands }) right) tells
+        by-fault (AreReplayFiles files names edits) (TellsReplay (most_of names.bits)) (λ r stands. to_replay (record { names = names; edits = edits; certificate = file; asks = asked; stand = stands }))
+        (λ r stands right. of-steps _ r (record { names = names; edits = edits; certificate = file; asks = asked; stand = stands }) right) tells
     why-refused _ (verified names edits certificate asked tells) =
-        by-fault (AreVerifyFiles files names edits certificate) TellsVerdict (λ r stands. to_verify (record { names = names; edits = edits; certificate = certificate; asks = asked; stand = stands }))
-        (λ v stands right. of-verdict v right) tells
+        by-fault (AreVerifyFiles files names edits certificate) (TellsVerdict (most_of names.bits)) (λ r stands. to_verify (record { names = names; edits = edits; certificate = certificate; asks = asked; stand = stands }))
+        (λ v stands right. of-verdict _ v right) tells
     why-refused _ (entitled names held asked tells) =
-        by-fault (AreRightsFiles files names held) TellsRights (λ r stands. for_rights (record { names = names; rights = held; asks = asked; stand = stands })) (λ r stands right. of-rights r right) tells
-    why-refused _ (migrated old out asked tells) =
-        by-fault (IsMigratedFile files old) TellsMigration (λ r stands. to_migrate (record { certificate = old; out = out; asks = asked; stand = stands })) (λ c stands right. of-migration c right) tells
+        by-fault (AreRightsFiles files names held) (TellsRights (most_of names.bits)) (λ r stands. for_rights (record { names = names; rights = held; asks = asked; stand = stands })) (λ r stands right. of-rights _ r right) tells
+    why-refused _ (migrated old out bits asked tells) =
+        by-fault (IsMigratedFile files old bits) TellsMigration (λ r stands. to_migrate (record { certificate = old; out = out; bits = bits; asks = asked; stand = stands })) (λ c stands right. of-migration c right) tells
     why-refused _ (checked names asked tells) = by-fault (AreCheckFiles files names) TellsCheck (λ r stands. to_check (record { names = names; asks = asked; stand = stands })) (λ inputs stands right. of-check inputs right) tells
     why-refused _ (factored names asked tells) =
         by-fault (AreFactorFiles files names) (TellsFactorsOf names) (λ r stands. for_factors (record { names = names; asks = asked; stand = stands })) (λ inputs stands right. of-factors inputs (record { names = names; asks = asked; stand = stands }) right) tells
@@ -618,7 +656,7 @@ written-named files words t _ (cleared names file asked told) = bytes-named (Nam
 written-named files words t _ (replayed names edits file asked told) = bytes-named (NamesToWrite words) file t.outputs.certificate [] (λ name is. inr (inl (names, edits, subst (AsksReplay words names edits) is asked))) tt
 written-named files words t _ (verified names edits certificate asked told) = tt
 written-named files words t _ (entitled names held asked told) = tt
-written-named files words t _ (migrated old out asked told) = bytes-named (NamesToWrite words) (Some out) t.outputs.certificate [] (λ name is. inr (inr (inl (old, subst (λ o. AsksMigrate words old (unwrap_or o out)) is asked)))) tt
+written-named files words t _ (migrated old out bits asked told) = bytes-named (NamesToWrite words) (Some out) t.outputs.certificate [] (λ name is. inr (inr (inl (old, subst (λ o. AsksMigrate words old (unwrap_or o out)) is asked)))) tt
 written-named files words t _ (checked names asked told) = tt
 written-named files words t _ (factored names asked told) =
     bytes-named (NamesToWrite words) (Some names.ptdf_out) t.outputs.ptdf _ (λ name is. inr (inr (inr (names, asked, inl (sym (ap (λ o. unwrap_or o names.ptdf_out) is))))))

@@ -30,7 +30,8 @@ use Rattle.rights_test.proofs.FitLemmas.{law_of_the_fit}
 use Rattle.report_text.specs.Reports.{report_text}
 use Rattle.cert_format.specs.Written.{cert_text}
 use Rattle.cert_format.proofs.InverseLemmas.{law_of_migration}
-use Rattle.cert_format.specs.Certificates.{most_part}
+use Rattle.number_bits.specs.Bits.{most_of}
+use Rattle.number_bits.specs.declared.NumberBits.{NumberBits}
 use Rattle.refusal_text.specs.declared.refusals.Input.TheVariants as input
 use Rattle.refusal_text.specs.declared.refusals.Refusal.TheVariants as refusal
 use Rattle.command_words.specs.Words.{AsksMigrate}
@@ -53,11 +54,11 @@ prices-of m a right =
     filled_at (bus_price m a.duals) (map (λ (p : Price Fraction). p.total) a.prices) (length m.buses) zero
     (ap (λ (b : Answer Fraction). map (λ (p : Price Fraction). p.total) b.prices) right.made ∙ map-map (price_made m a.duals) (λ (p : Price Fraction). p.total) (places (length m.buses)))
 
-module _ (m : Parts) (rights : List TransmissionRight) (t : Telling) (text : List ℕ) (s : Status) (words : t.text ≡ text) (ends : t.status ≡ s) where
+module _ (bound : ℕ) (m : Parts) (rights : List TransmissionRight) (t : Telling) (text : List ℕ) (s : Status) (words : t.text ≡ text) (ends : t.status ≡ s) where
   -- what is told, as the text and the status that were put
-  as-told : (e : Telling) → t ≡ e → IsEntitled m rights e.text e.status → IsEntitled m rights text s
+  as-told : (e : Telling) → t ≡ e → IsEntitled bound m rights e.text e.status → IsEntitled bound m rights text s
   as-told e is here =
-      subst (λ x. IsEntitled m rights x s) (sym (ap (λ (x : Telling). x.text) is) ∙ words) (subst (IsEntitled m rights e.text) (sym (ap (λ (x : Telling). x.status) is) ∙ ends) here)
+      subst (λ x. IsEntitled bound m rights x s) (sym (ap (λ (x : Telling). x.text) is) ∙ words) (subst (IsEntitled bound m rights e.text) (sym (ap (λ (x : Telling). x.status) is) ∙ ends) here)
 
   module _ (law_of_reserve : LawOfTheReserve) (law_of_payments : LawOfCoveredPayments) (market : IsMarket m) (held : All (IsTransmissionRight (length m.buses)) rights) where
     -- rights that fit are paid no more than the surplus of the answer
@@ -68,7 +69,7 @@ module _ (m : Parts) (rights : List TransmissionRight) (t : Telling) (text : Lis
         subst (λ z. (payments_of price rights).total ≤ℚ z) (sym (ap (λ (b : Answer Fraction). b.money.surplus) right.made))
         (law_of_payments m a.duals (dispatch_in a) price rights market (record { prices = prices-of m a right; feasible = right.feasible; supported = right.supported }) held is-fit)
 
-    of-answer : (a : Answer Fraction) → IsRight m a → TellsFit most_part m rights (total_at (λ x. x) a.prices) (report_text m (outcome.Cleared a)) t → IsEntitled m rights text s
+    of-answer : (a : Answer Fraction) → IsRight m a → TellsFit bound m rights (total_at (λ x. x) a.prices) (report_text m (outcome.Cleared a)) t → IsEntitled bound m rights text s
     of-answer a right (fitted fit.Fits is-fit is) =
         let best = right-best law_of_reserve m a market right in
         as-told _ is (rights_fit a best.0 best.1 ((law_of_the_fit m rights fit.Fits is-fit).0 refl) refl (covered a right is-fit))
@@ -83,7 +84,7 @@ module _ (m : Parts) (rights : List TransmissionRight) (t : Telling) (text : Lis
         let best = right-best law_of_reserve m a market right in
         as-told _ is (rights_pass a p best.0 best.1 pair within refl)
 
-    of-outcome : (o : Outcome Fraction) → IsRightOutcome most_part m [] o → AreSidesWithin most_part o → TellsOutcome most_part m rights o t → IsEntitled m rights text s
+    of-outcome : (o : Outcome Fraction) → IsRightOutcome bound m [] o → AreSidesWithin bound o → TellsOutcome bound m rights o t → IsEntitled bound m rights text s
     of-outcome (outcome.Cleared a) right sides told = of-answer a right told
     of-outcome (outcome.Infeasible f) right sides is = as-told _ is (nothing_qualifies f (λ x. law_of_infeasibility m f.duals x market right.shows) right refl)
     of-outcome (outcome.Range p) right sides is = as-told _ is (clear_passes p right sides refl)
@@ -92,32 +93,32 @@ pub law_of_rights : LawOfTheReserve → LawOfCoveredPayments → LawOfRights
 law_of_rights law_of_reserve law_of_payments words files text s m rights prints asks =
     let p = printed words files text s prints in
     let tells = rights-told files words p.telling p.written (Ok (record { market = m; rights = rights })) p.answers asks in
-    of-outcome m rights p.telling text s p.text_is p.status_is law_of_reserve law_of_payments tells.market tells.rights tells.entitles.outcome tells.entitles.right tells.entitles.sides tells.entitles.told
+    of-outcome (most_of asks.names.bits) m rights p.telling text s p.text_is p.status_is law_of_reserve law_of_payments tells.market tells.rights tells.entitles.outcome tells.entitles.right tells.entitles.sides tells.entitles.told
 
 -- ---- migrate
 -- what is written is the certificate, to the file that is named for it
-migrate-written : (files : Files) (words : List (List ℕ)) (t : Telling) (w : List (List ℕ × List ℕ)) (old out : List ℕ) → AsksMigrate words old out → AnswersTo (Some files) words t w
+migrate-written : (files : Files) (words : List (List ℕ)) (t : Telling) (w : List (List ℕ × List ℕ)) (old out : List ℕ) (bits : NumberBits) → AsksMigrate words old out bits → AnswersTo (Some files) words t w
     → w ≡ named_outputs (certified (Some out)) t.outputs
-migrate-written files words t _ old out asks (migrated old' out' asked told) = ap (λ f. named_outputs (certified (Some f)) t.outputs) (migrates-once words old' old out' out asked asks).1
-migrate-written files words t _ old out asks (refused nothing usage) = absurd (not-refused words _ asks.rows nothing asks.enters)
-migrate-written files words t _ old out asks (pooled case offers asked told) = absurd (no-other words (codes "pool") (codes "migrate") asked.rows asks.rows refl asked.enters asks.enters)
-migrate-written files words t _ old out asks (cleared names file asked told) = absurd (no-other words (codes "clear") (codes "migrate") asked.rows asks.rows refl asked.enters asks.enters)
-migrate-written files words t _ old out asks (replayed names edits file asked told) = absurd (no-other words (codes "replay") (codes "migrate") asked.rows asks.rows refl asked.enters asks.enters)
-migrate-written files words t _ old out asks (verified names edits certificate asked told) = absurd (no-other words (codes "verify") (codes "migrate") asked.rows asks.rows refl asked.enters asks.enters)
-migrate-written files words t _ old out asks (entitled names held asked told) = absurd (no-other words (codes "rights") (codes "migrate") asked.rows asks.rows refl asked.enters asks.enters)
-migrate-written files words t _ old out asks (checked names asked told) = absurd (no-other words (codes "check") (codes "migrate") asked.rows asks.rows refl asked.enters asks.enters)
-migrate-written files words t _ old out asks (factored names asked told) = absurd (no-other words (codes "factors") (codes "migrate") asked.rows asks.rows refl asked.enters asks.enters)
-migrate-written files words t _ old out asks (made buses seed asked told) = absurd (no-other words (codes "make") (codes "migrate") asked.rows asks.rows refl asked.enters asks.enters)
+migrate-written files words t _ old out bits asks (migrated old' out' bits' asked told) = ap (λ f. named_outputs (certified (Some f)) t.outputs) (migrates-once words old' old out' out bits' bits asked asks).1
+migrate-written files words t _ old out bits asks (refused nothing usage) = absurd (not-refused words _ asks.rows nothing asks.enters)
+migrate-written files words t _ old out bits asks (pooled case offers asked told) = absurd (no-other words (codes "pool") (codes "migrate") asked.rows asks.rows refl asked.enters asks.enters)
+migrate-written files words t _ old out bits asks (cleared names file asked told) = absurd (no-other words (codes "clear") (codes "migrate") asked.rows asks.rows refl asked.enters asks.enters)
+migrate-written files words t _ old out bits asks (replayed names edits file asked told) = absurd (no-other words (codes "replay") (codes "migrate") asked.rows asks.rows refl asked.enters asks.enters)
+migrate-written files words t _ old out bits asks (verified names edits certificate asked told) = absurd (no-other words (codes "verify") (codes "migrate") asked.rows asks.rows refl asked.enters asks.enters)
+migrate-written files words t _ old out bits asks (entitled names held asked told) = absurd (no-other words (codes "rights") (codes "migrate") asked.rows asks.rows refl asked.enters asks.enters)
+migrate-written files words t _ old out bits asks (checked names asked told) = absurd (no-other words (codes "check") (codes "migrate") asked.rows asks.rows refl asked.enters asks.enters)
+migrate-written files words t _ old out bits asks (factored names asked told) = absurd (no-other words (codes "factors") (codes "migrate") asked.rows asks.rows refl asked.enters asks.enters)
+migrate-written files words t _ old out bits asks (made buses seed asked told) = absurd (no-other words (codes "make") (codes "migrate") asked.rows asks.rows refl asked.enters asks.enters)
 
 pub law_of_migrate : LawOfMigrate
 law_of_migrate words files later text s c run now asks =
     let p = printed words files text s run in
     let tells = migrate-told files words p.telling p.written (Ok c) p.answers asks in
     let put : p.telling.outputs.certificate ≡ Some (cert_text c) = ap (λ (x : Telling). x.outputs.certificate) tells in
-    let written = migrate-written files words p.telling p.written asks.certificate asks.out asks.asks p.answers ∙ ap (λ b. named_bytes (Some asks.out) b []) put in
+    let written = migrate-written files words p.telling p.written asks.certificate asks.out asks.bits asks.asks p.answers ∙ ap (λ b. named_bytes (Some asks.out) b []) put in
     record {
       done = sym p.status_is ∙ ap (λ (x : Telling). x.status) tells;
       said = sym p.text_is ∙ ap (λ (x : Telling). x.text) tells;
       written = kept-as files later asks.out (Some (cert_text c)) p.written run.after.files written now p.kept;
-      read = law_of_migration asks.stand.certificate c (read-in (refusal.TooLong input.Certificate) asks.stand.certificate c asks.stand.read);
+      read = law_of_migration (most_of asks.bits) asks.stand.certificate c (read-in (most_of asks.bits) (refusal.TooLong input.Certificate) asks.stand.certificate c asks.stand.read);
     }

@@ -33,13 +33,13 @@ use Rattle.command_answers.specs.Replaying.{AreStepSidesWithin, TellsReplay, is_
 use Rattle.command_answers.specs.Tellings.{Telling}
 use Rattle.command_answers.specs.declared.status.Status.{Status}
 use Rattle.command_answers.specs.declared.status.Status.TheVariants as status
-use Rattle.sced.specs.Asked.{AsksMarket, AsksSteps}
+use Rattle.sced.specs.Asked.{AsksMarket, AsksSteps, clear_bound}
 use Rattle.sced.specs.Headline.{BeginsWith, Prints, Reports, in_clear, in_replay, of_clear, of_step, outcome_of_edit}
 use Rattle.sced.specs.Runs.{Ends, HasText, KeepsWrites, told, unwritten}
 use Rattle.command_files.specs.OnlyReads.{IsSilent}
 use Rattle.sced.specs.Told.{Answers, AnswersTo}
 use Rattle.sced.proofs.AskedLemmas.{clear-told, replay-told}
-use Rattle.cert_format.specs.Certificates.{most_part}
+use Rattle.number_bits.specs.Bits.{most_of}
 
 -- ---- the telling that was put
 pub not-silent : (s : Status) → HasText s → ¬ (IsSilent s)
@@ -190,29 +190,39 @@ sides-at bound (x ∷ outcomes) (suc k) o all is = sides-at bound outcomes k o (
 pub record IsOutcomeOf (words : List (List ℕ)) (files : Files) (text : List ℕ) (m : Parts) (o : Outcome Fraction) (place : ℕ) : Type 0 where
   pub market : IsMarket m
   pub taken : List Row
-  pub begins : BeginsWith words files text m place taken
-  pub right : IsRightOutcome most_part m taken o
-  pub sides : AreSidesWithin most_part o
+  pub bound : ℕ
+  pub begins : BeginsWith words files text m place taken bound
+  pub right : IsRightOutcome bound m taken o
+  pub sides : AreSidesWithin bound o
 
 module _ (words : List (List ℕ)) (files : Files) (text : List ℕ) (m : Parts) (o : Outcome Fraction) (t : Telling) where
-  clear-outcome : AsksMarket files words m → OutcomeFitsReport m o → t.text ≡ report_text m o → TellsClear m t → IsOutcomeOf words files text m o 0
+  clear-outcome : (asks : AsksMarket files words m) → OutcomeFitsReport m o → t.text ≡ report_text m o → TellsClear (clear_bound asks) m t → IsOutcomeOf words files text m o 0
   clear-outcome asks fits is (market, clears) =
       let same : clears.outcome ≡ o = reports_apart m clears.outcome o (outcome_fits _ m clears.outcome clears.right) fits (sym clears.told.text_is ∙ is) in
-      record { market = market; taken = []; begins = in_clear asks; right = subst (IsRightOutcome most_part m []) same clears.right; sides = subst (AreSidesWithin most_part) same clears.sides }
+      record {
+        market = market;
+        taken = [];
+        bound = clear_bound asks;
+        begins = in_clear asks;
+        right = subst (IsRightOutcome (clear_bound asks) m []) same clears.right;
+        sides = subst (AreSidesWithin (clear_bound asks)) same clears.sides;
+      }
 
-  step-outcome : (start : Parts) (steps : List Step) (outcomes : List (StepOutcome Fraction)) (k : ℕ) → AsksSteps files words start steps → OutcomesFit start steps outcomes
+  step-outcome : (start : Parts) (steps : List Step) (outcomes : List (StepOutcome Fraction)) (k : ℕ) (asks : AsksSteps files words start steps) → OutcomesFit start steps outcomes
       → t.text ≡ replayed start steps outcomes → text ≡ replayed start steps outcomes → slice_get outcomes k ≡ Some (reply.Clear o) → m ≡ edited_by start (take k steps)
-      → TellsReplay (record { market = start; steps = steps }) t → IsOutcomeOf words files text m o k
+      → TellsReplay (most_of asks.names.bits) (record { market = start; steps = steps }) t → IsOutcomeOf words files text m o k
   step-outcome start steps outcomes k asks fits is text_is at edited (market, replays) =
-      let same : replays.outcomes ≡ outcomes = replays_read_apart start steps replays.outcomes outcomes (replay_fits most_part start [] replays.taken steps replays.outcomes replays.right) fits (sym replays.told.text_is ∙ is) in
-      let right = subst (λ (os : List (StepOutcome Fraction)). IsReplay most_part start [] steps os replays.taken) same replays.right in
-      let here = clear-at most_part start [] replays.taken steps outcomes k o right at in
+      let bound = most_of asks.names.bits in
+      let same : replays.outcomes ≡ outcomes = replays_read_apart start steps replays.outcomes outcomes (replay_fits bound start [] replays.taken steps replays.outcomes replays.right) fits (sym replays.told.text_is ∙ is) in
+      let right = subst (λ (os : List (StepOutcome Fraction)). IsReplay bound start [] steps os replays.taken) same replays.right in
+      let here = clear-at bound start [] replays.taken steps outcomes k o right at in
       record {
         market = subst IsMarket (sym edited) (replays.markets k);
         taken = limits_of here.taken;
+        bound = bound;
         begins = in_replay start steps outcomes k here.taken asks fits text_is edited here.replay;
-        right = subst (λ (n : Parts). IsRightOutcome most_part n (limits_of here.taken) o) (sym edited) here.clear.right;
-        sides = sides-at most_part outcomes k o (subst (All (AreStepSidesWithin most_part)) same replays.sides) at;
+        right = subst (λ (n : Parts). IsRightOutcome bound n (limits_of here.taken) o) (sym edited) here.clear.right;
+        sides = sides-at bound outcomes k o (subst (All (AreStepSidesWithin bound)) same replays.sides) at;
       }
 
 pub reported : (words : List (List ℕ)) (files : Files) (text : List ℕ) (s : Status) (m : Parts) (o : Outcome Fraction) (place : ℕ) (after : Option Files) → IsPrinted words files after text s → Reports words files text m o place

@@ -1,6 +1,9 @@
 -- What the words of a run ask, with what the files that they name stand for, or their first fault.
 use Rattle.std.specs.Prelude.{ℕ, List, Option, Result, Ok}
 use Rattle.fraction_theory.specs.Fraction.{Fraction}
+use Rattle.number_bits.specs.Bits.{most_of}
+use Rattle.number_bits.specs.declared.NumberBits.{NumberBits}
+use Rattle.number_bits.specs.declared.NumberBits.TheVariants.{Bits127}
 use Rattle.outside_store.specs.Files.{Files}
 use Rattle.market_model.specs.declared.participants.Parts.{Parts}
 use Rattle.market_model.specs.declared.participants.TransmissionRight.{TransmissionRight}
@@ -17,6 +20,11 @@ use Rattle.command_files.specs.Standing.{AreCheckFiles, AreClearFiles, AreFactor
 pub data AsksToClear (files : Files) (words : List (List ℕ)) (told : Result Parts Refusal) : Type 0 where
   as_pool : (case offers : List ℕ) → AsksPool words case offers → ArePoolFiles files case offers told → AsksToClear files words told
   as_clear : (names : MarketNames) (file : Option (List ℕ)) → AsksClear words names file → AreClearFiles files names told → AsksToClear files words told
+
+-- the greatest size of a numerator or a denominator by which a market is to be cleared: that of 127 bits, or what the words say
+abbrev pub clear_bound : {files : Files} {words : List (List ℕ)} {told : Result Parts Refusal} → AsksToClear files words told → ℕ
+clear_bound (as_pool case offers asks stands) = most_of Bits127
+clear_bound (as_clear names file asks stands) = most_of names.bits
 
 -- steps of a market
 pub record AsksToReplay (files : Files) (words : List (List ℕ)) (told : Result MarketSteps Refusal) : Type 0 where
@@ -45,8 +53,9 @@ pub record AsksForRights (files : Files) (words : List (List ℕ)) (told : Resul
 pub record AsksToMigrate (files : Files) (words : List (List ℕ)) (told : Result (Cert Fraction) Refusal) : Type 0 where
   pub certificate : List ℕ
   pub out : List ℕ
-  pub asks : AsksMigrate words certificate out
-  pub stand : IsMigratedFile files certificate told
+  pub bits : NumberBits
+  pub asks : AsksMigrate words certificate out bits
+  pub stand : IsMigratedFile files certificate bits told
 
 -- how far tables of factors are from those of the network
 pub record AsksToCheck (files : Files) (words : List (List ℕ)) (told : Result Inputs Refusal) : Type 0 where

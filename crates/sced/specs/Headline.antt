@@ -8,6 +8,7 @@ use Rattle.fraction_theory.specs.Fraction.{Fraction, ◌*ℚ◌}
 use Rattle.fraction_theory.specs.Order.{◌≤ℚ◌}
 use Rattle.fraction_theory.specs.Sums.{sum_by}
 use Rattle.exact_fraction.specs.declared.Passed.{Passed}
+use Rattle.number_bits.specs.Bits.{most_of}
 use Rattle.outside_store.specs.Causes.{Rose, Still}
 use Rattle.outside_store.specs.Files.{Files, SameFiles}
 use Rattle.market_model.specs.declared.answered.Answer.{Answer}
@@ -84,7 +85,7 @@ use Rattle.cert_verify.specs.Stops.{IsCertificateStop}
 use Rattle.command_answers.specs.Verdicts.{verdict_line}
 use Rattle.command_answers.specs.declared.status.Status.{Status}
 use Rattle.command_answers.specs.declared.status.Status.TheVariants as status
-use Rattle.sced.specs.Asked.{AsksForFactors, AsksForRights, AsksHeld, AsksMarket, AsksSteps, AsksVerdict, AsksToCheck, AsksToClear, AsksToMigrate, AsksToReplay, AsksToVerify}
+use Rattle.sced.specs.Asked.{AsksForFactors, AsksForRights, AsksHeld, AsksMarket, AsksSteps, AsksVerdict, AsksToCheck, AsksToClear, AsksToMigrate, AsksToReplay, AsksToVerify, clear_bound}
 use Rattle.sced.specs.Promise.{Runs}
 use Rattle.command_files.specs.OnlyReads.{IsSilent}
 use Rattle.sced.specs.Runs.{CountsReads, CountsWrites, HasText, LeavesAll, Outside}
@@ -139,12 +140,13 @@ pub data Reports (words : List (List ℕ)) (files : Files) (text : List ℕ) (m 
       → OutcomesFit start steps outcomes → text ≡ replayed start steps outcomes → slice_get outcomes k ≡ Some (reply.Clear o)
       → m ≡ edited_by start (take k steps) → Reports words files text m o k
 
--- the rows with which the clear at that place begins: none, or in a replay the limits among what the clears before it ended with
-pub data BeginsWith (words : List (List ℕ)) (files : Files) (text : List ℕ) (m : Parts) : ℕ → List Row → Type 0 where
-  in_clear : AsksMarket files words m → BeginsWith words files text m 0 []
-  in_replay : (start : Parts) (steps : List Step) (outcomes : List (StepOutcome Fraction)) (k : ℕ) (taken : List Taking) → AsksSteps files words start steps
+-- the rows with which the clear at that place begins: none, or in a replay the limits among what the clears before it ended with; and the bound of
+-- the numbers by which it is cleared
+pub data BeginsWith (words : List (List ℕ)) (files : Files) (text : List ℕ) (m : Parts) : ℕ → List Row → ℕ → Type 0 where
+  in_clear : (asks : AsksMarket files words m) → BeginsWith words files text m 0 [] (clear_bound asks)
+  in_replay : (start : Parts) (steps : List Step) (outcomes : List (StepOutcome Fraction)) (k : ℕ) (taken : List Taking) (asks : AsksSteps files words start steps)
       → OutcomesFit start steps outcomes → text ≡ replayed start steps outcomes → m ≡ edited_by start (take k steps)
-      → IsReplay most_part start [] (take k steps) (take k outcomes) taken → BeginsWith words files text m k (limits_of taken)
+      → IsReplay (most_of asks.names.bits) start [] (take k steps) (take k outcomes) taken → BeginsWith words files text m k (limits_of taken) (most_of asks.names.bits)
 
 -- ---- cleared
 -- within the offers of energy and of reserve, in balance, within every limit of the base and after every listed outage, up to its excess, whose
@@ -216,13 +218,14 @@ pub record IsReported (m : Parts) (text : List ℕ) (s : Status) : Type 0 where
   pub text_is : text ≡ report_text m outcome
   pub status_is : s ≡ status_of outcome
 
--- and over rows that are reached from those with which a clear begins, where no working pair passes 127 bits, as where all numbers that it may
--- have to write down are within them, what is reported of it is cleared where some dispatch qualifies, and infeasible where none does
+-- and over rows that are reached from those with which a clear begins, where no working pair passes the bound of its numbers, as where all numbers that it
+-- may have to write down are within it, what is reported of it is cleared where some dispatch qualifies, and infeasible where none does
 pub record IsDecidedFrom (words : List (List ℕ)) (files : Files) (text : List ℕ) (m : Parts) (o : Outcome Fraction) (place : ℕ) : Type 0 where
   pub taken : List Row
-  pub begins : BeginsWith words files text m place taken
-  pub fits : AllNumbersFit m taken most_part → IsDecided m o
-  pub decided : NoPairPasses m taken most_part → IsDecided m o
+  pub bound : ℕ
+  pub begins : BeginsWith words files text m place taken bound
+  pub fits : AllNumbersFit m taken bound → IsDecided m o
+  pub decided : NoPairPasses m taken bound → IsDecided m o
 
 abbrev pub LawOfComplete : Type 0
 LawOfComplete = (words : List (List ℕ)) (files : Files) (text : List ℕ) (s : Status) → Prints words files text s
@@ -230,13 +233,14 @@ LawOfComplete = (words : List (List ℕ)) (files : Files) (text : List ℕ) (s :
     × ((m : Parts) (o : Outcome Fraction) (place : ℕ) → Reports words files text m o place → IsDecidedFrom words files text m o place)
 
 -- ---- range
--- Two numbers, each within 127 bits, that are a working pair of the market, over rows that are reached from those with which its clear begins:
--- the pair passes 127 bits, on the way to a number that the clear may have to write down and that is above 127 bits itself.
+-- Two numbers, each within the bound of the clear's numbers, that are a working pair of the market, over rows that are reached from those with which it
+-- begins: the pair passes the bound, on the way to a number that the clear may have to write down and that is above it itself.
 pub record IsRangeFrom (words : List (List ℕ)) (files : Files) (text : List ℕ) (m : Parts) (p : Passed Fraction) (place : ℕ) : Type 0 where
   pub taken : List Row
-  pub begins : BeginsWith words files text m place taken
-  pub pair : IsRangeOf m taken most_part p
-  pub sides : ArePassedWithin most_part p
+  pub bound : ℕ
+  pub begins : BeginsWith words files text m place taken bound
+  pub pair : IsRangeOf m taken bound p
+  pub sides : ArePassedWithin bound p
 
 -- where range is printed the two printed numbers are so
 abbrev pub LawOfRange : Type 0
@@ -244,16 +248,16 @@ LawOfRange = (words : List (List ℕ)) (files : Files) (text : List ℕ) (s : St
     → Prints words files text s → Reports words files text m (Range p) place → IsRangeFrom words files text m p place
 
 -- ---- verify
--- yes where the certificate is true of the market, no with the first reason where it is not, or two numbers of its sums, each within 127 bits,
--- that pass these together, where no reason of a kind that is looked at before that of their sum holds
-pub data IsVerdict (m : Parts) (c : Cert Fraction) (text : List ℕ) : Status → Type 0 where
-  yes : IsTrueOf m c → text ≡ codes "yes\n" → IsVerdict m c text status.Done
-  no : ¬ (IsTrueOf m c) → text ≡ verdict_line (first_reason m c) → IsVerdict m c text status.Refuted
-  passes : (p : Passed Fraction) → IsCertificateStop m most_part c p → ArePassedWithin most_part p → text ≡ range_text p → IsVerdict m c text status.Range
+-- yes where the certificate is true of the market, no with the first reason where it is not, or two numbers of its sums, each within the bound,
+-- that pass it together, where no reason of a kind that is looked at before that of their sum holds
+pub data IsVerdict (bound : ℕ) (m : Parts) (c : Cert Fraction) (text : List ℕ) : Status → Type 0 where
+  yes : IsTrueOf m c → text ≡ codes "yes\n" → IsVerdict bound m c text status.Done
+  no : ¬ (IsTrueOf m c) → text ≡ verdict_line (first_reason m c) → IsVerdict bound m c text status.Refuted
+  passes : (p : Passed Fraction) → IsCertificateStop m bound c p → ArePassedWithin bound p → text ≡ range_text p → IsVerdict bound m c text status.Range
 
 abbrev pub LawOfVerify : Type 0
 LawOfVerify = (words : List (List ℕ)) (files : Files) (text : List ℕ) (s : Status) (m : Parts) (c : Cert Fraction)
-    → Prints words files text s → AsksVerdict files words m c → IsVerdict m c text s
+    → Prints words files text s → (asks : AsksVerdict files words m c) → IsVerdict (most_of asks.names.bits) m c text s
 
 -- ---- certificate
 -- a file has the text of this certificate and nothing more, of which that holds; or it has what it had, where there is no certificate
@@ -265,7 +269,7 @@ pub record HasCertificate (holds : List ℕ → Cert Fraction → Type 0) (certi
 abbrev pub LawOfCertificate : Type 0
 LawOfCertificate = (words : List (List ℕ)) (files later : Files) (text : List ℕ) (s : Status) (names : MarketNames) (file : List ℕ) (m : Parts)
     (o : Outcome Fraction) → (clear : Prints words files text s) → clear.after.files ≡ Some later → AsksClear words names (Some file) → AsksMarket files words m
-    → OutcomeFitsReport m o → text ≡ report_text m o → HasCertificate (Certifies m) (cert_of_outcome m.factor_places m.reserve.listed o) (files file) (later file)
+    → OutcomeFitsReport m o → text ≡ report_text m o → HasCertificate (Certifies (most_of names.bits) m) (cert_of_outcome m.factor_places m.reserve.listed o) (files file) (later file)
 
 -- in a replay, that of the last clear and of the market as the steps before it edit it
 abbrev pub LawOfLastCertificate : Type 0
@@ -273,7 +277,7 @@ LawOfLastCertificate = (words : List (List ℕ)) (files later : Files) (text : L
     (r : MarketSteps) (outcomes : List (StepOutcome Fraction)) → (replay : Prints words files text s) → replay.after.files ≡ Some later
     → AsksReplay words names edits (Some file) → AsksToReplay files words (Ok r)
     → OutcomesFit r.market r.steps outcomes → text ≡ replayed r.market r.steps outcomes
-    → HasCertificate (CertifiesLast r) (option_and_then (cert_of_outcome r.market.factor_places r.market.reserve.listed) (last_clear None outcomes)) (files file) (later file)
+    → HasCertificate (CertifiesLast (most_of names.bits) r) (option_and_then (cert_of_outcome r.market.factor_places r.market.reserve.listed) (last_clear None outcomes)) (files file) (later file)
 
 -- ---- round trip
 -- of what a clear of a market wrote `verify` says yes against that market, or that numbers are too large
@@ -287,38 +291,38 @@ LawOfRoundTrip = (words again : List (List ℕ)) (files later : Files) (text ans
 -- ---- rights
 -- The market is cleared, best and priced as above, and behind the report stand whether limits could carry the rights together and what each is
 -- paid by the bus prices that are printed. Where they could, the rights are paid no more than the surplus; where not, the first limit that is broken is told.
--- Or the report stands alone: that nothing qualifies, or two numbers that are a working pair of the market and pass 127 bits; where no
+-- Or the report stands alone: that nothing qualifies, or two numbers that are a working pair of the market and pass the bound; where no
 -- working pair passes, this never comes. Or in place of the lines on rights stand two numbers of a sum of these.
-pub data IsEntitled (m : Parts) (rights : List TransmissionRight) (text : List ℕ) : Status → Type 0 where
+pub data IsEntitled (bound : ℕ) (m : Parts) (rights : List TransmissionRight) (text : List ℕ) : Status → Type 0 where
   rights_fit : (a : Answer Fraction) → HasGreatestWelfare m (dispatch_in a) → IsPriced m a → AreFeasibleTogether m rights
       → text ≡ report_text m (Cleared a) ++ rights_lines Fits (payments_of (total_at (λ x. x) a.prices) rights)
-      → (payments_of (total_at (λ x. x) a.prices) rights).total ≤ℚ a.money.surplus → IsEntitled m rights text status.Done
+      → (payments_of (total_at (λ x. x) a.prices) rights).total ≤ℚ a.money.surplus → IsEntitled bound m rights text status.Done
   rights_break : (a : Answer Fraction) (r : RowId) (flow : Fraction) → HasGreatestWelfare m (dispatch_in a) → IsPriced m a → ¬ (AreFeasibleTogether m rights)
       → IsFit m rights (Breaks r flow) → text ≡ report_text m (Cleared a) ++ rights_lines (Breaks r flow) (payments_of (total_at (λ x. x) a.prices) rights)
-      → IsEntitled m rights text status.Refuted
+      → IsEntitled bound m rights text status.Refuted
   nothing_qualifies : (f : Farkas Fraction) → ((x : Dispatch) → ¬ (Feasible m x)) → IsFarkas m f → text ≡ report_text m (Infeasible f)
-      → IsEntitled m rights text status.Infeasible
-  clear_passes : (p : Passed Fraction) → IsRangeOf m [] most_part p → ArePassedWithin most_part p → text ≡ report_text m (Range p)
-      → IsEntitled m rights text status.Range
+      → IsEntitled bound m rights text status.Infeasible
+  clear_passes : (p : Passed Fraction) → IsRangeOf m [] bound p → ArePassedWithin bound p → text ≡ report_text m (Range p)
+      → IsEntitled bound m rights text status.Range
   rights_pass : (a : Answer Fraction) (p : Passed Fraction) → HasGreatestWelfare m (dispatch_in a) → IsPriced m a
-      → IsRightsRefusal m rights (total_at (λ x. x) a.prices) most_part p → ArePassedWithin most_part p → text ≡ report_text m (Cleared a) ++ range_text p
-      → IsEntitled m rights text status.Range
+      → IsRightsRefusal m rights (total_at (λ x. x) a.prices) bound p → ArePassedWithin bound p → text ≡ report_text m (Cleared a) ++ range_text p
+      → IsEntitled bound m rights text status.Range
 
 abbrev pub LawOfRights : Type 0
 LawOfRights = (words : List (List ℕ)) (files : Files) (text : List ℕ) (s : Status) (m : Parts) (rights : List TransmissionRight)
-    → Prints words files text s → AsksHeld files words m rights → IsEntitled m rights text s
+    → Prints words files text s → (asks : AsksHeld files words m rights) → IsEntitled (most_of asks.names.bits) m rights text s
 
 -- ---- migrate
 -- what was read of the certificate is written in the version of today, and it is read back as the same
-pub record IsWrittenAnew (c : Cert Fraction) (text : List ℕ) (s : Status) (has : Option (List ℕ)) : Type 0 where
+pub record IsWrittenAnew (bound : ℕ) (c : Cert Fraction) (text : List ℕ) (s : Status) (has : Option (List ℕ)) : Type 0 where
   pub done : s ≡ status.Done
   pub said : text ≡ codes "migrated\n"
   pub written : has ≡ Some (cert_text c)
-  pub read : cert_read most_part (cert_text c) ≡ Ok c
+  pub read : cert_read bound (cert_text c) ≡ Ok c
 
 abbrev pub LawOfMigrate : Type 0
 LawOfMigrate = (words : List (List ℕ)) (files later : Files) (text : List ℕ) (s : Status) (c : Cert Fraction)
-    → (run : Prints words files text s) → run.after.files ≡ Some later → (asks : AsksToMigrate files words (Ok c)) → IsWrittenAnew c text s (later asks.out)
+    → (run : Prints words files text s) → run.after.files ≡ Some later → (asks : AsksToMigrate files words (Ok c)) → IsWrittenAnew (most_of asks.bits) c text s (later asks.out)
 
 -- ---- check
 -- the residuals of the tables are told, and whether they are within what rounding explains

@@ -1,5 +1,8 @@
 -- What is right to tell of the words of a run and of the files that they name.
 use Rattle.std.specs.Prelude.{◌≡◌, ◌⊎◌, ℕ, List, [], ◌∷◌, Option, Some, None}
+use Rattle.number_bits.specs.Bits.{most_of}
+use Rattle.number_bits.specs.declared.NumberBits.{NumberBits}
+use Rattle.number_bits.specs.declared.NumberBits.TheVariants.{Bits127}
 use Rattle.outside_store.specs.Files.{Files}
 use Rattle.command_words.specs.Words.{AsksCheck, AsksClear, AsksFactors, AsksMake, AsksMigrate, AsksNothing, AsksPool, AsksReplay, AsksRights, AsksVerify, CheckNames, FactorNames, MarketNames, NamesToWrite}
 use Rattle.command_answers.specs.Checking.{TellsCheck}
@@ -42,18 +45,18 @@ written_by work = named_outputs (names_for work) (telling_of work.told).outputs
 
 -- The words are refused, or what is told is right for the files that they name. The files that there are to write are a certificate: that
 -- which a clear or a replay has, where the words name a file for it, or one that is written anew; or tables of factors that are made, that of
--- shift factors first.
+-- shift factors first. Markets are cleared by numbers of as many bits as the words say, and by 127 where they say nothing.
 pub data AnswersTo (files : Option Files) (words : List (List ℕ)) (t : Telling) : List (List ℕ × List ℕ) → Type 0 where
   refused : AsksNothing words → t.status ≡ status.Usage → AnswersTo files words t []
-  pooled : (case offers : List ℕ) → AsksPool words case offers → OfFiles files (λ f. ArePoolFiles f case offers) TellsClear t → AnswersTo files words t []
-  cleared : (names : MarketNames) (file : Option (List ℕ)) → AsksClear words names file → OfFiles files (λ f. AreClearFiles f names) TellsClear t
+  pooled : (case offers : List ℕ) → AsksPool words case offers → OfFiles files (λ f. ArePoolFiles f case offers) (TellsClear (most_of Bits127)) t → AnswersTo files words t []
+  cleared : (names : MarketNames) (file : Option (List ℕ)) → AsksClear words names file → OfFiles files (λ f. AreClearFiles f names) (TellsClear (most_of names.bits)) t
       → AnswersTo files words t (named_outputs (certified file) t.outputs)
   replayed : (names : MarketNames) (edits : List ℕ) (file : Option (List ℕ)) → AsksReplay words names edits file
-      → OfFiles files (λ f. AreReplayFiles f names edits) TellsReplay t → AnswersTo files words t (named_outputs (certified file) t.outputs)
+      → OfFiles files (λ f. AreReplayFiles f names edits) (TellsReplay (most_of names.bits)) t → AnswersTo files words t (named_outputs (certified file) t.outputs)
   verified : (names : MarketNames) (edits : Option (List ℕ)) (certificate : List ℕ) → AsksVerify words names edits certificate
-      → OfFiles files (λ f. AreVerifyFiles f names edits certificate) TellsVerdict t → AnswersTo files words t []
-  entitled : (names : MarketNames) (rights : List ℕ) → AsksRights words names rights → OfFiles files (λ f. AreRightsFiles f names rights) TellsRights t → AnswersTo files words t []
-  migrated : (certificate out : List ℕ) → AsksMigrate words certificate out → OfFiles files (λ f. IsMigratedFile f certificate) TellsMigration t
+      → OfFiles files (λ f. AreVerifyFiles f names edits certificate) (TellsVerdict (most_of names.bits)) t → AnswersTo files words t []
+  entitled : (names : MarketNames) (rights : List ℕ) → AsksRights words names rights → OfFiles files (λ f. AreRightsFiles f names rights) (TellsRights (most_of names.bits)) t → AnswersTo files words t []
+  migrated : (certificate out : List ℕ) (bits : NumberBits) → AsksMigrate words certificate out bits → OfFiles files (λ f. IsMigratedFile f certificate bits) TellsMigration t
       → AnswersTo files words t (named_outputs (certified (Some out)) t.outputs)
   checked : (names : CheckNames) → AsksCheck words names → OfFiles files (λ f. AreCheckFiles f names) TellsCheck t → AnswersTo files words t []
   factored : (names : FactorNames) → AsksFactors words names → OfFiles files (λ f. AreFactorFiles f names) (TellsFactorsOf names) t

@@ -69,7 +69,7 @@ fn asked_work<'a, S: Store>(
             Outputs::tabled(files.ptdf_out, files.lodf_out),
         ),
         Ok(Request::Migrate(files)) => with_files(
-            migrate_file(alloc, files.certificate, store),
+            migrate_file(alloc, &files, store),
             Outputs::certified(Some(files.out)),
         ),
         Ok(Request::Make(ring)) => with_files(

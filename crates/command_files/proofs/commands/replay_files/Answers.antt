@@ -6,6 +6,7 @@ use Rattle.command_answers.specs.Inputs.{IsReplayed}
 use Rattle.command_answers.specs.Replaying.{TellsReplay}
 use Rattle.command_answers.specs.Tellings.{Tells, telling_of}
 use Rattle.command_answers.specs.declared.status.Status.TheVariants as status
+use Rattle.number_bits.specs.Bits.{most_of}
 use Rattle.command_words.specs.Requests.{names_of_market}
 use Rattle.command_files.proofs.FileLemmas.{files-replay}
 use Rattle.command_files.proofs.ReadingLemmas.{if_ok-map, reads-same, same_then, told-ok}
@@ -19,7 +20,7 @@ returns-clause-right g c =
     told-ok _ _ c.or_memory.result c.replay_told-told.result c.or_memory.ensures
     (if_ok-map _ _ c.replay_told-told.result
     (λ told is. files-replay files names _ (map_tables vec_items vec_items c.in_ok-bytes.bytes) _ (telling_of told) c.in_ok-bytes.ensures.bytes edits
-    (subst (λ x. Tells (IsReplayed names.rating names.places x c.as_slice.result.now) TellsReplay (telling_of told)) c.as_slices.ensures is))
+    (subst (λ x. Tells (IsReplayed names.rating names.places x c.as_slice.result.now) (TellsReplay (most_of names.bits)) (telling_of told)) c.as_slices.ensures is))
     c.replay_told-told.ensures.tells)
 
 pub returns-clause-reads : goal.returns-clause-reads

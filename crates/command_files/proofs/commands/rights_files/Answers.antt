@@ -6,6 +6,7 @@ use Rattle.command_answers.specs.Inputs.{AreEntitled}
 use Rattle.command_answers.specs.Rights.{TellsRights}
 use Rattle.command_answers.specs.Tellings.{Tells, telling_of}
 use Rattle.command_answers.specs.declared.status.Status.TheVariants as status
+use Rattle.number_bits.specs.Bits.{most_of}
 use Rattle.command_words.specs.Requests.{names_of_market}
 use Rattle.command_files.proofs.FileLemmas.{files-rights}
 use Rattle.command_files.proofs.ReadingLemmas.{if_ok-map, reads-same, same_then, told-ok}
@@ -19,7 +20,7 @@ returns-clause-right g c =
     told-ok _ _ c.or_memory.result c.rights_told-told.result c.or_memory.ensures
     (if_ok-map _ _ c.rights_told-told.result
     (λ told is. files-rights files names _ (map_tables vec_items vec_items c.in_ok-bytes.bytes) _ (telling_of told) c.in_ok-bytes.ensures.bytes rights
-    (subst (λ x. Tells (AreEntitled names.rating names.places x c.as_slice.result.now) TellsRights (telling_of told)) c.as_slices.ensures is))
+    (subst (λ x. Tells (AreEntitled names.rating names.places x c.as_slice.result.now) (TellsRights (most_of names.bits)) (telling_of told)) c.as_slices.ensures is))
     c.rights_told-told.ensures.tells)
 
 pub returns-clause-reads : goal.returns-clause-reads

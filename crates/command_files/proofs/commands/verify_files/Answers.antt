@@ -4,7 +4,7 @@ use Rattle.edit_table.specs.EditTable.{edit_header}
 use Rattle.market_tables.specs.Tables.{map_tables}
 use Rattle.outside_store.specs.Causes.{Rose, Still}
 use Rattle.outside_store.specs.Files.{Reads, SameFiles}
-use Rattle.cert_format.specs.Certificates.{most_part}
+use Rattle.number_bits.specs.Bits.{most_of}
 use Rattle.command_answers.specs.Inputs.{IsCertified}
 use Rattle.command_answers.specs.Tellings.{Tells, telling_of}
 use Rattle.command_answers.specs.Verifying.{TellsVerdict}
@@ -26,7 +26,7 @@ returns-clause-right g c =
     told-ok _ _ c.or_memory.result c.verify_told.result c.or_memory.ensures
     (if_ok-map _ _ c.verify_told.result
     (λ told is. files-verify files names _ _ (map_tables vec_items vec_items c.in_ok-bytes.bytes) _ _ (telling_of told) c.in_ok-bytes.ensures.bytes edits certificate
-    (subst (λ x. Tells (IsCertified most_part names.rating names.places x c.as_slice.result.now c.as_slice-2.result.now) TellsVerdict (telling_of told)) c.as_slices.ensures is))
+    (subst (λ x. Tells (IsCertified (most_of names.bits) names.rating names.places x c.as_slice.result.now c.as_slice-2.result.now) (TellsVerdict (most_of names.bits)) (telling_of told)) c.as_slices.ensures is))
     c.verify_told.ensures.tells)
 
 pub returns-in_err-edits-clause-reads : goal.returns-in_err-edits-clause-reads

@@ -56,7 +56,7 @@ returns-in-Ok-Migrate-clause-answers g c =
     let out = c.in-Ok-Migrate.files.out.now in
     let asks = asks-migrate words c.in-Ok-Migrate.field-0 c.in-Ok-Migrate.files c.in-Ok-Migrate.field-0-is c.in-Ok-Migrate.ensures.asked in
     work-ok _ _ c.with_files-in-Ok-Migrate.result c.migrate_file.result (certified (Some out)) (rw c.certified-in-Ok-Migrate.ensures at c.with_files-in-Ok-Migrate.ensures) c.migrate_file.ensures.right
-    (λ work right name. named-by files words work (certified (Some out)) name (migrated c.in-Ok-Migrate.files.certificate.now out asks right))
+    (λ work right name. named-by files words work (certified (Some out)) name (migrated c.in-Ok-Migrate.files.certificate.now out c.in-Ok-Migrate.files.bits asks right))
 
 pub returns-in-Ok-Check-clause-answers : goal.returns-in-Ok-Check-clause-answers
 returns-in-Ok-Check-clause-answers g c =
@@ -137,9 +137,10 @@ returns-in-Ok-Migrate-clause-named g c =
     let words = map string_bytes c.args.words.now in
     let old = c.in-Ok-Migrate.files.certificate.now in
     let out = c.in-Ok-Migrate.files.out.now in
+    let bits = c.in-Ok-Migrate.files.bits in
     let asks = asks-migrate words c.in-Ok-Migrate.field-0 c.in-Ok-Migrate.files c.in-Ok-Migrate.field-0-is c.in-Ok-Migrate.ensures.asked in
     named-ok words c.with_files-in-Ok-Migrate.result c.migrate_file.result (certified (Some out)) (rw c.certified-in-Ok-Migrate.ensures at c.with_files-in-Ok-Migrate.ensures)
-    (certificate-named (NamesToWrite words) (Some out) (λ file is. inr (inr (inl (old, subst (λ o. AsksMigrate words old (unwrap_or o out)) is asks)))))
+    (certificate-named (NamesToWrite words) (Some out) (λ file is. inr (inr (inl (old, bits, subst (λ o. AsksMigrate words old (unwrap_or o out) bits) is asks)))))
 
 pub returns-in-Ok-Factors-clause-named : goal.returns-in-Ok-Factors-clause-named
 returns-in-Ok-Factors-clause-named g c =
