@@ -6,6 +6,7 @@ use command_answers::{Status, clear_told, replay_told};
 use market_data::FactorPlaces;
 use market_tables::{GridTables, MarketTables};
 use net_case::PostRating;
+use number_bits::NumberBits;
 use std::test::Fail;
 
 const CASE: &[u8] = b"function mpc = pjm_five_bus
@@ -168,13 +169,26 @@ fn clears_five_buses(rt: HostRuntime) -> Result<(), Fail> {
         offsets: b"branch,mw\n".as_slice(),
         penalties: b"branch,limit,price,excess\n".as_slice(),
     };
-    let cleared = clear_told(alloc, &bytes, PostRating::C, FactorPlaces::Six)?;
+    let cleared = clear_told(
+        alloc,
+        &bytes,
+        PostRating::C,
+        FactorPlaces::Six,
+        NumberBits::Bits127,
+    )?;
     assert!(rt; tells(cleared, Status::Done, REPORT));
     for (edits, status, text) in [
         (EDITS, Status::Done, REPLAY),
         (NARROW, Status::Infeasible, INFEASIBLE),
     ] {
-        let replayed = replay_told(alloc, &bytes, PostRating::C, FactorPlaces::Six, edits)?;
+        let replayed = replay_told(
+            alloc,
+            &bytes,
+            PostRating::C,
+            FactorPlaces::Six,
+            edits,
+            NumberBits::Bits127,
+        )?;
         assert!(rt; tells(replayed, status, text));
     }
     Ok(())

@@ -7,6 +7,7 @@ use command_answers::{Status, Told, check_told, clear_told, migrate_told, verify
 use market_data::FactorPlaces;
 use market_tables::{GridTables, MarketTables};
 use net_case::PostRating;
+use number_bits::NumberBits;
 use std::test::Fail;
 
 const CASE: &[u8] = b"function mpc = t3
@@ -88,7 +89,13 @@ fn clears_with_nine_places(rt: HostRuntime) -> Result<(), Fail> {
             "refused ptdf Cell line 3 col 3 TooFine\n",
         ),
     ] {
-        let told = clear_told(rt.alloc(), &tables(ptdf), PostRating::C, places)?;
+        let told = clear_told(
+            rt.alloc(),
+            &tables(ptdf),
+            PostRating::C,
+            places,
+            NumberBits::Bits127,
+        )?;
         assert!(rt; tells(told, status, text.as_bytes()));
     }
     Ok(())
@@ -119,6 +126,7 @@ fn verifies_by_places(rt: HostRuntime) -> Result<(), Fail> {
             places,
             edits,
             certificate,
+            NumberBits::Bits127,
         )?;
         assert!(rt; tells(told, status, text.as_bytes()));
     }
@@ -139,7 +147,7 @@ fn writes_certificates_anew(rt: HostRuntime) -> Result<(), Fail> {
         (SECOND, Status::Done, "migrated\n", second),
         ("{\"energy\":\"1/1\"}", Status::Refused, refused, None),
     ] {
-        let told = migrate_told(rt.alloc(), text.as_bytes())?;
+        let told = migrate_told(rt.alloc(), text.as_bytes(), NumberBits::Bits127)?;
         assert!(rt; writes(told, status, line, written));
     }
     Ok(())

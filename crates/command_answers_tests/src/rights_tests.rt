@@ -8,6 +8,7 @@ use command_answers::{Status, rights_told};
 use market_data::FactorPlaces;
 use market_tables::{GridTables, MarketTables};
 use net_case::PostRating;
+use number_bits::NumberBits;
 use std::test::Fail;
 
 /// The case up to RATE_A of branch 2, and from its TAP.
@@ -196,7 +197,14 @@ fn tells_of_rights(rt: HostRuntime) -> Result<(), Fail> {
         let text = format!(in alloc; "{report}{lines}")?;
         let bytes = without_offset(branch, tables(case.as_bytes()));
         let places = FactorPlaces::Six;
-        let told = rights_told(alloc, &bytes, PostRating::C, places, rights.as_bytes())?;
+        let told = rights_told(
+            alloc,
+            &bytes,
+            PostRating::C,
+            places,
+            rights.as_bytes(),
+            NumberBits::Bits127,
+        )?;
         assert!(&rt; told.outputs.certificate.is_none());
         assert!(&rt; tells(told, status, text.as_bytes()), "{records}");
     }

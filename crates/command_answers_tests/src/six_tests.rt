@@ -6,6 +6,7 @@ use command_answers::{Status, clear_told};
 use market_data::FactorPlaces;
 use market_tables::{GridTables, MarketTables};
 use net_case::PostRating;
+use number_bits::NumberBits;
 use std::test::Fail;
 
 const CASE: &[u8] = b"function mpc = six_bus
@@ -105,7 +106,13 @@ fn clears_six_buses_at_a_penalty(rt: HostRuntime) -> Result<(), Fail> {
         offsets: b"branch,mw\n".as_slice(),
         penalties: b"branch,limit,price,excess\n5,post,500,60\n".as_slice(),
     };
-    let told = clear_told(rt.alloc(), &bytes, PostRating::C, FactorPlaces::Six)?;
+    let told = clear_told(
+        rt.alloc(),
+        &bytes,
+        PostRating::C,
+        FactorPlaces::Six,
+        NumberBits::Bits127,
+    )?;
     assert!(rt; tells(told, Status::Done, REPORT));
     Ok(())
 }

@@ -9,6 +9,7 @@ use command_answers::{Status, Told, clear_told, verify_told};
 use market_data::FactorPlaces;
 use market_tables::{GridTables, MarketTables};
 use net_case::PostRating;
+use number_bits::NumberBits;
 use std::alloc::Global;
 use std::process::Abort;
 use std::test::Fail;
@@ -111,7 +112,13 @@ fn cleared(alloc: Global, ratings: &str, records: &str) -> Result<Told, Fail> {
     let case = case(alloc, ratings)?;
     let penalties = penalties(alloc, records)?;
     let bytes = tables(case.as_bytes(), penalties.as_bytes());
-    Ok(clear_told(alloc, &bytes, PostRating::C, FactorPlaces::Six)?)
+    Ok(clear_told(
+        alloc,
+        &bytes,
+        PostRating::C,
+        FactorPlaces::Six,
+        NumberBits::Bits1023,
+    )?)
 }
 
 /// What a verification of a certificate with these ratings and penalties tells.
@@ -127,6 +134,7 @@ fn verified(alloc: Global, ratings: &str, records: &str, certificate: &[u8]) -> 
         FactorPlaces::Six,
         edits,
         certificate,
+        NumberBits::Bits1023,
     )?)
 }
 

@@ -6,6 +6,7 @@ use command_answers::{
 use market_data::FactorPlaces;
 use market_tables::{GridTables, MarketTables};
 use net_case::PostRating;
+use number_bits::NumberBits;
 use std::process::Abort;
 use std::test::Fail;
 
@@ -69,10 +70,23 @@ fn tells_of_each_command(rt: HostRuntime) -> Result<(), Fail> {
     let done = Status::Done;
     let pooled = pool_told(alloc, CASE, OFFERS)?;
     expect(&rt, pooled, done, b"cleared\nwelfare -600\n");
-    let cleared = clear_told(alloc, &bytes, PostRating::C, FactorPlaces::Six)?;
+    let cleared = clear_told(
+        alloc,
+        &bytes,
+        PostRating::C,
+        FactorPlaces::Six,
+        NumberBits::Bits127,
+    )?;
     assert!(rt; cleared.outputs.certificate.is_some());
     expect(&rt, cleared, done, b"cleared\nwelfare -800\n");
-    let replayed = replay_told(alloc, &bytes, PostRating::C, FactorPlaces::Six, edits)?;
+    let replayed = replay_told(
+        alloc,
+        &bytes,
+        PostRating::C,
+        FactorPlaces::Six,
+        edits,
+        NumberBits::Bits127,
+    )?;
     expect(&rt, replayed, done, b"step 1 clear\ncleared\n");
     let verified = verify_told(
         alloc,
@@ -81,6 +95,7 @@ fn tells_of_each_command(rt: HostRuntime) -> Result<(), Fail> {
         FactorPlaces::Six,
         edits,
         CERTIFICATE,
+        NumberBits::Bits127,
     )?;
     expect(&rt, verified, done, b"yes\n");
     expect(
@@ -159,6 +174,7 @@ fn refuses_certificates(rt: HostRuntime) -> Result<(), Fail> {
             FactorPlaces::Six,
             edits,
             certificate.as_bytes(),
+            NumberBits::Bits127,
         )?;
         expect(&rt, told, *status, text.as_bytes());
     }

@@ -8,6 +8,7 @@ use command_answers::{Status, clear_told, replay_told, verify_told};
 use market_data::FactorPlaces;
 use market_tables::{GridTables, MarketTables};
 use net_case::PostRating;
+use number_bits::NumberBits;
 use std::alloc::Global;
 use std::process::Abort;
 use std::test::Fail;
@@ -163,7 +164,13 @@ impl Texts {
 /// Clears, and verifies the certificate.
 fn clears<R: Abort + AllocGlobal>(rt: &R, texts: &Texts, text: &str) -> Result<(), Fail> {
     let bytes = texts.tables();
-    let told = clear_told(rt.alloc(), &bytes, PostRating::C, FactorPlaces::Six)?;
+    let told = clear_told(
+        rt.alloc(),
+        &bytes,
+        PostRating::C,
+        FactorPlaces::Six,
+        NumberBits::Bits127,
+    )?;
     let certificate = told.outputs.certificate.as_deref();
     let certificate = certificate.unwrap_or(b"".as_slice());
     verifies(rt, texts, certificate, Status::Done, "yes\n")?;
@@ -237,6 +244,7 @@ fn verifies<R: Abort + AllocGlobal>(
         FactorPlaces::Six,
         edits,
         certificate,
+        NumberBits::Bits127,
     )?;
     assert!(rt; tells(verdict, status, text.as_bytes()));
     Ok(())
@@ -263,6 +271,7 @@ fn replays<R: Abort + AllocGlobal>(rt: &R, texts: &Texts) -> Result<(), Fail> {
         PostRating::C,
         FactorPlaces::Six,
         edits,
+        NumberBits::Bits127,
     )?;
     assert!(rt; tells(replayed, Status::Done, FEWER.as_bytes()));
     Ok(())
@@ -283,6 +292,7 @@ fn refuses_shares(rt: HostRuntime) -> Result<(), Fail> {
         &short.tables(),
         PostRating::C,
         FactorPlaces::Six,
+        NumberBits::Bits127,
     )?;
     assert!(rt; tells(told, Status::Refused, line.as_bytes()));
     Ok(())

@@ -9,6 +9,7 @@ use command_answers::{Status, clear_told, replay_told, verify_told};
 use market_data::FactorPlaces;
 use market_tables::{GridTables, MarketTables};
 use net_case::PostRating;
+use number_bits::NumberBits;
 use std::process::Abort;
 use std::test::Fail;
 
@@ -176,6 +177,7 @@ fn verifies<R: Abort + AllocGlobal>(
         FactorPlaces::Six,
         edits,
         certificate,
+        NumberBits::Bits1023,
     )?;
     assert!(rt; tells(verdict, want.0, want.1.as_bytes()));
     Ok(())
@@ -188,7 +190,13 @@ fn clears<R: Abort + AllocGlobal>(
     want: (Status, &str),
     certificate: Option<&str>,
 ) -> Result<(), Fail> {
-    let told = clear_told(rt.alloc(), tables, PostRating::C, FactorPlaces::Six)?;
+    let told = clear_told(
+        rt.alloc(),
+        tables,
+        PostRating::C,
+        FactorPlaces::Six,
+        NumberBits::Bits127,
+    )?;
     let written = told.outputs.certificate.as_deref();
     let written = written.unwrap_or(b"".as_slice());
     let is_wanted = match certificate {
@@ -221,6 +229,7 @@ fn replays_the_need(rt: HostRuntime) -> Result<(), Fail> {
         PostRating::C,
         FactorPlaces::Six,
         edits,
+        NumberBits::Bits127,
     )?;
     assert!(rt; tells(replayed, Status::Refused, RAISED_AND_LET_DOWN.as_bytes()));
     Ok(())
@@ -324,7 +333,14 @@ fn clears_at_the_edges(rt: HostRuntime) -> Result<(), Fail> {
 fn keeps_a_room(rt: HostRuntime) -> Result<(), Fail> {
     let edits = b"op,target,side,block,value\nclear,,,,\nneed,,,,0\nclear,,,,\n";
     let tables = buying();
-    let replayed = replay_told(rt.alloc(), &tables, PostRating::C, FactorPlaces::Six, edits)?;
+    let replayed = replay_told(
+        rt.alloc(),
+        &tables,
+        PostRating::C,
+        FactorPlaces::Six,
+        edits,
+        NumberBits::Bits127,
+    )?;
     let written = replayed.outputs.certificate.as_deref();
     let written = written.unwrap_or(b"".as_slice());
     verifies(&rt, &tables, edits, written, (Status::Done, "yes\n"))?;
