@@ -24,34 +24,34 @@ fn told(alloc: Global, line: &str) -> Result<String, Fail> {
     Ok(String::from_str(alloc, first)?)
 }
 
-const TABLE: [(&str, &str); 48] = [
+const TABLE: [(&str, &str); 50] = [
     (
         "sced pool --case n.m --offers o.csv",
         "Pool(PoolFiles { case: \"n.m\", offers: \"o.csv\" })",
     ),
     (
-        "sced clear --case n.m --ptdf p --offers o --lodf l --contingencies k --unit-outages u --reserves v --offsets s --penalties w --post-rating b --factor-places 9",
-        "Clear(ClearFiles { market: MarketFiles { tables: MarketTables { grid: GridTables { case: \"n.m\", ptdf: \"p\", lodf: Some(\"l\"), contingencies: Some(\"k\") }, unit_outages: Some(\"u\"), offers: \"o\", reserves: Some(\"v\"), offsets: Some(\"s\"), penalties: Some(\"w\") }, rating: B, places: Nine }, certificate: None })",
+        "sced clear --case n.m --ptdf p --offers o --lodf l --contingencies k --unit-outages u --reserves v --offsets s --penalties w --post-rating b --factor-places 9 --number-bits 1023",
+        "Clear(ClearFiles { market: MarketFiles { tables: MarketTables { grid: GridTables { case: \"n.m\", ptdf: \"p\", lodf: Some(\"l\"), contingencies: Some(\"k\") }, unit_outages: Some(\"u\"), offers: \"o\", reserves: Some(\"v\"), offsets: Some(\"s\"), penalties: Some(\"w\") }, rating: B, places: Nine, bits: Bits1023 }, certificate: None })",
     ),
     (
         "sced clear --post-rating=a --offers=o --ptdf=p --case=n.m",
-        "Clear(ClearFiles { market: MarketFiles { tables: MarketTables { grid: GridTables { case: \"n.m\", ptdf: \"p\", lodf: None, contingencies: None }, unit_outages: None, offers: \"o\", reserves: None, offsets: None, penalties: None }, rating: A, places: Six }, certificate: None })",
+        "Clear(ClearFiles { market: MarketFiles { tables: MarketTables { grid: GridTables { case: \"n.m\", ptdf: \"p\", lodf: None, contingencies: None }, unit_outages: None, offers: \"o\", reserves: None, offsets: None, penalties: None }, rating: A, places: Six, bits: Bits127 }, certificate: None })",
     ),
     (
         "sced clear --case n.m --ptdf p --offers o --certificate x",
-        "Clear(ClearFiles { market: MarketFiles { tables: MarketTables { grid: GridTables { case: \"n.m\", ptdf: \"p\", lodf: None, contingencies: None }, unit_outages: None, offers: \"o\", reserves: None, offsets: None, penalties: None }, rating: C, places: Six }, certificate: Some(\"x\") })",
+        "Clear(ClearFiles { market: MarketFiles { tables: MarketTables { grid: GridTables { case: \"n.m\", ptdf: \"p\", lodf: None, contingencies: None }, unit_outages: None, offers: \"o\", reserves: None, offsets: None, penalties: None }, rating: C, places: Six, bits: Bits127 }, certificate: Some(\"x\") })",
     ),
     (
         "sced replay --case n.m --ptdf p --offers o --reserves v --edits e --certificate x --lodf l",
-        "Replay(ReplayFiles { market: MarketFiles { tables: MarketTables { grid: GridTables { case: \"n.m\", ptdf: \"p\", lodf: Some(\"l\"), contingencies: None }, unit_outages: None, offers: \"o\", reserves: Some(\"v\"), offsets: None, penalties: None }, rating: C, places: Six }, edits: \"e\", certificate: Some(\"x\") })",
+        "Replay(ReplayFiles { market: MarketFiles { tables: MarketTables { grid: GridTables { case: \"n.m\", ptdf: \"p\", lodf: Some(\"l\"), contingencies: None }, unit_outages: None, offers: \"o\", reserves: Some(\"v\"), offsets: None, penalties: None }, rating: C, places: Six, bits: Bits127 }, edits: \"e\", certificate: Some(\"x\") })",
     ),
     (
         "sced verify --case n.m --ptdf p --offers o --reserves=v --certificate x --post-rating b",
-        "Verify(VerifyFiles { market: MarketFiles { tables: MarketTables { grid: GridTables { case: \"n.m\", ptdf: \"p\", lodf: None, contingencies: None }, unit_outages: None, offers: \"o\", reserves: Some(\"v\"), offsets: None, penalties: None }, rating: B, places: Six }, edits: None, certificate: \"x\" })",
+        "Verify(VerifyFiles { market: MarketFiles { tables: MarketTables { grid: GridTables { case: \"n.m\", ptdf: \"p\", lodf: None, contingencies: None }, unit_outages: None, offers: \"o\", reserves: Some(\"v\"), offsets: None, penalties: None }, rating: B, places: Six, bits: Bits127 }, edits: None, certificate: \"x\" })",
     ),
     (
         "sced verify --case n.m --ptdf p --offers o --certificate x --edits e",
-        "Verify(VerifyFiles { market: MarketFiles { tables: MarketTables { grid: GridTables { case: \"n.m\", ptdf: \"p\", lodf: None, contingencies: None }, unit_outages: None, offers: \"o\", reserves: None, offsets: None, penalties: None }, rating: C, places: Six }, edits: Some(\"e\"), certificate: \"x\" })",
+        "Verify(VerifyFiles { market: MarketFiles { tables: MarketTables { grid: GridTables { case: \"n.m\", ptdf: \"p\", lodf: None, contingencies: None }, unit_outages: None, offers: \"o\", reserves: None, offsets: None, penalties: None }, rating: C, places: Six, bits: Bits127 }, edits: Some(\"e\"), certificate: \"x\" })",
     ),
     (
         "sced check --case n.m --ptdf p --lodf l",
@@ -63,11 +63,19 @@ const TABLE: [(&str, &str); 48] = [
     ),
     (
         "sced rights --case n.m --ptdf p --offers o --reserves v --rights r",
-        "Rights(RightsFiles { market: MarketFiles { tables: MarketTables { grid: GridTables { case: \"n.m\", ptdf: \"p\", lodf: None, contingencies: None }, unit_outages: None, offers: \"o\", reserves: Some(\"v\"), offsets: None, penalties: None }, rating: C, places: Six }, rights: \"r\" })",
+        "Rights(RightsFiles { market: MarketFiles { tables: MarketTables { grid: GridTables { case: \"n.m\", ptdf: \"p\", lodf: None, contingencies: None }, unit_outages: None, offers: \"o\", reserves: Some(\"v\"), offsets: None, penalties: None }, rating: C, places: Six, bits: Bits127 }, rights: \"r\" })",
     ),
     (
         "sced migrate --certificate a --out b",
-        "Migrate(MigrateFiles { certificate: \"a\", out: \"b\" })",
+        "Migrate(MigrateFiles { certificate: \"a\", out: \"b\", bits: Bits127 })",
+    ),
+    (
+        "sced migrate --number-bits=1023 --certificate a --out b",
+        "Migrate(MigrateFiles { certificate: \"a\", out: \"b\", bits: Bits1023 })",
+    ),
+    (
+        "sced verify --case n.m --ptdf p --offers o --certificate x --number-bits 128",
+        "error: invalid value '128' for '--number-bits <BITS>'",
     ),
     (
         "sced factors --case n.m --ptdf-out p",
