@@ -1,5 +1,5 @@
 -- What is told by numbers within a bound is told by those within a greater one, where no two became too large.
-use Rattle.std.proofs.Common.{◌≡◌, ◌≢◌, ◌≤◌, ◌∙◌, ℕ, List, [], ◌∷◌, All, Option, Some, None, IfSome, arith, refl, sym, ap, subst, zero, suc}
+use Rattle.std.proofs.Common.{◌≡◌, ◌≢◌, ◌≤◌, ◌⊎◌, ◌∙◌, inl, inr, lit≤, ℕ, List, [], ◌∷◌, All, Option, Some, None, IfSome, arith, refl, sym, ap, subst, zero, suc}
 use Rattle.std.proofs.lemmas.List.Elements.{All-cons, All-nil, All-tail}
 use Rattle.fraction_theory.specs.Fraction.{Fraction}
 use Rattle.market_model.specs.declared.answered.Outcome.{Outcome}
@@ -28,6 +28,19 @@ use Rattle.command_answers.specs.Tellings.{Telling}
 use Rattle.command_answers.specs.declared.status.Status.TheVariants as status
 use Rattle.command_answers.proofs.ReplayLemmas.{are_decided}
 use Rattle.report_text.specs.Reports.{report_text}
+use Rattle.number_bits.specs.Bits.{most_of}
+use Rattle.number_bits.specs.declared.NumberBits.{NumberBits}
+use Rattle.number_bits.specs.declared.NumberBits.TheVariants.{Bits127, Bits1023}
+
+-- ---- the two widths
+pub narrow-wide : most_of Bits127 ≤ most_of Bits1023
+narrow-wide = lit≤ tt
+
+-- what holds by 127 bits, and by 1,023 where something more is so, holds by those that were asked for, where it is by 127 or that is so
+pub by-bits : (bits : NumberBits) (P : ℕ → Type 0) (A : Type 0) → P (most_of Bits127) → (A → P (most_of Bits1023)) → (bits ≡ Bits127) ⊎ A → P (most_of bits)
+by-bits Bits127 P A narrow wide h = narrow
+by-bits Bits1023 P A narrow wide (inl is) = cc is
+by-bits Bits1023 P A narrow wide (inr a) = wide a
 
 module _ (less bound : ℕ) (wide : less ≤ bound) where
   some-wider : (c : Option (Cert Fraction)) → IfSome c (NumbersFit less) → IfSome c (NumbersFit bound)

@@ -11,8 +11,13 @@ pub(crate) fn is_made_anew(bits: NumberBits, status: Status) -> bool
     ensures anew { result ≡ true → bits ≡ NumberBits.Bits1023 }
     ensures kept { result ≡ false → (bits ≡ NumberBits.Bits127) ⊎ (status ≢ Status.Range) }
 {
-    match (bits, status) {
-        (NumberBits::Bits1023, Status::Range) => true,
-        _ => false,
-    }
+    bits == NumberBits::Bits1023 && status == Status::Range
+}
+
+/// Whether a replay by numbers of 127 bits, in which a clear passed them or not, is to be made anew as a whole by numbers of 1,023 bits.
+pub(crate) fn is_replayed_anew(bits: NumberBits, is_passed: bool) -> bool
+    ensures anew { result ≡ true → bits ≡ NumberBits.Bits1023 }
+    ensures kept { result ≡ false → (bits ≡ NumberBits.Bits127) ⊎ (is_passed ≡ false) }
+{
+    bits == NumberBits::Bits1023 && is_passed
 }

@@ -19,6 +19,7 @@ ghost use Rattle.command_answers.specs.Status.{IsOfWork};
 ghost use Rattle.command_answers.specs.Tellings.{Tells, telling_of};
 ghost use Rattle.number_bits.specs.Bits.{most_of};
 
+use crate::anew::is_replayed_anew;
 use crate::clearing::clear_status;
 use crate::status::Status;
 use crate::told::{Outputs, Told, refused};
@@ -241,11 +242,10 @@ pub fn replay_told(
     ensures tells { IfOk result (λ told. Tells (IsReplayed rating places (tables_lent bytes.now) edits.now) (TellsReplay (most_of bits)) (telling_of told)) }
 {
     let made = replay_by::<Frac>(alloc, bytes, rating, places, edits)?;
-    match (bits, made.is_passed) {
-        (NumberBits::Bits1023, true) => {
-            let anew = replay_by::<Frac1023>(alloc, bytes, rating, places, edits)?;
-            Ok(anew.told)
-        }
-        _ => Ok(made.told),
+    if is_replayed_anew(bits, made.is_passed) {
+        let anew = replay_by::<Frac1023>(alloc, bytes, rating, places, edits)?;
+        Ok(anew.told)
+    } else {
+        Ok(made.told)
     }
 }
