@@ -11,7 +11,7 @@ use Rattle.clap.specs.Walk.{Row, Rule, Text, answers_to, nothing_held, rows_afte
 use Rattle.clap.specs.Words.{fault_of, first_of}
 use Rattle.clap.specs.declared.builder.value_parser.ValueParser.TheVariants.{Names, Signed}
 use Rattle.clap.proofs.OnLiterals.{clap_on_literals}
-use Rattle.command_words.specs.Words.{AreGiven, Enters, choice_rule, file_rule, is_fault, place_words, rating_words, refuses, sced_app, sced_app_over, size_words, spelled, table_rule, value_rule}
+use Rattle.command_words.specs.Words.{AreGiven, Enters, bits_words, choice_rule, file_rule, is_fault, place_words, rating_words, refuses, sced_app, sced_app_over, size_words, spelled, table_rule, value_rule}
 use Rattle.command_words.proofs.GivenLemmas.{Among, Each, IsGiven, TakesOne, both-none, each-in, found-in, required-given}
 use Rattle.command_words.proofs.WordsLemmas.{nine_built, subs-are}
 
@@ -114,10 +114,13 @@ pool_rules = file (codes "case") ∷ file (codes "offers") ∷ filled help_rule 
 abbrev places_rule : Rule
 places_rule = filled (choice_rule (codes "factor-places") (spelled place_words))
 
+abbrev bits_rule : Rule
+bits_rule = filled (choice_rule (codes "number-bits") (spelled bits_words))
+
 abbrev market_rules : List Rule → List Rule
 market_rules more = file (codes "case") ∷ file (codes "ptdf") ∷ file (codes "offers") ∷ table (codes "lodf") ∷ table (codes "contingencies")
     ∷ table (codes "unit-outages") ∷ table (codes "reserves") ∷ table (codes "offsets") ∷ table (codes "penalties")
-    ∷ filled (choice_rule (codes "post-rating") (spelled rating_words)) ∷ places_rule ∷ more
+    ∷ filled (choice_rule (codes "post-rating") (spelled rating_words)) ∷ places_rule ∷ bits_rule ∷ more
 
 abbrev clear_rules : List Rule
 clear_rules = market_rules (table (codes "certificate") ∷ filled help_rule ∷ [])
@@ -138,7 +141,7 @@ abbrev factors_rules : List Rule
 factors_rules = file (codes "case") ∷ file (codes "ptdf-out") ∷ table (codes "lodf-out") ∷ table (codes "contingencies") ∷ places_rule ∷ filled help_rule ∷ []
 
 abbrev migrate_rules : List Rule
-migrate_rules = file (codes "certificate") ∷ file (codes "out") ∷ filled help_rule ∷ []
+migrate_rules = file (codes "certificate") ∷ file (codes "out") ∷ bits_rule ∷ filled help_rule ∷ []
 
 abbrev pub size_rule : Rule
 size_rule = with_index 1 (filled (value_rule (codes "N") (Names (spelled size_words))))
@@ -187,7 +190,7 @@ make-has = refl
 
 market-ones : (more : List Rule) → Each TakesOne more → Each TakesOne (market_rules more)
 market-ones more ones =
-    (one-value, (one-value, (one-value, (one-value, (one-value, (one-value, (one-value, (one-value, (one-value, (one-value, (one-value, ones)))))))))))
+    (one-value, (one-value, (one-value, (one-value, (one-value, (one-value, (one-value, (one-value, (one-value, (one-value, (one-value, (one-value, ones))))))))))))
 
 check-ones : Each TakesOne check_rules
 check-ones = (one-value, (one-value, (one-value, (one-value, (one-value, (one-help, tt))))))
@@ -210,7 +213,7 @@ pool-given words rows enters =
 
 -- an option that comes behind those of a market
 behind-market : (name : Text) (more : List Rule) → Among (λ b. b ≡ file name) more → Among (λ b. b ≡ file name) (market_rules more)
-behind-market name more among = inr (inr (inr (inr (inr (inr (inr (inr (inr (inr (inr among))))))))))
+behind-market name more among = inr (inr (inr (inr (inr (inr (inr (inr (inr (inr (inr (inr among)))))))))))
 
 pub clear-given : (words : List Text) (rows : List Row) → Enters words (codes "clear") rows → AreGiven (codes "case" ∷ codes "ptdf" ∷ codes "offers" ∷ []) rows
 clear-given words rows enters =
@@ -245,7 +248,7 @@ rights-given words rows enters =
 
 pub migrate-given : (words : List Text) (rows : List Row) → Enters words (codes "migrate") rows → AreGiven (codes "certificate" ∷ codes "out" ∷ []) rows
 migrate-given words rows enters =
-    let ones : Each TakesOne migrate_rules = (one-value, (one-value, (one-help, tt))) in
+    let ones : Each TakesOne migrate_rules = (one-value, (one-value, (one-value, (one-help, tt)))) in
     let given : (a : Rule) → Among (λ b. b ≡ a) migrate_rules → a.required ≡ true → is_some (first_of a.id rows) ≡ true =
     λ a among required. is-some migrate_rules a.id rows (leaf-given words (codes "migrate") rows migrate_rules a migrate-has ones enters among required) in
     (given (file (codes "certificate")) (inl refl) refl, (given (file (codes "out")) (inr (inl refl)) refl, tt))

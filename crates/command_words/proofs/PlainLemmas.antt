@@ -20,7 +20,7 @@ use Rattle.clap.specs.declared.builder.value_parser.ValueParser.TheVariants as v
 use Rattle.clap.specs.declared.error.kind.ErrorKind.TheVariants as kind
 use Rattle.clap.proofs.WalkLemmas.{find-map, list_any-map}
 use Rattle.clap.proofs.OnLiterals.{clap_on_literals}
-use Rattle.command_words.specs.Words.{NameList, Spells, place_words, rating_words, sced_app, sced_app_over, size_words, spelled}
+use Rattle.command_words.specs.Words.{NameList, Spells, bits_words, place_words, rating_words, sced_app, sced_app_over, size_words, spelled}
 
 abbrev pub plain_text : Bor Text → Bor Text
 plain_text s = record { ref_ptr = (0, 0); now = s.now }
@@ -462,38 +462,38 @@ texts-plain (x ∷ xs) = ap (λ ys. plain_text x ∷ ys) (texts-plain xs)
 lists-plain : (n : NameList) (ts : List Text) → Spells n ts → plain_list n ≡ spelled ts
 lists-plain n ts h = ap (λ (xs : List (Bor Text)). record { ref_ptr = (0, 0); now = xs }) (texts-plain n.now) ∙ ap spelled h
 
-moved : (sizes ratings places : NameList) → plain_app (built (sced_app_over sizes ratings places)) ≡ built (sced_app_over (plain_list sizes) (plain_list ratings) (plain_list places))
+moved : (sizes ratings places bits : NameList) → plain_app (built (sced_app_over sizes ratings places bits)) ≡ built (sced_app_over (plain_list sizes) (plain_list ratings) (plain_list places) (plain_list bits))
 unfolding clap_on_literals sced_app_over
-moved sizes ratings places = refl
+moved sizes ratings places bits = refl
 
-plain-sced : (sizes ratings places : NameList) → Spells sizes size_words → Spells ratings rating_words → Spells places place_words → plain_app (built (sced_app_over sizes ratings places)) ≡ built sced_app
+plain-sced : (sizes ratings places bits : NameList) → Spells sizes size_words → Spells ratings rating_words → Spells places place_words → Spells bits bits_words → plain_app (built (sced_app_over sizes ratings places bits)) ≡ built sced_app
 unfolding sced_app
-plain-sced sizes ratings places s r p = moved sizes ratings places ∙ ap₂ (λ (x y : NameList). built (sced_app_over x y (plain_list places))) (lists-plain sizes size_words s) (lists-plain ratings rating_words r)
-    ∙ ap (λ (x : NameList). built (sced_app_over (spelled size_words) (spelled rating_words) x)) (lists-plain places place_words p)
+plain-sced sizes ratings places bits s r p q = moved sizes ratings places bits ∙ ap₂ (λ (x y : NameList). built (sced_app_over x y (plain_list places) (plain_list bits))) (lists-plain sizes size_words s) (lists-plain ratings rating_words r)
+    ∙ ap₂ (λ (x y : NameList). built (sced_app_over (spelled size_words) (spelled rating_words) x y)) (lists-plain places place_words p) (lists-plain bits bits_words q)
 
-args-at : (sizes ratings places : NameList) (words : List Text) → argument_words (sced_app_over sizes ratings places) words ≡ drop 1 words
+args-at : (sizes ratings places bits : NameList) (words : List Text) → argument_words (sced_app_over sizes ratings places bits) words ≡ drop 1 words
 unfolding sced_app_over
-args-at sizes ratings places words = refl
+args-at sizes ratings places bits words = refl
 
 args-sced : (words : List Text) → argument_words sced_app words ≡ drop 1 words
 unfolding sced_app
-args-sced words = args-at (spelled size_words) (spelled rating_words) (spelled place_words) words
+args-sced words = args-at (spelled size_words) (spelled rating_words) (spelled place_words) (spelled bits_words) words
 
--- the command refuses the same words wherever its lists of the sizes, of the ratings and of the places lie
-pub fault-anywhere : (sizes ratings places : NameList) (words : List Text) → Spells sizes size_words → Spells ratings rating_words → Spells places place_words
-    → fault_of (sced_app_over sizes ratings places) words ≡ fault_of sced_app words
-fault-anywhere sizes ratings places words s r p =
-    ap (built_fault (built (sced_app_over sizes ratings places)) nothing_held) (args-at sizes ratings places words)
-    ∙ sym (built-plain (built (sced_app_over sizes ratings places)) nothing_held (drop 1 words))
-    ∙ ap (λ (x : App). built_fault x nothing_held (drop 1 words)) (plain-sced sizes ratings places s r p)
+-- the command refuses the same words wherever its lists of the sizes, of the ratings, of the places and of the bits lie
+pub fault-anywhere : (sizes ratings places bits : NameList) (words : List Text) → Spells sizes size_words → Spells ratings rating_words → Spells places place_words → Spells bits bits_words
+    → fault_of (sced_app_over sizes ratings places bits) words ≡ fault_of sced_app words
+fault-anywhere sizes ratings places bits words s r p q =
+    ap (built_fault (built (sced_app_over sizes ratings places bits)) nothing_held) (args-at sizes ratings places bits words)
+    ∙ sym (built-plain (built (sced_app_over sizes ratings places bits)) nothing_held (drop 1 words))
+    ∙ ap (λ (x : App). built_fault x nothing_held (drop 1 words)) (plain-sced sizes ratings places bits s r p q)
     ∙ sym (ap (built_fault (built sced_app) nothing_held) (args-sced words))
 
 -- and reads the same in them
-pub entered-anywhere : (sizes ratings places : NameList) (words : List Text) → Spells sizes size_words → Spells ratings rating_words → Spells places place_words
-    → subcommand_of (sced_app_over sizes ratings places) words ≡ subcommand_of sced_app words
-entered-anywhere sizes ratings places words s r p =
-    let b : App = built (sced_app_over sizes ratings places) in
-    ap (λ ws. entered b (stop_after b.top.rules (names_of b) ws)) (args-at sizes ratings places words)
+pub entered-anywhere : (sizes ratings places bits : NameList) (words : List Text) → Spells sizes size_words → Spells ratings rating_words → Spells places place_words → Spells bits bits_words
+    → subcommand_of (sced_app_over sizes ratings places bits) words ≡ subcommand_of sced_app words
+entered-anywhere sizes ratings places bits words s r p q =
+    let b : App = built (sced_app_over sizes ratings places bits) in
+    ap (λ ws. entered b (stop_after b.top.rules (names_of b) ws)) (args-at sizes ratings places bits words)
     ∙ sym (enters-plain b (drop 1 words))
-    ∙ ap (λ (x : App). entered x (stop_after x.top.rules (names_of x) (drop 1 words))) (plain-sced sizes ratings places s r p)
+    ∙ ap (λ (x : App). entered x (stop_after x.top.rules (names_of x) (drop 1 words))) (plain-sced sizes ratings places bits s r p q)
     ∙ sym (ap (λ ws. entered (built sced_app) (stop_after (built sced_app).top.rules (names_of (built sced_app)) ws)) (args-sced words))

@@ -39,7 +39,7 @@ asks-factors words r files is asks = subst (Asks words) is asks
 pub asks-rights : (words : List Text) (r : Request) (files : RightsFiles) → r ≡ request.Rights files → Asks words r → AsksRights words (names_of_market files.market) files.rights.now
 asks-rights words r files is asks = subst (Asks words) is asks
 
-pub asks-migrate : (words : List Text) (r : Request) (files : MigrateFiles) → r ≡ request.Migrate files → Asks words r → AsksMigrate words files.certificate.now files.out.now
+pub asks-migrate : (words : List Text) (r : Request) (files : MigrateFiles) → r ≡ request.Migrate files → Asks words r → AsksMigrate words files.certificate.now files.out.now files.bits
 asks-migrate words r files is asks = subst (Asks words) is asks
 
 pub asks-make : (words : List Text) (r : Request) (ring : RingWords) → r ≡ request.Make ring → Asks words r → AsksMake words ring.buses ring.seed

@@ -3,22 +3,31 @@ use Rattle.std.proofs.Common.{◌≡◌, refl, true, false, codes, List, [], ◌
 use Rattle.std.proofs.Common.{ℕ}
 use Rattle.clap.specs.Words.{Row, Text, one_of, subcommand_of}
 use Rattle.clap.proofs.OnLiterals.{clap_on_literals}
-use Rattle.command_words.specs.Words.{FactorNames, MarketNames, factor_names, market_names, refuses, sced_app, sced_app_over, size_of}
+use Rattle.command_words.specs.Words.{FactorNames, MarketNames, bits_of, factor_names, market_names, refuses, sced_app, sced_app_over, size_of}
 use Rattle.market_data.specs.declared.scales.FactorPlaces.TheVariants as factor_places
 use Rattle.net_case.specs.declared.live_parts.PostRating.TheVariants as post
+use Rattle.number_bits.specs.declared.NumberBits.{NumberBits}
+use Rattle.number_bits.specs.declared.NumberBits.TheVariants as number_bits
 
 -- the words of a clear that names what it must
 abbrev least : List Text
 least = codes "sced" ∷ codes "clear" ∷ codes "--case" ∷ codes "n.m" ∷ codes "--ptdf" ∷ codes "p" ∷ codes "--offers=o" ∷ []
 
 abbrev by_b : List Text
-by_b = least ++ codes "--lodf" ∷ codes "l" ∷ codes "--contingencies" ∷ codes "k" ∷ codes "--unit-outages" ∷ codes "u" ∷ codes "--reserves" ∷ codes "v" ∷ codes "--offsets" ∷ codes "s" ∷ codes "--penalties" ∷ codes "w" ∷ codes "--post-rating" ∷ codes "b" ∷ codes "--factor-places" ∷ codes "9" ∷ []
+by_b = least ++ codes "--lodf" ∷ codes "l" ∷ codes "--contingencies" ∷ codes "k" ∷ codes "--unit-outages" ∷ codes "u" ∷ codes "--reserves" ∷ codes "v" ∷ codes "--offsets" ∷ codes "s" ∷ codes "--penalties" ∷ codes "w" ∷ codes "--post-rating" ∷ codes "b" ∷ codes "--factor-places" ∷ codes "9" ∷ codes "--number-bits" ∷ codes "1023" ∷ []
 
 abbrev by_d : List Text
 by_d = least ++ codes "--post-rating" ∷ codes "d" ∷ []
 
 abbrev seven_places : List Text
 seven_places = least ++ codes "--factor-places" ∷ codes "7" ∷ []
+
+-- a number of bits that is none of the two, and one of the two
+abbrev by_128_bits : List Text
+by_128_bits = codes "--number-bits" ∷ codes "128" ∷ []
+
+abbrev by_127_bits : List Text
+by_127_bits = codes "--number-bits" ∷ codes "127" ∷ []
 
 abbrev no_rights : List Text
 no_rights = codes "sced" ∷ codes "rights" ∷ codes "--case" ∷ codes "n.m" ∷ codes "--ptdf" ∷ codes "p" ∷ codes "--offers=o" ∷ []
@@ -70,6 +79,7 @@ least-named : named_by least
       tables = record { grid = record { case = codes "n.m"; ptdf = codes "p"; lodf = None; contingencies = None }; unit_outages = None; offers = codes "o"; reserves = None; offsets = None; penalties = None };
       rating = post.C;
       places = factor_places.Six;
+      bits = number_bits.Bits127;
     })
 unfolding clap_on_literals sced_app sced_app_over
 least-named = refl
@@ -83,6 +93,7 @@ by_b-named : named_by by_b
       tables = record { grid = record { case = codes "n.m"; ptdf = codes "p"; lodf = Some (codes "l"); contingencies = Some (codes "k") }; unit_outages = Some (codes "u"); offers = codes "o"; reserves = Some (codes "v"); offsets = Some (codes "s"); penalties = Some (codes "w") };
       rating = post.B;
       places = factor_places.Nine;
+      bits = number_bits.Bits1023;
     })
 unfolding clap_on_literals sced_app sced_app_over
 by_b-named = refl
@@ -94,6 +105,14 @@ by_d-refused = refl
 seven_places-refused : refuses seven_places ≡ true
 unfolding clap_on_literals refuses sced_app sced_app_over
 seven_places-refused = refl
+
+by_128_bits-refused : refuses (least ++ by_128_bits) ≡ true
+unfolding clap_on_literals refuses sced_app sced_app_over
+by_128_bits-refused = refl
+
+by_127_bits-taken : refuses (least ++ by_127_bits) ≡ false
+unfolding clap_on_literals refuses sced_app sced_app_over
+by_127_bits-taken = refl
 
 no_rights-refused : refuses no_rights ≡ true
 unfolding clap_on_literals refuses sced_app sced_app_over
@@ -114,6 +133,22 @@ no_out-refused = refl
 out-taken : refuses (no_out ++ codes "--out" ∷ codes "y" ∷ []) ≡ false
 unfolding clap_on_literals refuses sced_app sced_app_over
 out-taken = refl
+
+-- how many bits the options of `migrate` tell
+abbrev bits_by : List Text → Option NumberBits
+bits_by words = option_map (λ (entry : Text × List Row). bits_of entry.1) (subcommand_of sced_app words)
+
+out-by_127 : bits_by (no_out ++ codes "--out" ∷ codes "y" ∷ []) ≡ Some number_bits.Bits127
+unfolding clap_on_literals sced_app sced_app_over
+out-by_127 = refl
+
+out-by_1023 : bits_by (no_out ++ codes "--out" ∷ codes "y" ∷ codes "--number-bits" ∷ codes "1023" ∷ []) ≡ Some number_bits.Bits1023
+unfolding clap_on_literals sced_app sced_app_over
+out-by_1023 = refl
+
+out-refuses_128 : refuses (no_out ++ codes "--out" ∷ codes "y" ∷ by_128_bits) ≡ true
+unfolding clap_on_literals refuses sced_app sced_app_over
+out-refuses_128 = refl
 
 no_ptdf_out-refused : refuses no_ptdf_out ≡ true
 unfolding clap_on_literals refuses sced_app sced_app_over

@@ -15,27 +15,28 @@ use Rattle.clap.specs.declared.error.Error.{Error}
 use Rattle.clap.specs.declared.error.kind.ErrorKind.{ErrorKind}
 use Rattle.clap.specs.declared.error.kind.ErrorKind.TheVariants as kind
 use Rattle.clap.proofs.OnLiterals.{clap_on_literals}
-use Rattle.command_words.specs.Words.{AsksCheck, AsksClear, AsksFactors, AsksMake, AsksMigrate, AsksPool, AsksReplay, AsksRights, AsksVerify, CheckNames, Enters, FactorNames, MarketNames, NameList, Spells, Writes, check_app, check_names, clear_app, factor_names, factors_app, file_of, is_fault, make_app, market_names, migrate_app, place_words, pool_app, rating_words, refuses, replay_app, rights_app, sced_app, sced_app_over, size_words, spelled, verify_app}
+use Rattle.command_words.specs.Words.{AsksCheck, AsksClear, AsksFactors, AsksMake, AsksMigrate, AsksPool, AsksReplay, AsksRights, AsksVerify, CheckNames, Enters, FactorNames, MarketNames, NameList, Spells, Writes, bits_of, bits_words, check_app, check_names, clear_app, factor_names, factors_app, file_of, is_fault, make_app, market_names, migrate_app, place_words, pool_app, rating_words, refuses, replay_app, rights_app, sced_app, sced_app_over, size_words, spelled, verify_app}
+use Rattle.number_bits.specs.declared.NumberBits.{NumberBits}
 use Rattle.command_words.proofs.PlainLemmas.{entered-anywhere, fault-anywhere}
 
-free : (sizes ratings places : NameList) → is_simple_and_free (sced_app_over sizes ratings places) ≡ true
+free : (sizes ratings places bits : NameList) → is_simple_and_free (sced_app_over sizes ratings places bits) ≡ true
 unfolding clap_on_literals sced_app_over
-free sizes ratings places = refl
+free sizes ratings places bits = refl
 
-simple : (sizes ratings places : NameList) → is_simple (sced_app_over sizes ratings places) ≡ true
+simple : (sizes ratings places bits : NameList) → is_simple (sced_app_over sizes ratings places bits) ≡ true
 unfolding clap_on_literals sced_app_over
-simple sizes ratings places = refl
+simple sizes ratings places bits = refl
 
 -- it must be followed by a subcommand
-pub is_needed : (sizes ratings places : NameList) → (sced_app_over sizes ratings places).top.subcommand_required ≡ true
+pub is_needed : (sizes ratings places bits : NameList) → (sced_app_over sizes ratings places bits).top.subcommand_required ≡ true
 unfolding sced_app_over
-is_needed sizes ratings places = refl
+is_needed sizes ratings places bits = refl
 
-pub is_free : (a : App) (sizes ratings places : NameList) → a ≡ sced_app_over sizes ratings places → is_simple_and_free a ≡ true
-is_free a sizes ratings places same = ap is_simple_and_free same ∙ free sizes ratings places
+pub is_free : (a : App) (sizes ratings places bits : NameList) → a ≡ sced_app_over sizes ratings places bits → is_simple_and_free a ≡ true
+is_free a sizes ratings places bits same = ap is_simple_and_free same ∙ free sizes ratings places bits
 
-pub is_plain : (a : App) (sizes ratings places : NameList) → a ≡ sced_app_over sizes ratings places → is_simple a ≡ true
-is_plain a sizes ratings places same = ap is_simple same ∙ simple sizes ratings places
+pub is_plain : (a : App) (sizes ratings places bits : NameList) → a ≡ sced_app_over sizes ratings places bits → is_simple a ≡ true
+is_plain a sizes ratings places bits same = ap is_simple same ∙ simple sizes ratings places bits
 
 some_among : (k : ErrorKind) (ks : Kinds) → IsAmong k ks → ks ≢ []
 some_among k [] h = absurd h
@@ -52,25 +53,25 @@ a_fault : (ks : Kinds) → ks ≢ [] → is_fault ks ≡ true
 a_fault [] h = absurd (h refl)
 a_fault (k ∷ ks) h = refl
 
-kinds-of : (a : App) (sizes ratings places : NameList) (words : List Text) → a ≡ sced_app_over sizes ratings places → Spells sizes size_words → Spells ratings rating_words → Spells places place_words → fault_of a words ≡ fault_of sced_app words
-kinds-of a sizes ratings places words same s r p = ap (λ (x : App). fault_of x words) same ∙ fault-anywhere sizes ratings places words s r p
+kinds-of : (a : App) (sizes ratings places bits : NameList) (words : List Text) → a ≡ sced_app_over sizes ratings places bits → Spells sizes size_words → Spells ratings rating_words → Spells places place_words → Spells bits bits_words → fault_of a words ≡ fault_of sced_app words
+kinds-of a sizes ratings places bits words same s r p q = ap (λ (x : App). fault_of x words) same ∙ fault-anywhere sizes ratings places bits words s r p q
 
 -- a parse that succeeds is of words that the command takes, and one that fails, but for memory, of others
-taken_by : {T : Type 0} (r : Result T Error) (m : T) (a : App) (sizes ratings places : NameList) (words : List Text) → r ≡ Ok m
-    → a ≡ sced_app_over sizes ratings places → Spells sizes size_words → Spells ratings rating_words → Spells places place_words → FailsBy (fault_of a words) r → refuses words ≡ false
+taken_by : {T : Type 0} (r : Result T Error) (m : T) (a : App) (sizes ratings places bits : NameList) (words : List Text) → r ≡ Ok m
+    → a ≡ sced_app_over sizes ratings places bits → Spells sizes size_words → Spells ratings rating_words → Spells places place_words → Spells bits bits_words → FailsBy (fault_of a words) r → refuses words ≡ false
 unfolding refuses
-taken_by r m a sizes ratings places words is same s t p h = no_fault (fault_of sced_app words) (sym (kinds-of a sizes ratings places words same s t p) ∙ rw is at h)
+taken_by r m a sizes ratings places bits words is same s t p q h = no_fault (fault_of sced_app words) (sym (kinds-of a sizes ratings places bits words same s t p q) ∙ rw is at h)
 
-pub refused_by : {T : Type 0} (r : Result T Error) (e : Error) (a : App) (sizes ratings places : NameList) (words : List Text) → r ≡ Err e → kind_of e ≢ kind.OutOfMemory
-    → a ≡ sced_app_over sizes ratings places → Spells sizes size_words → Spells ratings rating_words → Spells places place_words → FailsBy (fault_of a words) r → refuses words ≡ true
+pub refused_by : {T : Type 0} (r : Result T Error) (e : Error) (a : App) (sizes ratings places bits : NameList) (words : List Text) → r ≡ Err e → kind_of e ≢ kind.OutOfMemory
+    → a ≡ sced_app_over sizes ratings places bits → Spells sizes size_words → Spells ratings rating_words → Spells places place_words → Spells bits bits_words → FailsBy (fault_of a words) r → refuses words ≡ true
 unfolding refuses
-refused_by r e a sizes ratings places words is not_memory same s t p h =
+refused_by r e a sizes ratings places bits words is not_memory same s t p q h =
     let some = some_kind e (fault_of a words) not_memory (rw is at h) in
-    a_fault (fault_of sced_app words) (λ none. some (kinds-of a sizes ratings places words same s t p ∙ none))
+    a_fault (fault_of sced_app words) (λ none. some (kinds-of a sizes ratings places bits words same s t p q ∙ none))
 
 -- what a parse enters is what the words name
-entered_by : (a : App) (sizes ratings places : NameList) (words : List Text) → a ≡ sced_app_over sizes ratings places → Spells sizes size_words → Spells ratings rating_words → Spells places place_words → subcommand_of a words ≡ subcommand_of sced_app words
-entered_by a sizes ratings places words same s t p = ap (λ (x : App). subcommand_of x words) same ∙ entered-anywhere sizes ratings places words s t p
+entered_by : (a : App) (sizes ratings places bits : NameList) (words : List Text) → a ≡ sced_app_over sizes ratings places bits → Spells sizes size_words → Spells ratings rating_words → Spells places place_words → Spells bits bits_words → subcommand_of a words ≡ subcommand_of sced_app words
+entered_by a sizes ratings places bits words same s t p q = ap (λ (x : App). subcommand_of x words) same ∙ entered-anywhere sizes ratings places bits words s t p q
 
 -- the name and the rows of the subcommand, together
 both_of : (m : ArgMatches) (n : Text) (rs : List Row) → Some n ≡ subcommand_name_of m → Some rs ≡ option_map (λ (p : Text × List Row). p.1) (subcommand_rows_of m)
@@ -83,12 +84,12 @@ both_of m n rs = go (out-ArgMatches m).subcommand n rs
     go (Some b) n rs e h = cc
 
 -- what a parse that succeeds has entered is what the words enter
-pub enters_by : {T : Type 0} (r : Result T Error) (t : T) (m : ArgMatches) (a : App) (sizes ratings places : NameList) (words : List Text) (n : Text) (rs : List Row) → r ≡ Ok t
-    → a ≡ sced_app_over sizes ratings places → Spells sizes size_words → Spells ratings rating_words → Spells places place_words → FailsBy (fault_of a words) r → subcommand_rows_of m ≡ subcommand_of a words
+pub enters_by : {T : Type 0} (r : Result T Error) (t : T) (m : ArgMatches) (a : App) (sizes ratings places bits : NameList) (words : List Text) (n : Text) (rs : List Row) → r ≡ Ok t
+    → a ≡ sced_app_over sizes ratings places bits → Spells sizes size_words → Spells ratings rating_words → Spells places place_words → Spells bits bits_words → FailsBy (fault_of a words) r → subcommand_rows_of m ≡ subcommand_of a words
     → Some n ≡ subcommand_name_of m → Some rs ≡ option_map (λ (p : Text × List Row). p.1) (subcommand_rows_of m) → Enters words n rs
-enters_by r t m a sizes ratings places words n rs is same s u p fails found name rows = record {
-  taken = taken_by r t a sizes ratings places words is same s u p fails;
-  entered = sym (entered_by a sizes ratings places words same s u p) ∙ sym found ∙ both_of m n rs name rows;
+enters_by r t m a sizes ratings places bits words n rs is same s u p q fails found name rows = record {
+  taken = taken_by r t a sizes ratings places bits words is same s u p q fails;
+  entered = sym (entered_by a sizes ratings places bits words same s u p q) ∙ sym found ∙ both_of m n rs name rows;
 }
 
 pub enters-named : (words : List Text) (n n' : Text) (rs : List Row) → n ≡ n' → Enters words n rs → Enters words n' rs
@@ -151,12 +152,13 @@ rights-once words names names' rights rights' asks asks' =
       asks.rights_is ∙ ap (file_of (codes "rights")) rows ∙ sym asks'.rights_is,
     )
 
-pub migrates-once : (words : List Text) (certificate certificate' out out' : Text)
-    → AsksMigrate words certificate out → AsksMigrate words certificate' out' → (certificate ≡ certificate') × (out ≡ out')
-migrates-once words certificate certificate' out out' asks asks' =
+pub migrates-once : (words : List Text) (certificate certificate' out out' : Text) (bits bits' : NumberBits)
+    → AsksMigrate words certificate out bits → AsksMigrate words certificate' out' bits' → (certificate ≡ certificate') × (out ≡ out') × (bits ≡ bits')
+migrates-once words certificate certificate' out out' bits bits' asks asks' =
     let rows = (enters-once words _ _ asks.rows asks'.rows asks.enters asks'.enters).1 in (
       asks.certificate_is ∙ ap (file_of (codes "certificate")) rows ∙ sym asks'.certificate_is,
       asks.out_is ∙ ap (file_of (codes "out")) rows ∙ sym asks'.out_is,
+      asks.bits_is ∙ ap bits_of rows ∙ sym asks'.bits_is,
     )
 
 pub checks-once : (words : List Text) (names names' : CheckNames) → AsksCheck words names → AsksCheck words names' → names ≡ names'
@@ -217,9 +219,10 @@ abbrev pub built_under : Shape → Shape
 built_under sub = built_leaf (inherited (on_top marked_built sced_app).top sub)
 
 abbrev pub nine_built : List Shape
-nine_built = map built_under (pool_app.top ∷ (clear_app (spelled rating_words) (spelled place_words)).top ∷ (replay_app (spelled rating_words) (spelled place_words)).top
-    ∷ (verify_app (spelled rating_words) (spelled place_words)).top ∷ (rights_app (spelled rating_words) (spelled place_words)).top ∷ (check_app (spelled place_words)).top ∷ (factors_app (spelled place_words)).top ∷ migrate_app.top
-    ∷ (make_app (spelled size_words)).top ∷ [])
+nine_built = map built_under (pool_app.top ∷ (clear_app (spelled rating_words) (spelled place_words) (spelled bits_words)).top
+    ∷ (replay_app (spelled rating_words) (spelled place_words) (spelled bits_words)).top ∷ (verify_app (spelled rating_words) (spelled place_words) (spelled bits_words)).top
+    ∷ (rights_app (spelled rating_words) (spelled place_words) (spelled bits_words)).top ∷ (check_app (spelled place_words)).top ∷ (factors_app (spelled place_words)).top
+    ∷ (migrate_app (spelled bits_words)).top ∷ (make_app (spelled size_words)).top ∷ [])
 
 pub subs-are : (built sced_app).subs ≡ nine_built
 unfolding clap_on_literals sced_app sced_app_over

@@ -17,7 +17,7 @@ text_of_name = option_map (λ name. name.now)
 
 -- the names of the files of a market as texts
 abbrev pub names_of_market : MarketFiles (Bor Text) (Option (Bor Text)) → MarketNames
-names_of_market files = record { tables = map_tables (λ name. name.now) text_of_name files.tables; rating = files.rating; places = files.places }
+names_of_market files = record { tables = map_tables (λ name. name.now) text_of_name files.tables; rating = files.rating; places = files.places; bits = files.bits }
 
 -- the names of a case and of its tables as texts
 abbrev pub names_of_grid : GridTables (Bor Text) (Option (Bor Text)) → GridNames
@@ -45,5 +45,5 @@ Asks words (request.Verify files) = AsksVerify words (names_of_market files.mark
 Asks words (request.Rights files) = AsksRights words (names_of_market files.market) files.rights.now
 Asks words (request.Check files) = AsksCheck words (names_to_check files)
 Asks words (request.Factors files) = AsksFactors words (names_of_factors files)
-Asks words (request.Migrate files) = AsksMigrate words files.certificate.now files.out.now
+Asks words (request.Migrate files) = AsksMigrate words files.certificate.now files.out.now files.bits
 Asks words (request.Make ring) = AsksMake words ring.buses ring.seed

@@ -13,6 +13,8 @@ use Rattle.market_data.specs.Scales.{IsRingSize}
 use Rattle.market_tables.specs.declared.GridTables.{GridTables}
 use Rattle.net_case.specs.declared.live_parts.PostRating.{PostRating}
 use Rattle.net_case.specs.declared.live_parts.PostRating.TheVariants as post
+use Rattle.number_bits.specs.declared.NumberBits.{NumberBits}
+use Rattle.number_bits.specs.declared.NumberBits.TheVariants as number_bits
 use Rattle.command_words.specs.declared.words.CheckFiles.{CheckFiles}
 use Rattle.command_words.specs.declared.words.FactorFiles.{FactorFiles}
 use Rattle.command_words.specs.declared.words.MarketFiles.{MarketFiles}
@@ -36,6 +38,10 @@ rating_words = codes "a" ∷ codes "b" ∷ codes "c" ∷ []
 -- the numbers of places that the factors of tables may have
 abbrev pub place_words : List Text
 place_words = codes "6" ∷ codes "9" ∷ []
+
+-- the numbers of bits that the numerators and denominators of numbers may have
+abbrev pub bits_words : List Text
+bits_words = codes "127" ∷ codes "1023" ∷ []
 
 -- the numbers of buses that a ring may have
 abbrev pub size_words : List Text
@@ -79,25 +85,29 @@ with_tables a = with_table (with_table (with_table (with_table (with_table (with
 abbrev pub with_places : App → NameList → App
 with_places a places = with_rule a (choice_rule (codes "factor-places") places)
 
+-- and where it is there `--number-bits NUMBER`
+abbrev pub with_bits : App → NameList → App
+with_bits a bits = with_rule a (choice_rule (codes "number-bits") bits)
+
 -- all these, and where it is there `--post-rating LETTER`
-abbrev pub with_market : App → NameList → NameList → App
-with_market a ratings places = with_places (with_rule (with_tables (with_needed a)) (choice_rule (codes "post-rating") ratings)) places
+abbrev pub with_market : App → NameList → NameList → NameList → App
+with_market a ratings places bits = with_bits (with_places (with_rule (with_tables (with_needed a)) (choice_rule (codes "post-rating") ratings)) places) bits
 
 -- `clear` with the files of a market, and where it is named `--certificate FILE`
-abbrev pub clear_app : NameList → NameList → App
-clear_app ratings places = with_table (with_market (new_app (codes "clear")) ratings places) (codes "certificate")
+abbrev pub clear_app : NameList → NameList → NameList → App
+clear_app ratings places bits = with_table (with_market (new_app (codes "clear")) ratings places bits) (codes "certificate")
 
 -- `replay` with the files of a market and `--edits FILE`, and where it is named `--certificate FILE`
-abbrev pub replay_app : NameList → NameList → App
-replay_app ratings places = with_table (with_file (with_market (new_app (codes "replay")) ratings places) (codes "edits")) (codes "certificate")
+abbrev pub replay_app : NameList → NameList → NameList → App
+replay_app ratings places bits = with_table (with_file (with_market (new_app (codes "replay")) ratings places bits) (codes "edits")) (codes "certificate")
 
 -- `verify` with the files of a market and `--certificate FILE`, and where it is named `--edits FILE`
-abbrev pub verify_app : NameList → NameList → App
-verify_app ratings places = with_file (with_table (with_market (new_app (codes "verify")) ratings places) (codes "edits")) (codes "certificate")
+abbrev pub verify_app : NameList → NameList → NameList → App
+verify_app ratings places bits = with_file (with_table (with_market (new_app (codes "verify")) ratings places bits) (codes "edits")) (codes "certificate")
 
 -- `rights` with the files of a market and `--rights FILE`
-abbrev pub rights_app : NameList → NameList → App
-rights_app ratings places = with_file (with_market (new_app (codes "rights")) ratings places) (codes "rights")
+abbrev pub rights_app : NameList → NameList → NameList → App
+rights_app ratings places bits = with_file (with_market (new_app (codes "rights")) ratings places bits) (codes "rights")
 
 -- `check --case FILE --ptdf FILE`, and where they are there `--lodf FILE`, `--contingencies FILE` and `--factor-places NUMBER`
 abbrev pub check_app : NameList → App
@@ -107,9 +117,9 @@ check_app places = with_places (with_table (with_table (with_file (with_file (ne
 abbrev pub factors_app : NameList → App
 factors_app places = with_places (with_table (with_table (with_file (with_file (new_app (codes "factors")) (codes "case")) (codes "ptdf-out")) (codes "lodf-out")) (codes "contingencies")) places
 
--- `migrate --certificate FILE --out FILE`
-abbrev pub migrate_app : App
-migrate_app = with_file (with_file (new_app (codes "migrate")) (codes "certificate")) (codes "out")
+-- `migrate --certificate FILE --out FILE`, and where it is there `--number-bits NUMBER`
+abbrev pub migrate_app : NameList → App
+migrate_app bits = with_bits (with_file (with_file (new_app (codes "migrate")) (codes "certificate")) (codes "out")) bits
 
 -- `make N SEED`; N is one of the sizes, and SEED from 0 to 4294967295
 abbrev pub make_app : NameList → App
@@ -119,17 +129,17 @@ make_app sizes = with_rule (with_rule (new_app (codes "make")) (value_rule (code
 abbrev pub needs_subcommand : App → App
 needs_subcommand a = record a { top = record a.top { has_version = true; subcommand_required = true; disable_help_subcommand = true } }
 
--- the program's command over the lists of the sizes of rings, of the ratings and of the numbers of places; it has nine subcommands
-unfoldable pub sced_app_over : NameList → NameList → NameList → App
-sced_app_over sizes ratings places =
+-- the program's command over the lists of the sizes of rings, of the ratings, and of the numbers of places and of bits; it has nine subcommands
+unfoldable pub sced_app_over : NameList → NameList → NameList → NameList → App
+sced_app_over sizes ratings places bits =
     with_subcommand (with_subcommand (with_subcommand (with_subcommand (with_subcommand (with_subcommand (with_subcommand (with_subcommand (with_subcommand
     (needs_subcommand (new_app (codes "sced")))
-    pool_app.top) (clear_app ratings places).top) (replay_app ratings places).top) (verify_app ratings places).top) (rights_app ratings places).top) (check_app places).top)
-    (factors_app places).top) migrate_app.top) (make_app sizes).top
+    pool_app.top) (clear_app ratings places bits).top) (replay_app ratings places bits).top) (verify_app ratings places bits).top) (rights_app ratings places bits).top)
+    (check_app places).top) (factors_app places).top) (migrate_app bits).top) (make_app sizes).top
 
 -- the program's command
 unfoldable pub sced_app : App
-sced_app = sced_app_over (spelled size_words) (spelled rating_words) (spelled place_words)
+sced_app = sced_app_over (spelled size_words) (spelled rating_words) (spelled place_words) (spelled bits_words)
 
 abbrev pub is_fault : Kinds → Bool
 is_fault [] = false
@@ -170,7 +180,18 @@ places_named word =
 abbrev pub places_of : List Row → FactorPlaces
 places_of rows = unwrap_or (option_and_then places_named (first_of (codes "factor-places") rows)) factor_places.Six
 
--- the letter of a rating, and a number of places as a word
+-- the number of bits that a word stands for, where it stands for one
+abbrev pub bits_named : Text → Option NumberBits
+bits_named word =
+    if bytes_eq word (codes "127") then Some number_bits.Bits127
+    else if bytes_eq word (codes "1023") then Some number_bits.Bits1023
+    else None
+
+-- the number of bits that its option tells, and 127 where it is not there
+abbrev pub bits_of : List Row → NumberBits
+bits_of rows = unwrap_or (option_and_then bits_named (first_of (codes "number-bits") rows)) number_bits.Bits127
+
+-- the letter of a rating, and a number of places and one of bits as words
 abbrev pub rating_word : PostRating → Text
 rating_word post.A = codes "a"
 rating_word post.B = codes "b"
@@ -180,10 +201,15 @@ abbrev pub place_word : FactorPlaces → Text
 place_word factor_places.Six = codes "6"
 place_word factor_places.Nine = codes "9"
 
--- each letter and each number of places that the command takes stands for that of which it is the word
+abbrev pub bits_word : NumberBits → Text
+bits_word number_bits.Bits127 = codes "127"
+bits_word number_bits.Bits1023 = codes "1023"
+
+-- each letter, each number of places and each number of bits that the command takes stands for that of which it is the word
 abbrev pub LawOfChoices : Type 0
 LawOfChoices = All (λ word. option_map rating_word (rating_named word) ≡ Some word) rating_words
     × All (λ word. option_map place_word (places_named word) ≡ Some word) place_words
+    × All (λ word. option_map bits_word (bits_named word) ≡ Some word) bits_words
 
 -- the command takes the words, which enter this subcommand with these options
 pub record Enters (words : List Text) (name : Text) (rows : List Row) : Type 0 where
@@ -224,8 +250,8 @@ CheckNames = CheckFiles Text (Option Text)
 abbrev pub check_names : List Row → CheckNames
 check_names rows = record { tables = grid_names rows; places = places_of rows }
 
--- the names of the files of a market with limits, of which some may be left out, the rating that limits branches after outages, and how
--- many places the factors have
+-- the names of the files of a market with limits, of which some may be left out, the rating that limits branches after outages, how many
+-- places the factors have, and how many bits numbers have
 abbrev pub MarketNames : Type 0
 MarketNames = MarketFiles Text (Option Text)
 
@@ -242,6 +268,7 @@ market_names rows = record {
   };
   rating = rating_of rows;
   places = places_of rows;
+  bits = bits_of rows;
 }
 
 -- the words enter `clear`, and these are the names of the market's files, and of the certificate's, which may be left out
@@ -278,13 +305,15 @@ pub record AsksRights (words : List Text) (names : MarketNames) (rights : Text) 
   pub names_are : names ≡ market_names rows
   pub rights_is : rights ≡ file_of (codes "rights") rows
 
--- the words enter `migrate`, and these are the names of the certificate that it reads and of the file that it writes
-pub record AsksMigrate (words : List Text) (certificate out : Text) : Type 0 where
+-- the words enter `migrate`, and these are the names of the certificate that it reads and of the file that it writes, and how many bits
+-- numbers have
+pub record AsksMigrate (words : List Text) (certificate out : Text) (bits : NumberBits) : Type 0 where
   pub rows : List Row
   pub enters : Enters words (codes "migrate") rows
   pub given : AreGiven (codes "certificate" ∷ codes "out" ∷ []) rows
   pub certificate_is : certificate ≡ file_of (codes "certificate") rows
   pub out_is : out ≡ file_of (codes "out") rows
+  pub bits_is : bits ≡ bits_of rows
 
 -- the words enter `check`, and these are the names of its files
 pub record AsksCheck (words : List Text) (names : CheckNames) : Type 0 where
@@ -414,7 +443,7 @@ NamesForRights words file = (names : MarketNames) × (rights : Text) × AsksRigh
 
 -- the words name this file as the certificate that `migrate` reads
 abbrev pub NamesForMigrate : List Text → Text → Type 0
-NamesForMigrate words file = (certificate : Text) × (out : Text) × AsksMigrate words certificate out × (file ≡ certificate)
+NamesForMigrate words file = (certificate : Text) × (out : Text) × (bits : NumberBits) × AsksMigrate words certificate out bits × (file ≡ certificate)
 
 -- the words name this file for `factors` to read
 abbrev pub NamesForFactors : List Text → Text → Type 0
@@ -435,7 +464,7 @@ ReplayWrites words file = (names : MarketNames) × (edits : Text) × AsksReplay 
 
 -- the words name this file as the certificate that `migrate` writes
 abbrev pub MigrateWrites : List Text → Text → Type 0
-MigrateWrites words file = (certificate : Text) × AsksMigrate words certificate file
+MigrateWrites words file = (certificate : Text) × (bits : NumberBits) × AsksMigrate words certificate file bits
 
 -- the words name this file as a table of factors that `factors` writes
 abbrev pub FactorsWrite : List Text → Text → Type 0

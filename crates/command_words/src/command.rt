@@ -4,7 +4,7 @@ ghost use Rattle.std.specs.Prelude.{◌≡◌, false, fold, IfOk, codes, pos};
 ghost use Rattle.clap.specs.Words.{App, app_of, new_app, rule_of, with_subcommand};
 ghost use Rattle.clap.specs.declared.builder.command.Command.TheViews.{out-Command as fields_of};
 ghost use Rattle.clap.specs.declared.builder.value_parser.ValueParser.TheVariants.{Names, Signed};
-ghost use Rattle.command_words.specs.Words.{check_app, choice_rule, clear_app, factors_app, file_rule, make_app, migrate_app, needs_subcommand, pool_app, replay_app, rights_app, sced_app_over, table_rule, value_rule, verify_app, with_file, with_market, with_places, with_table};
+ghost use Rattle.command_words.specs.Words.{check_app, choice_rule, clear_app, factors_app, file_rule, make_app, migrate_app, needs_subcommand, pool_app, replay_app, rights_app, sced_app_over, table_rule, value_rule, verify_app, with_bits, with_file, with_market, with_places, with_table};
 
 use clap::{Arg, Command, value_parser};
 use std::alloc::{AllocError, Global};
@@ -30,6 +30,9 @@ const PENALTIES: &str = "The table of the limits that give way, and of what that
 const POST_RATING: &str = "The rating of a branch after an outage; c where this is left out";
 
 const PLACES: &str = "How many decimal places factors may have; 6 where this is left out";
+
+const BITS: &str =
+    "How many bits the numerators and denominators of numbers may have; 127 where this is left out";
 
 const RIGHTS: &str = "The table of transmission rights";
 
@@ -239,29 +242,45 @@ fn with_places<'a>(
     command.arg(choice_option(alloc, "factor-places", "PLACES", PLACES, places))
 }
 
-/// A command with the files of a market with limits, the rating after an outage, and the places of factors.
+/// A command with one more option, which tells how many bits numbers may have.
+fn with_bits<'a>(
+    alloc: Global,
+    command: Command<'a>,
+    bits: &'a [&'a str],
+) -> Result<Command<'a>, AllocError>
+    requires { (fields_of command).has_globals ≡ false }
+    ensures app { IfOk result (λ made. app_of made ≡ with_bits (app_of command.entry) bits.entry) }
+    ensures local { IfOk result (λ made. (fields_of made).has_globals ≡ false) }
+{
+    command.arg(choice_option(alloc, "number-bits", "BITS", BITS, bits))
+}
+
+/// A command with the files of a market with limits, the rating after an outage, the places of factors, and the bits of numbers.
 fn with_market<'a>(
     alloc: Global,
     command: Command<'a>,
     ratings: &'a [&'a str],
     places: &'a [&'a str],
+    bits: &'a [&'a str],
 ) -> Result<Command<'a>, AllocError>
     requires { (fields_of command).has_globals ≡ false }
-    ensures app { IfOk result (λ made. app_of made ≡ with_market (app_of command.entry) ratings.entry places.entry) }
+    ensures app { IfOk result (λ made. app_of made ≡ with_market (app_of command.entry) ratings.entry places.entry bits.entry) }
     ensures local { IfOk result (λ made. (fields_of made).has_globals ≡ false) }
 {
     let command = with_each_file(alloc, command, &MARKET_FILES)?;
     let command = with_each_table(alloc, command, &MARKET_TABLES)?;
     let command = command.arg(choice_option(alloc, "post-rating", "RATING", POST_RATING, ratings))?;
-    with_places(alloc, command, places)
+    let command = with_places(alloc, command, places)?;
+    with_bits(alloc, command, bits)
 }
 
 fn clear_command<'a>(
     alloc: Global,
     ratings: &'a [&'a str],
     places: &'a [&'a str],
+    bits: &'a [&'a str],
 ) -> Result<Command<'a>, AllocError>
-    ensures app { IfOk result (λ made. app_of made ≡ clear_app ratings.entry places.entry) }
+    ensures app { IfOk result (λ made. app_of made ≡ clear_app ratings.entry places.entry bits.entry) }
     ensures local { IfOk result (λ made. (fields_of made).has_globals ≡ false) }
 {
     let command = described(
@@ -269,7 +288,7 @@ fn clear_command<'a>(
         "clear",
         "Clears the market within the limits of the branches, before and after outages",
     );
-    let command = with_market(alloc, command, ratings, places)?;
+    let command = with_market(alloc, command, ratings, places, bits)?;
     with_table(alloc, command, "certificate", WRITTEN)
 }
 
@@ -277,8 +296,9 @@ fn replay_command<'a>(
     alloc: Global,
     ratings: &'a [&'a str],
     places: &'a [&'a str],
+    bits: &'a [&'a str],
 ) -> Result<Command<'a>, AllocError>
-    ensures app { IfOk result (λ made. app_of made ≡ replay_app ratings.entry places.entry) }
+    ensures app { IfOk result (λ made. app_of made ≡ replay_app ratings.entry places.entry bits.entry) }
     ensures local { IfOk result (λ made. (fields_of made).has_globals ≡ false) }
 {
     let command = described(
@@ -286,7 +306,7 @@ fn replay_command<'a>(
         "replay",
         "Edits the market step by step, and clears it where a step says so",
     );
-    let command = with_market(alloc, command, ratings, places)?;
+    let command = with_market(alloc, command, ratings, places, bits)?;
     let command = with_file(alloc, command, "edits", EDITS)?;
     with_table(alloc, command, "certificate", WRITTEN)
 }
@@ -295,8 +315,9 @@ fn verify_command<'a>(
     alloc: Global,
     ratings: &'a [&'a str],
     places: &'a [&'a str],
+    bits: &'a [&'a str],
 ) -> Result<Command<'a>, AllocError>
-    ensures app { IfOk result (λ made. app_of made ≡ verify_app ratings.entry places.entry) }
+    ensures app { IfOk result (λ made. app_of made ≡ verify_app ratings.entry places.entry bits.entry) }
     ensures local { IfOk result (λ made. (fields_of made).has_globals ≡ false) }
 {
     let command = described(
@@ -304,7 +325,7 @@ fn verify_command<'a>(
         "verify",
         "Tells whether a certificate holds for the market",
     );
-    let command = with_market(alloc, command, ratings, places)?;
+    let command = with_market(alloc, command, ratings, places, bits)?;
     let command = with_table(alloc, command, "edits", EDITS)?;
     with_file(alloc, command, "certificate", READ)
 }
@@ -313,8 +334,9 @@ fn rights_command<'a>(
     alloc: Global,
     ratings: &'a [&'a str],
     places: &'a [&'a str],
+    bits: &'a [&'a str],
 ) -> Result<Command<'a>, AllocError>
-    ensures app { IfOk result (λ made. app_of made ≡ rights_app ratings.entry places.entry) }
+    ensures app { IfOk result (λ made. app_of made ≡ rights_app ratings.entry places.entry bits.entry) }
     ensures local { IfOk result (λ made. (fields_of made).has_globals ≡ false) }
 {
     let command = described(
@@ -322,7 +344,7 @@ fn rights_command<'a>(
         "rights",
         "Clears the market, and tells whether transmission rights fit and what they are paid",
     );
-    let command = with_market(alloc, command, ratings, places)?;
+    let command = with_market(alloc, command, ratings, places, bits)?;
     with_file(alloc, command, "rights", RIGHTS)
 }
 
@@ -350,8 +372,8 @@ fn factors_command<'a>(alloc: Global, places: &'a [&'a str]) -> Result<Command<'
     with_places(alloc, command, places)
 }
 
-fn migrate_command<'a>(alloc: Global) -> Result<Command<'a>, AllocError>
-    ensures app { IfOk result (λ made. app_of made ≡ migrate_app) }
+fn migrate_command<'a>(alloc: Global, bits: &'a [&'a str]) -> Result<Command<'a>, AllocError>
+    ensures app { IfOk result (λ made. app_of made ≡ migrate_app bits.entry) }
     ensures local { IfOk result (λ made. (fields_of made).has_globals ≡ false) }
 {
     let command = described(
@@ -360,7 +382,8 @@ fn migrate_command<'a>(alloc: Global) -> Result<Command<'a>, AllocError>
         "Writes a certificate anew, in the version of today",
     );
     let command = with_file(alloc, command, "certificate", MIGRATED)?;
-    with_file(alloc, command, "out", OUT)
+    let command = with_file(alloc, command, "out", OUT)?;
+    with_bits(alloc, command, bits)
 }
 
 fn make_command<'a>(alloc: Global, sizes: &'a [&'a str]) -> Result<Command<'a>, AllocError>
@@ -405,24 +428,25 @@ fn bare_command<'a>(alloc: Global) -> Command<'a>
     .disable_help_subcommand(true)
 }
 
-/// The command of the program, over the lists of the sizes of rings, of the letters of the ratings and of the numbers of places.
+/// The command of the program, over the lists of the sizes of rings, of the letters of the ratings, and of the numbers of places and of bits.
 #[tactic(auto, unfolding(crate::specs::Words::sced_app_over))]
 pub fn sced_command<'a>(
     alloc: Global,
     sizes: &'a [&'a str],
     ratings: &'a [&'a str],
     places: &'a [&'a str],
+    bits: &'a [&'a str],
 ) -> Result<Command<'a>, AllocError>
-    ensures app { IfOk result (λ made. app_of made ≡ sced_app_over sizes.entry ratings.entry places.entry) }
+    ensures app { IfOk result (λ made. app_of made ≡ sced_app_over sizes.entry ratings.entry places.entry bits.entry) }
     ensures local { IfOk result (λ made. (fields_of made).has_globals ≡ false) }
 {
     let command = with_subcommand(bare_command(alloc), pool_command(alloc))?;
-    let command = with_subcommand(command, clear_command(alloc, ratings, places))?;
-    let command = with_subcommand(command, replay_command(alloc, ratings, places))?;
-    let command = with_subcommand(command, verify_command(alloc, ratings, places))?;
-    let command = with_subcommand(command, rights_command(alloc, ratings, places))?;
+    let command = with_subcommand(command, clear_command(alloc, ratings, places, bits))?;
+    let command = with_subcommand(command, replay_command(alloc, ratings, places, bits))?;
+    let command = with_subcommand(command, verify_command(alloc, ratings, places, bits))?;
+    let command = with_subcommand(command, rights_command(alloc, ratings, places, bits))?;
     let command = with_subcommand(command, check_command(alloc, places))?;
     let command = with_subcommand(command, factors_command(alloc, places))?;
-    let command = with_subcommand(command, migrate_command(alloc))?;
+    let command = with_subcommand(command, migrate_command(alloc, bits))?;
     with_subcommand(command, make_command(alloc, sizes))
 }

@@ -2,7 +2,7 @@
 
 ghost use Rattle.command_words.specs.Words.{LawOfChoices};
 
-/// Each letter of a rating and each number of places, of those that are listed, means what it says.
+/// Each letter of a rating, each number of places and each number of bits, of those in the three lists, means what it says.
 pub fn choices_mean_their_words()
     ensures { LawOfChoices }
 {}

@@ -2,7 +2,7 @@
 
 ghost use Rattle.std.specs.Prelude.{◌≡◌, ◌≢◌, ◌≤◌, codes, map, string_bytes, IfOk, IfErr};
 ghost use Rattle.clap.specs.Words.{first_of, found_of, rows_of};
-ghost use Rattle.command_words.specs.Words.{AsksNothing, ReadsSeed, check_names, factor_names, file_of, grid_names, market_names, places_of, rating_of, size_of};
+ghost use Rattle.command_words.specs.Words.{AsksNothing, ReadsSeed, bits_of, check_names, factor_names, file_of, grid_names, market_names, places_of, rating_of, size_of};
 ghost use Rattle.command_words.specs.Requests.{Asks, names_of_factors, names_of_grid, names_of_market, names_to_check, text_of_name};
 ghost use Rattle.market_data.specs.Scales.{IsRingSize};
 
@@ -12,6 +12,7 @@ use clap::error::ErrorKind;
 use market_data::FactorPlaces;
 use market_tables::{GridTables, MarketTables};
 use net_case::PostRating;
+use number_bits::NumberBits;
 use std::alloc::{AllocError, Global};
 
 /// The numbers of buses that a ring may have.
@@ -22,6 +23,9 @@ static RATINGS: [&str; 3] = ["a", "b", "c"];
 
 /// The numbers of places that the factors of tables may have.
 static PLACES: [&str; 2] = ["6", "9"];
+
+/// The numbers of bits that the numerators and denominators of numbers may have.
+static BITS: [&str; 2] = ["127", "1023"];
 
 /// The names of the two files that `pool` reads.
 #[derive(Clone, Copy, Debug)]
@@ -57,15 +61,17 @@ pub struct FactorFiles<T, O> {
 /// The names of these files, where they are named, and the places of factors.
 pub type FactorNames<'a> = FactorFiles<&'a str, Option<&'a str>>;
 
-/// The files of a market with limits, the rating that limits a branch after an outage, and how many places factors may have.
+/// The files of a market with limits, the rating that limits a branch after an outage, how many places factors may have, and how many bits
+/// numbers may have.
 #[derive(Clone, Copy, Debug)]
 pub struct MarketFiles<T, O> {
     pub tables: MarketTables<T, O>,
     pub rating: PostRating,
     pub places: FactorPlaces,
+    pub bits: NumberBits,
 }
 
-/// The names of these files, where they are named, the rating and the places.
+/// The names of these files, where they are named, the rating, the places and the bits.
 pub type MarketNames<'a> = MarketFiles<&'a str, Option<&'a str>>;
 
 /// The names of the files that `clear` reads, and of the certificate that it writes, where it is
@@ -100,11 +106,12 @@ pub struct RightsFiles<'a> {
     pub rights: &'a str,
 }
 
-/// The names of the certificate that `migrate` reads and of the file that it writes.
+/// The names of the certificate that `migrate` reads and of the file that it writes, and how many bits numbers may have.
 #[derive(Clone, Copy, Debug)]
 pub struct MigrateFiles<'a> {
     pub certificate: &'a str,
     pub out: &'a str,
+    pub bits: NumberBits,
 }
 
 /// The ring that `make` makes: how many buses it has, of 4, 8, 16, 32 and 64, and the seed of its
@@ -175,6 +182,17 @@ fn named_places<'a>(matches: &ArgMatches<'a>) -> FactorPlaces
     }
 }
 
+/// The number of bits that its option tells.
+fn named_bits<'a>(matches: &ArgMatches<'a>) -> NumberBits
+    ensures { result ≡ bits_of (rows_of (found_of matches.now)) }
+{
+    match named_table(matches, "number-bits") {
+        Some("127") => NumberBits::Bits127,
+        Some("1023") => NumberBits::Bits1023,
+        Some(_) | None => NumberBits::Bits127,
+    }
+}
+
 /// The files that `pool` is to read.
 fn pool_files<'a>(matches: &ArgMatches<'a>) -> PoolFiles<'a>
     ensures case { result.case.now ≡ file_of (codes "case") (rows_of (found_of matches.now)) }
@@ -236,6 +254,7 @@ fn market_files<'a>(matches: &ArgMatches<'a>) -> MarketNames<'a>
         },
         rating: named_rating(matches),
         places: named_places(matches),
+        bits: named_bits(matches),
     }
 }
 
@@ -287,14 +306,16 @@ fn rights_files<'a>(matches: &ArgMatches<'a>) -> RightsFiles<'a>
     }
 }
 
-/// The files that `migrate` is to read and to write.
+/// The files that `migrate` is to read and to write, and the bits of numbers.
 fn migrate_files<'a>(matches: &ArgMatches<'a>) -> MigrateFiles<'a>
     ensures certificate { result.certificate.now ≡ file_of (codes "certificate") (rows_of (found_of matches.now)) }
     ensures out { result.out.now ≡ file_of (codes "out") (rows_of (found_of matches.now)) }
+    ensures bits { result.bits ≡ bits_of (rows_of (found_of matches.now)) }
 {
     MigrateFiles {
         certificate: named_file(matches, "certificate"),
         out: named_file(matches, "out"),
+        bits: named_bits(matches),
     }
 }
 
@@ -358,6 +379,7 @@ pub fn request_of<'a>(alloc: Global, words: &'a [String]) -> Result<Request<'a>,
         SIZES.as_slice(),
         RATINGS.as_slice(),
         PLACES.as_slice(),
+        BITS.as_slice(),
     ) {
         Ok(command) => command,
         Err(_) => return Err(WordsStop::Memory),

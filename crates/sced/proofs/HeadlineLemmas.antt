@@ -656,7 +656,7 @@ written-named files words t _ (cleared names file asked told) = bytes-named (Nam
 written-named files words t _ (replayed names edits file asked told) = bytes-named (NamesToWrite words) file t.outputs.certificate [] (λ name is. inr (inl (names, edits, subst (AsksReplay words names edits) is asked))) tt
 written-named files words t _ (verified names edits certificate asked told) = tt
 written-named files words t _ (entitled names held asked told) = tt
-written-named files words t _ (migrated old out bits asked told) = bytes-named (NamesToWrite words) (Some out) t.outputs.certificate [] (λ name is. inr (inr (inl (old, subst (λ o. AsksMigrate words old (unwrap_or o out)) is asked)))) tt
+written-named files words t _ (migrated old out bits asked told) = bytes-named (NamesToWrite words) (Some out) t.outputs.certificate [] (λ name is. inr (inr (inl (old, bits, subst (λ o. AsksMigrate words old (unwrap_or o out) bits) is asked)))) tt
 written-named files words t _ (checked names asked told) = tt
 written-named files words t _ (factored names asked told) =
     bytes-named (NamesToWrite words) (Some names.ptdf_out) t.outputs.ptdf _ (λ name is. inr (inr (inr (names, asked, inl (sym (ap (λ o. unwrap_or o names.ptdf_out) is))))))

@@ -2,7 +2,7 @@ use Rattle.std.proofs.Common.{◌≡◌, ◌∙◌, rules, ap, true}
 use Rattle.clap.specs.Words.{App, app_of, found_of, rows_of}
 use Rattle.clap.specs.declared.builder.command.Command.TheViews.{out-Command}
 use Rattle.clap.proofs.CallerLemmas.{subcommand_required}
-use Rattle.command_words.specs.Words.{Spells, place_words, rating_words, size_words}
+use Rattle.command_words.specs.Words.{Spells, bits_words, place_words, rating_words, size_words}
 use Rattle.command_words.proofs.EnteredLemmas.{check-given, clear-given, factors-given, migrate-given, pool-given, replay-given, rights-given, verify-given}
 use Rattle.command_words.proofs.RingLemmas.{asks-ring}
 use Rattle.command_words.proofs.WordsLemmas.{entered-make, enters-named, enters_by, is_free, is_needed, is_plain, refused_by}
@@ -11,7 +11,7 @@ use Rattle.command_words.proofs.words.request_of.Goals as goal
 pub unwrap-requires : goal.unwrap-requires
 unwrap-requires c =
     let m = c.in-Ok-try_get_matches_from.matches in
-    let needs : (out-Command c.in-Ok.command).subcommand_required ≡ true = ap (λ (a : App). a.top.subcommand_required) (c.in-Ok.ensures).app ∙ is_needed _ _ _ in
+    let needs : (out-Command c.in-Ok.command).subcommand_required ≡ true = ap (λ (a : App). a.top.subcommand_required) (c.in-Ok.ensures).app ∙ is_needed _ _ _ _ in
     c.subcommand.ensures.variant ∙ subcommand_required c.in-Ok.command m (c.in-Ok-try_get_matches_from.ensures).parsed (c.in-Ok.ensures).local needs
 
 pub returns-in-pool-clause-asked : goal.returns-in-pool-clause-asked
@@ -19,10 +19,11 @@ returns-in-pool-clause-asked c =
     let sizes : Spells c.as_slice.result size_words = search rules in
     let ratings : Spells c.as_slice-2.result rating_words = search rules in
     let places : Spells c.as_slice-3.result place_words = search rules in
+    let bits : Spells c.as_slice-4.result bits_words = search rules in
     let same = (c.in-Ok.ensures).app in
-    let enters = enters_by c.try_get_matches_from.result c.in-Ok-try_get_matches_from.matches c.in-Ok-try_get_matches_from.matches (app_of c.in-Ok.command) c.as_slice.result c.as_slice-2.result c.as_slice-3.result _
-    c.unwrap.result.0.now (rows_of (found_of c.unwrap.result.1.now)) c.in-Ok-try_get_matches_from.is same sizes ratings places
-    (c.try_get_matches_from.ensures.kinds (is_free _ _ _ _ same)) ((c.in-Ok-try_get_matches_from.ensures).matches (is_plain _ _ _ _ same)).1
+    let enters = enters_by c.try_get_matches_from.result c.in-Ok-try_get_matches_from.matches c.in-Ok-try_get_matches_from.matches (app_of c.in-Ok.command) c.as_slice.result c.as_slice-2.result c.as_slice-3.result c.as_slice-4.result _
+    c.unwrap.result.0.now (rows_of (found_of c.unwrap.result.1.now)) c.in-Ok-try_get_matches_from.is same sizes ratings places bits
+    (c.try_get_matches_from.ensures.kinds (is_free _ _ _ _ _ same)) ((c.in-Ok-try_get_matches_from.ensures).matches (is_plain _ _ _ _ _ same)).1
     (rw c.unwrap.ensures at c.subcommand.ensures.name) (rw c.unwrap.ensures at c.subcommand.ensures.rows) in
     record {
       rows = rows_of (found_of c.unwrap.result.1.now);
@@ -37,10 +38,11 @@ returns-in-clear-clause-asked c =
     let sizes : Spells c.as_slice.result size_words = search rules in
     let ratings : Spells c.as_slice-2.result rating_words = search rules in
     let places : Spells c.as_slice-3.result place_words = search rules in
+    let bits : Spells c.as_slice-4.result bits_words = search rules in
     let same = (c.in-Ok.ensures).app in
-    let enters = enters_by c.try_get_matches_from.result c.in-Ok-try_get_matches_from.matches c.in-Ok-try_get_matches_from.matches (app_of c.in-Ok.command) c.as_slice.result c.as_slice-2.result c.as_slice-3.result _
-    c.unwrap.result.0.now (rows_of (found_of c.unwrap.result.1.now)) c.in-Ok-try_get_matches_from.is same sizes ratings places
-    (c.try_get_matches_from.ensures.kinds (is_free _ _ _ _ same)) ((c.in-Ok-try_get_matches_from.ensures).matches (is_plain _ _ _ _ same)).1
+    let enters = enters_by c.try_get_matches_from.result c.in-Ok-try_get_matches_from.matches c.in-Ok-try_get_matches_from.matches (app_of c.in-Ok.command) c.as_slice.result c.as_slice-2.result c.as_slice-3.result c.as_slice-4.result _
+    c.unwrap.result.0.now (rows_of (found_of c.unwrap.result.1.now)) c.in-Ok-try_get_matches_from.is same sizes ratings places bits
+    (c.try_get_matches_from.ensures.kinds (is_free _ _ _ _ _ same)) ((c.in-Ok-try_get_matches_from.ensures).matches (is_plain _ _ _ _ _ same)).1
     (rw c.unwrap.ensures at c.subcommand.ensures.name) (rw c.unwrap.ensures at c.subcommand.ensures.rows) in
     record {
       rows = rows_of (found_of c.unwrap.result.1.now);
@@ -55,10 +57,11 @@ returns-in-replay-clause-asked c =
     let sizes : Spells c.as_slice.result size_words = search rules in
     let ratings : Spells c.as_slice-2.result rating_words = search rules in
     let places : Spells c.as_slice-3.result place_words = search rules in
+    let bits : Spells c.as_slice-4.result bits_words = search rules in
     let same = (c.in-Ok.ensures).app in
-    let enters = enters_by c.try_get_matches_from.result c.in-Ok-try_get_matches_from.matches c.in-Ok-try_get_matches_from.matches (app_of c.in-Ok.command) c.as_slice.result c.as_slice-2.result c.as_slice-3.result _
-    c.unwrap.result.0.now (rows_of (found_of c.unwrap.result.1.now)) c.in-Ok-try_get_matches_from.is same sizes ratings places
-    (c.try_get_matches_from.ensures.kinds (is_free _ _ _ _ same)) ((c.in-Ok-try_get_matches_from.ensures).matches (is_plain _ _ _ _ same)).1
+    let enters = enters_by c.try_get_matches_from.result c.in-Ok-try_get_matches_from.matches c.in-Ok-try_get_matches_from.matches (app_of c.in-Ok.command) c.as_slice.result c.as_slice-2.result c.as_slice-3.result c.as_slice-4.result _
+    c.unwrap.result.0.now (rows_of (found_of c.unwrap.result.1.now)) c.in-Ok-try_get_matches_from.is same sizes ratings places bits
+    (c.try_get_matches_from.ensures.kinds (is_free _ _ _ _ _ same)) ((c.in-Ok-try_get_matches_from.ensures).matches (is_plain _ _ _ _ _ same)).1
     (rw c.unwrap.ensures at c.subcommand.ensures.name) (rw c.unwrap.ensures at c.subcommand.ensures.rows) in
     record {
       rows = rows_of (found_of c.unwrap.result.1.now);
@@ -74,10 +77,11 @@ returns-in-verify-clause-asked c =
     let sizes : Spells c.as_slice.result size_words = search rules in
     let ratings : Spells c.as_slice-2.result rating_words = search rules in
     let places : Spells c.as_slice-3.result place_words = search rules in
+    let bits : Spells c.as_slice-4.result bits_words = search rules in
     let same = (c.in-Ok.ensures).app in
-    let enters = enters_by c.try_get_matches_from.result c.in-Ok-try_get_matches_from.matches c.in-Ok-try_get_matches_from.matches (app_of c.in-Ok.command) c.as_slice.result c.as_slice-2.result c.as_slice-3.result _
-    c.unwrap.result.0.now (rows_of (found_of c.unwrap.result.1.now)) c.in-Ok-try_get_matches_from.is same sizes ratings places
-    (c.try_get_matches_from.ensures.kinds (is_free _ _ _ _ same)) ((c.in-Ok-try_get_matches_from.ensures).matches (is_plain _ _ _ _ same)).1
+    let enters = enters_by c.try_get_matches_from.result c.in-Ok-try_get_matches_from.matches c.in-Ok-try_get_matches_from.matches (app_of c.in-Ok.command) c.as_slice.result c.as_slice-2.result c.as_slice-3.result c.as_slice-4.result _
+    c.unwrap.result.0.now (rows_of (found_of c.unwrap.result.1.now)) c.in-Ok-try_get_matches_from.is same sizes ratings places bits
+    (c.try_get_matches_from.ensures.kinds (is_free _ _ _ _ _ same)) ((c.in-Ok-try_get_matches_from.ensures).matches (is_plain _ _ _ _ _ same)).1
     (rw c.unwrap.ensures at c.subcommand.ensures.name) (rw c.unwrap.ensures at c.subcommand.ensures.rows) in
     record {
       rows = rows_of (found_of c.unwrap.result.1.now);
@@ -93,10 +97,11 @@ returns-in-rights-clause-asked c =
     let sizes : Spells c.as_slice.result size_words = search rules in
     let ratings : Spells c.as_slice-2.result rating_words = search rules in
     let places : Spells c.as_slice-3.result place_words = search rules in
+    let bits : Spells c.as_slice-4.result bits_words = search rules in
     let same = (c.in-Ok.ensures).app in
-    let enters = enters_by c.try_get_matches_from.result c.in-Ok-try_get_matches_from.matches c.in-Ok-try_get_matches_from.matches (app_of c.in-Ok.command) c.as_slice.result c.as_slice-2.result c.as_slice-3.result _
-    c.unwrap.result.0.now (rows_of (found_of c.unwrap.result.1.now)) c.in-Ok-try_get_matches_from.is same sizes ratings places
-    (c.try_get_matches_from.ensures.kinds (is_free _ _ _ _ same)) ((c.in-Ok-try_get_matches_from.ensures).matches (is_plain _ _ _ _ same)).1
+    let enters = enters_by c.try_get_matches_from.result c.in-Ok-try_get_matches_from.matches c.in-Ok-try_get_matches_from.matches (app_of c.in-Ok.command) c.as_slice.result c.as_slice-2.result c.as_slice-3.result c.as_slice-4.result _
+    c.unwrap.result.0.now (rows_of (found_of c.unwrap.result.1.now)) c.in-Ok-try_get_matches_from.is same sizes ratings places bits
+    (c.try_get_matches_from.ensures.kinds (is_free _ _ _ _ _ same)) ((c.in-Ok-try_get_matches_from.ensures).matches (is_plain _ _ _ _ _ same)).1
     (rw c.unwrap.ensures at c.subcommand.ensures.name) (rw c.unwrap.ensures at c.subcommand.ensures.rows) in
     record {
       rows = rows_of (found_of c.unwrap.result.1.now);
@@ -111,10 +116,11 @@ returns-in-migrate-clause-asked c =
     let sizes : Spells c.as_slice.result size_words = search rules in
     let ratings : Spells c.as_slice-2.result rating_words = search rules in
     let places : Spells c.as_slice-3.result place_words = search rules in
+    let bits : Spells c.as_slice-4.result bits_words = search rules in
     let same = (c.in-Ok.ensures).app in
-    let enters = enters_by c.try_get_matches_from.result c.in-Ok-try_get_matches_from.matches c.in-Ok-try_get_matches_from.matches (app_of c.in-Ok.command) c.as_slice.result c.as_slice-2.result c.as_slice-3.result _
-    c.unwrap.result.0.now (rows_of (found_of c.unwrap.result.1.now)) c.in-Ok-try_get_matches_from.is same sizes ratings places
-    (c.try_get_matches_from.ensures.kinds (is_free _ _ _ _ same)) ((c.in-Ok-try_get_matches_from.ensures).matches (is_plain _ _ _ _ same)).1
+    let enters = enters_by c.try_get_matches_from.result c.in-Ok-try_get_matches_from.matches c.in-Ok-try_get_matches_from.matches (app_of c.in-Ok.command) c.as_slice.result c.as_slice-2.result c.as_slice-3.result c.as_slice-4.result _
+    c.unwrap.result.0.now (rows_of (found_of c.unwrap.result.1.now)) c.in-Ok-try_get_matches_from.is same sizes ratings places bits
+    (c.try_get_matches_from.ensures.kinds (is_free _ _ _ _ _ same)) ((c.in-Ok-try_get_matches_from.ensures).matches (is_plain _ _ _ _ _ same)).1
     (rw c.unwrap.ensures at c.subcommand.ensures.name) (rw c.unwrap.ensures at c.subcommand.ensures.rows) in
     record {
       rows = rows_of (found_of c.unwrap.result.1.now);
@@ -122,6 +128,7 @@ returns-in-migrate-clause-asked c =
       given = migrate-given _ _ (enters-named _ _ _ _ c.in-migrate.is enters);
       certificate_is = c.migrate_files.ensures.certificate;
       out_is = c.migrate_files.ensures.out;
+      bits_is = c.migrate_files.ensures.bits;
     }
 
 pub returns-in-check-clause-asked : goal.returns-in-check-clause-asked
@@ -129,10 +136,11 @@ returns-in-check-clause-asked c =
     let sizes : Spells c.as_slice.result size_words = search rules in
     let ratings : Spells c.as_slice-2.result rating_words = search rules in
     let places : Spells c.as_slice-3.result place_words = search rules in
+    let bits : Spells c.as_slice-4.result bits_words = search rules in
     let same = (c.in-Ok.ensures).app in
-    let enters = enters_by c.try_get_matches_from.result c.in-Ok-try_get_matches_from.matches c.in-Ok-try_get_matches_from.matches (app_of c.in-Ok.command) c.as_slice.result c.as_slice-2.result c.as_slice-3.result _
-    c.unwrap.result.0.now (rows_of (found_of c.unwrap.result.1.now)) c.in-Ok-try_get_matches_from.is same sizes ratings places
-    (c.try_get_matches_from.ensures.kinds (is_free _ _ _ _ same)) ((c.in-Ok-try_get_matches_from.ensures).matches (is_plain _ _ _ _ same)).1
+    let enters = enters_by c.try_get_matches_from.result c.in-Ok-try_get_matches_from.matches c.in-Ok-try_get_matches_from.matches (app_of c.in-Ok.command) c.as_slice.result c.as_slice-2.result c.as_slice-3.result c.as_slice-4.result _
+    c.unwrap.result.0.now (rows_of (found_of c.unwrap.result.1.now)) c.in-Ok-try_get_matches_from.is same sizes ratings places bits
+    (c.try_get_matches_from.ensures.kinds (is_free _ _ _ _ _ same)) ((c.in-Ok-try_get_matches_from.ensures).matches (is_plain _ _ _ _ _ same)).1
     (rw c.unwrap.ensures at c.subcommand.ensures.name) (rw c.unwrap.ensures at c.subcommand.ensures.rows) in
     record {
       rows = rows_of (found_of c.unwrap.result.1.now);
@@ -146,10 +154,11 @@ returns-in-factors-clause-asked c =
     let sizes : Spells c.as_slice.result size_words = search rules in
     let ratings : Spells c.as_slice-2.result rating_words = search rules in
     let places : Spells c.as_slice-3.result place_words = search rules in
+    let bits : Spells c.as_slice-4.result bits_words = search rules in
     let same = (c.in-Ok.ensures).app in
-    let enters = enters_by c.try_get_matches_from.result c.in-Ok-try_get_matches_from.matches c.in-Ok-try_get_matches_from.matches (app_of c.in-Ok.command) c.as_slice.result c.as_slice-2.result c.as_slice-3.result _
-    c.unwrap.result.0.now (rows_of (found_of c.unwrap.result.1.now)) c.in-Ok-try_get_matches_from.is same sizes ratings places
-    (c.try_get_matches_from.ensures.kinds (is_free _ _ _ _ same)) ((c.in-Ok-try_get_matches_from.ensures).matches (is_plain _ _ _ _ same)).1
+    let enters = enters_by c.try_get_matches_from.result c.in-Ok-try_get_matches_from.matches c.in-Ok-try_get_matches_from.matches (app_of c.in-Ok.command) c.as_slice.result c.as_slice-2.result c.as_slice-3.result c.as_slice-4.result _
+    c.unwrap.result.0.now (rows_of (found_of c.unwrap.result.1.now)) c.in-Ok-try_get_matches_from.is same sizes ratings places bits
+    (c.try_get_matches_from.ensures.kinds (is_free _ _ _ _ _ same)) ((c.in-Ok-try_get_matches_from.ensures).matches (is_plain _ _ _ _ _ same)).1
     (rw c.unwrap.ensures at c.subcommand.ensures.name) (rw c.unwrap.ensures at c.subcommand.ensures.rows) in
     record {
       rows = rows_of (found_of c.unwrap.result.1.now);
@@ -163,10 +172,11 @@ returns-in-Ok-try_get_matches_from-clause-asked c =
     let sizes : Spells c.as_slice.result size_words = search rules in
     let ratings : Spells c.as_slice-2.result rating_words = search rules in
     let places : Spells c.as_slice-3.result place_words = search rules in
+    let bits : Spells c.as_slice-4.result bits_words = search rules in
     let same = (c.in-Ok.ensures).app in
-    let enters = enters_by c.try_get_matches_from.result c.in-Ok-try_get_matches_from.matches c.in-Ok-try_get_matches_from.matches (app_of c.in-Ok.command) c.as_slice.result c.as_slice-2.result c.as_slice-3.result _
-    c.unwrap.result.0.now (rows_of (found_of c.unwrap.result.1.now)) c.in-Ok-try_get_matches_from.is same sizes ratings places
-    (c.try_get_matches_from.ensures.kinds (is_free _ _ _ _ same)) ((c.in-Ok-try_get_matches_from.ensures).matches (is_plain _ _ _ _ same)).1
+    let enters = enters_by c.try_get_matches_from.result c.in-Ok-try_get_matches_from.matches c.in-Ok-try_get_matches_from.matches (app_of c.in-Ok.command) c.as_slice.result c.as_slice-2.result c.as_slice-3.result c.as_slice-4.result _
+    c.unwrap.result.0.now (rows_of (found_of c.unwrap.result.1.now)) c.in-Ok-try_get_matches_from.is same sizes ratings places bits
+    (c.try_get_matches_from.ensures.kinds (is_free _ _ _ _ _ same)) ((c.in-Ok-try_get_matches_from.ensures).matches (is_plain _ _ _ _ _ same)).1
     (rw c.unwrap.ensures at c.subcommand.ensures.name) (rw c.unwrap.ensures at c.subcommand.ensures.rows) in
     let name = entered-make _ _ _ enters (record {
       pool = c.in_default.not-pool;
@@ -185,6 +195,7 @@ returns-clause-refused c =
     let sizes : Spells c.as_slice.result size_words = search rules in
     let ratings : Spells c.as_slice-2.result rating_words = search rules in
     let places : Spells c.as_slice-3.result place_words = search rules in
+    let bits : Spells c.as_slice-4.result bits_words = search rules in
     let same = (c.in-Ok.ensures).app in
-    λ told. refused_by c.try_get_matches_from.result c.in-Err-try_get_matches_from.error (app_of c.in-Ok.command) c.as_slice.result c.as_slice-2.result c.as_slice-3.result _ c.in-Err-try_get_matches_from.is
-    (λ memory. told (c.stop_of.ensures.memory (c.kind.ensures ∙ memory))) same sizes ratings places (c.try_get_matches_from.ensures.kinds (is_free _ _ _ _ same))
+    λ told. refused_by c.try_get_matches_from.result c.in-Err-try_get_matches_from.error (app_of c.in-Ok.command) c.as_slice.result c.as_slice-2.result c.as_slice-3.result c.as_slice-4.result _ c.in-Err-try_get_matches_from.is
+    (λ memory. told (c.stop_of.ensures.memory (c.kind.ensures ∙ memory))) same sizes ratings places bits (c.try_get_matches_from.ensures.kinds (is_free _ _ _ _ _ same))
