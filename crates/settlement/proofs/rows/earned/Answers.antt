@@ -57,7 +57,7 @@ returns-in_ok-room-in-Below g c =
           is.exact ∙ ap (λ t. e.down *ℚ t) c.in_ok-room-in-Below.ensures.exact
           ∙ lower_earned e (value c.args.priced) (value c.args.offset) none)
           (λ _ _. tt);
-      cause = MatchResult-weaker c.times-in-Below.result c.times-in-Below.ensures (λ _ _. tt)
+      stops = MatchResult-weaker c.times-in-Below.result c.times-in-Below.ensures (λ _ _. tt)
           (λ p is.
           inr (inr (lower_refused e (value c.args.priced) (value c.args.offset) g.N.Exact.bound (passed_at value p) none
           (refusal value g.N.Exact.bound Times c.args.dual.now.down c.in_ok-room-in-Below.room _ _ p refl c.in_ok-room-in-Below.ensures.exact
