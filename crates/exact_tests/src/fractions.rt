@@ -1,7 +1,8 @@
-//! What no clause says: numbers at the edges of the two types, texts, and each call once at both types.
+//! What no clause says: numbers at the edges of the types of 63 and 127 bits, texts, and each call once at every type.
 ghost use Rattle.std.specs.Prelude.{◌≤◌};
 
 use exact_fraction::{Exact, Frac, Frac63, MOST_TEXT, Op, Passed, Sign, size};
+use long_fraction::Frac1023;
 use std::cmp::Ordering;
 use std::process::Abort;
 
@@ -47,7 +48,7 @@ fn is_written<N: Exact>(x: N, places: u8, text: &str) -> bool
     &buf[..end] == text.as_bytes()
 }
 
-fn is_in_parts<N: Exact>(x: N, text: &str) -> bool {
+pub fn is_in_parts<N: Exact>(x: N, text: &str) -> bool {
     let mut buf = [0; MOST_TEXT];
     let end = x.write_parts(&mut buf);
     &buf[..end] == text.as_bytes()
@@ -77,9 +78,10 @@ fn calls<N: Exact>(rt: &impl Abort) {
 }
 
 #[test]
-fn each_call_at_both_types(rt: HostRuntime) {
+fn each_call_at_each_type(rt: HostRuntime) {
     calls::<Frac>(&rt);
     calls::<Frac63>(&rt);
+    calls::<Frac1023>(&rt);
 }
 
 /// Sides whose parts have 63 bits: at `Frac` none of these passes.
@@ -229,7 +231,7 @@ static ORDERS: [((i64, u64), (i64, u64), Ordering); 6] = [
     ((MOST, 2), (MOST, 1), Ordering::Less),
 ];
 
-/// Each way through a sum, a product and a comparison, at both types.
+/// Each way through a sum, a product and a comparison, at each type.
 fn ways<N: Exact>(rt: &impl Abort) {
     for (op, left, right, text) in &WAYS {
         match (
@@ -255,9 +257,10 @@ fn ways<N: Exact>(rt: &impl Abort) {
 }
 
 #[test]
-fn ways_at_both_types(rt: HostRuntime) {
+fn ways_at_each_type(rt: HostRuntime) {
     ways::<Frac>(&rt);
     ways::<Frac63>(&rt);
+    ways::<Frac1023>(&rt);
 }
 
 /// The product of two fractions of 63 bits.
