@@ -138,7 +138,7 @@ module _ {N : Type 0} (value : N → Fraction) (bound : ℕ) (fits : (x : N) →
   all_within [] = All-nil (AreStepSidesWithin bound)
   all_within (o ∷ os) = All-cons (AreStepSidesWithin bound) (step_outcome_at value o) (map (step_outcome_at value) os) (step_within o) (all_within os)
 
-  pub replays_to : (m : Parts) (steps : List Step) (start now : SessionState) (outcomes : List (StepOutcome N)) (t : Telling) → start ≡ record { market = m; kept = cold }
+  unfoldable pub replays_to : (m : Parts) (steps : List Step) (start now : SessionState) (outcomes : List (StepOutcome N)) (t : Telling) → start ≡ record { market = m; kept = cold }
       → IsMarket m → All IsStep steps
       → IsReplay bound start.market start.kept.taken.takings steps (map (step_outcome_at value) outcomes) now.kept.taken.takings
       → TellsSteps bound m steps (map (step_outcome_at value) outcomes) t → ReplaysTo bound m steps t

@@ -1,5 +1,7 @@
 -- What is told by numbers within a bound is told by those within a greater one, where no two became too large.
 use Rattle.std.proofs.Common.{◌≡◌, ◌≢◌, ◌≤◌, ◌⊎◌, ◌∙◌, inl, inr, lit≤, ℕ, List, [], ◌∷◌, All, Option, Some, None, IfSome, arith, refl, sym, ap, subst, zero, suc}
+use Rattle.std.proofs.Common.{map}
+use Rattle.std.specs.Prelude.{unsigned_abs}
 use Rattle.std.proofs.lemmas.List.Elements.{All-cons, All-nil, All-tail}
 use Rattle.fraction_theory.specs.Fraction.{Fraction}
 use Rattle.market_model.specs.declared.answered.Outcome.{Outcome}
@@ -18,7 +20,9 @@ use Rattle.cert_format.proofs.CertLemmas.{numbers-more}
 use Rattle.edit_table.specs.EditTable.{IsStep}
 use Rattle.edit_table.specs.declared.Step.{Step}
 use Rattle.edit_table.specs.declared.Step.TheVariants as edit
-use Rattle.edit_replay.specs.Replays.{IsReplay, IsReply, stepped}
+use Rattle.clear_loop.specs.Keeping.{cold}
+use Rattle.edit_replay.specs.Replays.{IsReplay, IsReply, step_outcome_at, stepped}
+use Rattle.edit_replay.specs.SessionStates.{SessionState}
 use Rattle.edit_replay.specs.declared.step_outcome.StepOutcome.{StepOutcome}
 use Rattle.edit_replay.specs.declared.step_outcome.StepOutcome.TheVariants as step
 use Rattle.command_answers.specs.Clearing.{AreSidesWithin, ClearsTo, TellsCertified}
@@ -26,7 +30,7 @@ use Rattle.command_answers.specs.Replaying.{AreStepSidesWithin, IsWithin, Replay
 use Rattle.command_answers.specs.Rights.{EntitlesTo, TellsFit, TellsOutcome, fitted, passed}
 use Rattle.command_answers.specs.Tellings.{Telling}
 use Rattle.command_answers.specs.declared.status.Status.TheVariants as status
-use Rattle.command_answers.proofs.ReplayLemmas.{are_decided}
+use Rattle.command_answers.proofs.ReplayLemmas.{are_decided, replays_to}
 use Rattle.report_text.specs.Reports.{report_text}
 use Rattle.number_bits.specs.Bits.{most_of}
 use Rattle.number_bits.specs.declared.NumberBits.{NumberBits}
@@ -131,3 +135,12 @@ module _ (less bound : ℕ) (wide : less ≤ bound) where
         decided = λ none. are_decided bound m [] h.taken steps h.outcomes market data_ok none right;
         told = steps-wider m steps h.outcomes t h.told;
       }
+
+  -- a replay by numbers of a type, as it is told
+  pub replays_to-wider : {N : Type 0} (value : N → Fraction) (fits : (x : N) → (unsigned_abs (value x).num ≤ less) × ((value x).den ≤ less)) (m : Parts) (steps : List Step) (start now : SessionState) (outcomes : List (StepOutcome N)) (t : Telling)
+      → start ≡ record { market = m; kept = cold } → IsMarket m → All IsStep steps
+      → IsReplay less start.market start.kept.taken.takings steps (map (step_outcome_at value) outcomes) now.kept.taken.takings
+      → TellsSteps less m steps (map (step_outcome_at value) outcomes) t → All IsWithin (map (step_outcome_at value) outcomes) → ReplaysTo bound m steps t
+  unfolding replays_to
+  replays_to-wider value fits m steps start now outcomes t is market data_ok replay told within =
+      replays-wider m steps t market data_ok (replays_to value less fits m steps start now outcomes t is market data_ok replay told) within

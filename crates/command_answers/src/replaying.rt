@@ -242,10 +242,9 @@ pub fn replay_told(
     ensures tells { IfOk result (λ told. Tells (IsReplayed rating places (tables_lent bytes.now) edits.now) (TellsReplay (most_of bits)) (telling_of told)) }
 {
     let made = replay_by::<Frac>(alloc, bytes, rating, places, edits)?;
-    if is_replayed_anew(bits, made.is_passed) {
-        let anew = replay_by::<Frac1023>(alloc, bytes, rating, places, edits)?;
-        Ok(anew.told)
-    } else {
-        Ok(made.told)
+    if !is_replayed_anew(bits, made.is_passed) {
+        return Ok(made.told);
     }
+    let anew = replay_by::<Frac1023>(alloc, bytes, rating, places, edits)?;
+    Ok(anew.told)
 }

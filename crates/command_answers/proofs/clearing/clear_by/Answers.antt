@@ -9,7 +9,7 @@ use Rattle.command_answers.proofs.clearing.clear_by.Goals as goal
 pub returns-then-is_made_anew-clause-clears : goal.returns-then-is_made_anew-clause-clears
 returns-then-is_made_anew-clause-clears c =
     let anew : c.is_made_anew.result ≡ true = search rules in
-    subst (λ b. IfOk c.clear_outcome-2.result (λ told. ClearsTo (most_of b) c.args.market.now (telling_of told))) (sym (c.is_made_anew.ensures.anew anew)) c.clear_outcome-2.ensures.clears
+    subst (λ b. IfOk c.clear_outcome-then-is_made_anew.result (λ told. ClearsTo (most_of b) c.args.market.now (telling_of told))) (sym (c.is_made_anew.ensures.anew anew)) c.clear_outcome-then-is_made_anew.ensures.clears
 
 pub returns-else-is_made_anew-clause-clears : goal.returns-else-is_made_anew-clause-clears
 returns-else-is_made_anew-clause-clears c =

@@ -9,7 +9,7 @@ use Rattle.command_answers.proofs.rights.rights_by.Goals as goal
 pub returns-then-is_made_anew-clause-entitles : goal.returns-then-is_made_anew-clause-entitles
 returns-then-is_made_anew-clause-entitles c =
     let anew : c.is_made_anew.result ≡ true = search rules in
-    subst (λ b. IfOk c.rights_outcome-2.result (λ told. EntitlesTo (most_of b) c.args.market.now c.args.rights.now (telling_of told))) (sym (c.is_made_anew.ensures.anew anew)) c.rights_outcome-2.ensures.entitles
+    subst (λ b. IfOk c.rights_outcome-then-is_made_anew.result (λ told. EntitlesTo (most_of b) c.args.market.now c.args.rights.now (telling_of told))) (sym (c.is_made_anew.ensures.anew anew)) c.rights_outcome-then-is_made_anew.ensures.entitles
 
 pub returns-else-is_made_anew-clause-entitles : goal.returns-else-is_made_anew-clause-entitles
 returns-else-is_made_anew-clause-entitles c =
