@@ -33,7 +33,7 @@ fn is<N: Exact>(answer: Result<N, Passed<N>>, value: N) -> bool {
     }
 }
 
-fn inverse<N: Exact>(x: N) -> Option<N> {
+pub fn inverse<N: Exact>(x: N) -> Option<N> {
     match x.sign() {
         Sign::Zero => None,
         _ => Some(x.recip()),
