@@ -134,7 +134,7 @@ module _ {N : Type 0} (value : N → Fraction) (bound : ℕ) (fits : (x : N) →
   step_within (step.Refused f) = tt
   step_within (step.Clear o) = sides_within o
 
-  all_within : (os : List (StepOutcome N)) → All (AreStepSidesWithin bound) (map (step_outcome_at value) os)
+  pub all_within : (os : List (StepOutcome N)) → All (AreStepSidesWithin bound) (map (step_outcome_at value) os)
   all_within [] = All-nil (AreStepSidesWithin bound)
   all_within (o ∷ os) = All-cons (AreStepSidesWithin bound) (step_outcome_at value o) (map (step_outcome_at value) os) (step_within o) (all_within os)
 

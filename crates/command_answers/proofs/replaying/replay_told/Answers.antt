@@ -2,6 +2,7 @@ use Rattle.std.proofs.Common.{◌≡◌, true, false, rules, sym, subst}
 use Rattle.market_tables.specs.Tables.{tables_lent}
 use Rattle.number_bits.specs.Bits.{most_of}
 use Rattle.number_bits.specs.declared.NumberBits.TheVariants.{Bits1023}
+use Rattle.long_fraction.specs.Limits.{limit}
 use Rattle.command_answers.specs.Inputs.{IsReplayed}
 use Rattle.command_answers.specs.Replaying.{TellsReplay}
 use Rattle.command_answers.specs.Tellings.{Tells, telling_of}
@@ -15,6 +16,7 @@ returns-then-not-is_replayed_anew-clause-tells c =
     (λ none. c.in_ok-made.ensures.wider (most_of Bits1023) narrow-wide none) (c.is_replayed_anew.ensures.kept kept)
 
 pub returns-clause-tells : goal.returns-clause-tells
+unfolding limit
 returns-clause-tells c =
     let anew : c.is_replayed_anew.result ≡ true = search rules in
     subst (λ b. Tells (IsReplayed c.args.rating c.args.places (tables_lent c.args.bytes.now) c.args.edits.now) (TellsReplay (most_of b)) (telling_of c.in_ok-anew.anew.told)) (sym (c.is_replayed_anew.ensures.anew anew))

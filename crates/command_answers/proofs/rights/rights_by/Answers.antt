@@ -1,12 +1,14 @@
 use Rattle.std.proofs.Common.{◌≡◌, true, false, rules, sym, subst}
 use Rattle.std.specs.Prelude.{IfOk}
 use Rattle.number_bits.specs.Bits.{most_of}
+use Rattle.long_fraction.specs.Limits.{limit}
 use Rattle.command_answers.specs.Rights.{EntitlesTo}
 use Rattle.command_answers.specs.Tellings.{telling_of}
 use Rattle.command_answers.proofs.WiderLemmas.{by-bits, entitles-wider, narrow-wide}
 use Rattle.command_answers.proofs.rights.rights_by.Goals as goal
 
 pub returns-then-is_made_anew-clause-entitles : goal.returns-then-is_made_anew-clause-entitles
+unfolding limit
 returns-then-is_made_anew-clause-entitles c =
     let anew : c.is_made_anew.result ≡ true = search rules in
     subst (λ b. IfOk c.rights_outcome-then-is_made_anew.result (λ told. EntitlesTo (most_of b) c.args.market.now c.args.rights.now (telling_of told))) (sym (c.is_made_anew.ensures.anew anew)) c.rights_outcome-then-is_made_anew.ensures.entitles
