@@ -1,8 +1,8 @@
 -- Statuses, and what the last clear came to, one outcome after another.
-use Rattle.std.proofs.Common.{◌≡◌, ◌<◌, ◌≤◌, ◌∙◌, ℕ, ◌+◌, true, false, if◌then◌else◌, List, [], ◌∷◌, All, drop, take, get_or, map, length, Option, Some, zero, suc, refl, sym, ap, subst}
+use Rattle.std.proofs.Common.{◌≡◌, ◌<◌, ◌≤◌, ◌∙◌, ℕ, ◌+◌, true, false, if◌then◌else◌, List, [], ◌∷◌, All, drop, take, get_or, map, length, Option, Some, zero, suc, refl, sym, ap, arith, subst}
 use Rattle.std.specs.Prelude.{unsigned_abs}
-use Rattle.std.proofs.lemmas.List.Elements.{All-cons, All-nil, All-tail, All-take}
-use Rattle.std.proofs.lemmas.List.{at_drop_all, at_drop_more}
+use Rattle.std.proofs.lemmas.List.Elements.{All-cons, All-get_or, All-nil, All-tail, All-take}
+use Rattle.std.proofs.lemmas.List.{at_drop_all, at_drop_more, get_or-map, length-map}
 use Rattle.fraction_theory.specs.Fraction.{Fraction}
 use Rattle.market_model.specs.declared.answered.Outcome.{Outcome}
 use Rattle.edit_replay.specs.Replays.{step_outcome_at}
@@ -31,7 +31,7 @@ use Rattle.edit_replay.proofs.FrameLemmas.{steps_market}
 use Rattle.edit_replay.specs.declared.step_outcome.StepOutcome.TheVariants as step
 use Rattle.command_answers.specs.Clearing.{AreSidesWithin}
 use Rattle.command_answers.specs.Tellings.{Telling}
-use Rattle.command_answers.specs.Replaying.{AreDecided, AreStepSidesWithin, NoPairPassesIn, ReplaysTo, clear_or, is_done, last_clear, replay_status, step_status, TellsSteps}
+use Rattle.command_answers.specs.Replaying.{AreDecided, AreStepSidesWithin, IsNoRange, NoPairPassesIn, ReplaysTo, clear_or, is_done, last_clear, replay_status, step_status, TellsSteps}
 use Rattle.command_answers.proofs.SidesLemmas.{passed_within}
 
 -- the first outcome and those behind it
@@ -86,6 +86,14 @@ module _ {N : Type 0} (value : N → Fraction) (outcomes : List (StepOutcome N))
       ap (λ b. last_from b (drop (k + 1) outcomes)) is
       ∙ sym (at_drop_more (last_from before) outcomes k x within ∙ ap (λ y. last_from before (y ∷ drop (k + 1) outcomes)) (sym item) ∙ last_first before (step_outcome_at value x) (map (step_outcome_at value) (drop (k + 1) outcomes)))
       ∙ told
+
+-- ---- whether one of the clears ended with numbers that became too large
+pub none_at : {N : Type 0} (value : N → Fraction) (outcomes : List (StepOutcome N)) (k : ℕ) (x : StepOutcome N) → k < length outcomes → x ≡ get_or outcomes k x
+    → All IsNoRange (map (step_outcome_at value) outcomes) → IsNoRange (step_outcome_at value x)
+none_at value outcomes k x within item none =
+    let inside : k < length (map (step_outcome_at value) outcomes) = omega (arith, length-map outcomes (step_outcome_at value), within) in
+    subst IsNoRange (get_or-map (step_outcome_at value) outcomes k x (step_outcome_at value x) within ∙ ap (step_outcome_at value) (sym item))
+    (All-get_or IsNoRange (map (step_outcome_at value) outcomes) k (step_outcome_at value x) inside none)
 
 -- ---- each clear is decided
 -- a clear in which no pair passes leaves the limits that it begins with, grown

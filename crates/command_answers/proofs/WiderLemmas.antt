@@ -26,7 +26,7 @@ use Rattle.edit_replay.specs.SessionStates.{SessionState}
 use Rattle.edit_replay.specs.declared.step_outcome.StepOutcome.{StepOutcome}
 use Rattle.edit_replay.specs.declared.step_outcome.StepOutcome.TheVariants as step
 use Rattle.command_answers.specs.Clearing.{AreSidesWithin, ClearsTo, TellsCertified}
-use Rattle.command_answers.specs.Replaying.{AreStepSidesWithin, IsWithin, ReplaysTo, TellsSteps}
+use Rattle.command_answers.specs.Replaying.{AreStepSidesWithin, IsNoRange, ReplaysTo, TellsSteps}
 use Rattle.command_answers.specs.Rights.{EntitlesTo, TellsFit, TellsOutcome, fitted, passed}
 use Rattle.command_answers.specs.Tellings.{Telling}
 use Rattle.command_answers.specs.declared.status.Status.TheVariants as status
@@ -52,12 +52,12 @@ module _ (less bound : ℕ) (wide : less ≤ bound) where
   some-wider (Some c) h = numbers-more less bound wide c h
 
   -- ---- one clear
-  right-wider : (m : Parts) (taken : List Row) (o : Outcome Fraction) → IsWithin (step.Clear o) → IsRightOutcome less m taken o → IsRightOutcome bound m taken o
+  right-wider : (m : Parts) (taken : List Row) (o : Outcome Fraction) → IsNoRange (step.Clear o) → IsRightOutcome less m taken o → IsRightOutcome bound m taken o
   right-wider m taken (outcome.Cleared a) within right = right
   right-wider m taken (outcome.Infeasible f) within right = right
   right-wider m taken (outcome.Range p) within right = absurd within
 
-  sides-wider : (o : Outcome Fraction) → IsWithin (step.Clear o) → AreSidesWithin bound o
+  sides-wider : (o : Outcome Fraction) → IsNoRange (step.Clear o) → AreSidesWithin bound o
   sides-wider (outcome.Cleared a) within = tt
   sides-wider (outcome.Infeasible f) within = tt
   sides-wider (outcome.Range p) within = absurd within
@@ -66,7 +66,7 @@ module _ (less bound : ℕ) (wide : less ≤ bound) where
   certified-wider m o t h = record { status_is = h.status_is; text_is = h.text_is; certificate_is = h.certificate_is; certificate_fits = some-wider _ h.certificate_fits }
 
   -- a clear whose status is another has no two numbers that became too large
-  clear-within : (m : Parts) (o : Outcome Fraction) (t : Telling) → TellsCertified less m o t → t.status ≢ status.Range → IsWithin (step.Clear o)
+  clear-within : (m : Parts) (o : Outcome Fraction) (t : Telling) → TellsCertified less m o t → t.status ≢ status.Range → IsNoRange (step.Clear o)
   clear-within m (outcome.Cleared a) t h other = tt
   clear-within m (outcome.Infeasible f) t h other = tt
   clear-within m (outcome.Range p) t h other = absurd (other h.status_is)
@@ -81,7 +81,7 @@ module _ (less bound : ℕ) (wide : less ≤ bound) where
   fit-wider m rights price report t (fitted f is told) other = fitted f is told
   fit-wider m rights price report t (passed p stop within told) other = absurd (other (ap (λ (s : Telling). s.status) told))
 
-  outcome-within : (m : Parts) (rights : List TransmissionRight) (o : Outcome Fraction) (t : Telling) → TellsOutcome less m rights o t → t.status ≢ status.Range → IsWithin (step.Clear o) × TellsOutcome bound m rights o t
+  outcome-within : (m : Parts) (rights : List TransmissionRight) (o : Outcome Fraction) (t : Telling) → TellsOutcome less m rights o t → t.status ≢ status.Range → IsNoRange (step.Clear o) × TellsOutcome bound m rights o t
   outcome-within m rights (outcome.Cleared a) t h other = (tt, fit-wider m rights (total_at (λ x. x) a.prices) (report_text m (outcome.Cleared a)) t h other)
   outcome-within m rights (outcome.Infeasible f) t h other = (tt, h)
   outcome-within m rights (outcome.Range p) t h other = absurd (other (ap (λ (s : Telling). s.status) h))
@@ -92,10 +92,10 @@ module _ (less bound : ℕ) (wide : less ≤ bound) where
       record { outcome = h.outcome; right = right-wider m [] h.outcome told.0 h.right; sides = sides-wider h.outcome told.0; told = told.1 }
 
   -- ---- replays
-  clear-wider : (m : Parts) (before after : List Row) (o : Outcome Fraction) → IsWithin (step.Clear o) → IsClear less m before o after → IsClear bound m before o after
+  clear-wider : (m : Parts) (before after : List Row) (o : Outcome Fraction) → IsNoRange (step.Clear o) → IsClear less m before o after → IsClear bound m before o after
   clear-wider m before after o within h = record { rows = h.rows; right = right-wider m before o within h.right; taken = h.taken; priced = h.priced }
 
-  reply-wider : (m : Parts) (before after : List Taking) (s : Step) (o : StepOutcome Fraction) → IsWithin o → IsReply less m before s o after → IsReply bound m before s o after
+  reply-wider : (m : Parts) (before after : List Taking) (s : Step) (o : StepOutcome Fraction) → IsNoRange o → IsReply less m before s o after → IsReply bound m before s o after
   reply-wider m before after (edit.Edit e) step.Accepted within h = h
   reply-wider m before after (edit.Edit e) (step.Refused f) within h = h
   reply-wider m before after (edit.Edit e) (step.Clear o) within h = absurd h
@@ -103,27 +103,27 @@ module _ (less bound : ℕ) (wide : less ≤ bound) where
   reply-wider m before after edit.Clear (step.Refused f) within h = absurd h
   reply-wider m before after edit.Clear (step.Clear o) within h = (clear-wider m (limits_of before) (limits_of after) o within h.0, h.1)
 
-  replay-wider : (m : Parts) (before after : List Taking) (steps : List Step) (outcomes : List (StepOutcome Fraction)) → All IsWithin outcomes → IsReplay less m before steps outcomes after → IsReplay bound m before steps outcomes after
+  replay-wider : (m : Parts) (before after : List Taking) (steps : List Step) (outcomes : List (StepOutcome Fraction)) → All IsNoRange outcomes → IsReplay less m before steps outcomes after → IsReplay bound m before steps outcomes after
   replay-wider m before after [] [] within h = h
   replay-wider m before after [] (o ∷ outcomes) within h = absurd h
   replay-wider m before after (s ∷ steps) [] within h = absurd h
   replay-wider m before after (s ∷ steps) (o ∷ outcomes) within h =
-      (h.0, reply-wider m before h.0 s o (within 0 o (omega arith)) h.1, replay-wider (stepped m s) h.0 after steps outcomes (All-tail IsWithin o outcomes within) h.2)
+      (h.0, reply-wider m before h.0 s o (within 0 o (omega arith)) h.1, replay-wider (stepped m s) h.0 after steps outcomes (All-tail IsNoRange o outcomes within) h.2)
 
-  step-sides-wider : (o : StepOutcome Fraction) → IsWithin o → AreStepSidesWithin bound o
+  step-sides-wider : (o : StepOutcome Fraction) → IsNoRange o → AreStepSidesWithin bound o
   step-sides-wider step.Accepted within = tt
   step-sides-wider (step.Refused f) within = tt
   step-sides-wider (step.Clear o) within = sides-wider o within
 
-  all-sides-wider : (outcomes : List (StepOutcome Fraction)) → All IsWithin outcomes → All (AreStepSidesWithin bound) outcomes
+  all-sides-wider : (outcomes : List (StepOutcome Fraction)) → All IsNoRange outcomes → All (AreStepSidesWithin bound) outcomes
   all-sides-wider [] within = All-nil (AreStepSidesWithin bound)
   all-sides-wider (o ∷ outcomes) within =
-      All-cons (AreStepSidesWithin bound) o outcomes (step-sides-wider o (within 0 o (omega arith))) (all-sides-wider outcomes (All-tail IsWithin o outcomes within))
+      All-cons (AreStepSidesWithin bound) o outcomes (step-sides-wider o (within 0 o (omega arith))) (all-sides-wider outcomes (All-tail IsNoRange o outcomes within))
 
   steps-wider : (m : Parts) (steps : List Step) (outcomes : List (StepOutcome Fraction)) (t : Telling) → TellsSteps less m steps outcomes t → TellsSteps bound m steps outcomes t
   steps-wider m steps outcomes t h = record { status_is = h.status_is; text_is = h.text_is; certificate_is = h.certificate_is; certificate_fits = some-wider _ h.certificate_fits }
 
-  pub replays-wider : (m : Parts) (steps : List Step) (t : Telling) → IsMarket m → All IsStep steps → (h : ReplaysTo less m steps t) → All IsWithin h.outcomes → ReplaysTo bound m steps t
+  pub replays-wider : (m : Parts) (steps : List Step) (t : Telling) → IsMarket m → All IsStep steps → (h : ReplaysTo less m steps t) → All IsNoRange h.outcomes → ReplaysTo bound m steps t
   replays-wider m steps t market data_ok h within =
       let right = replay-wider m [] h.taken steps h.outcomes within h.right in
       record {
@@ -140,7 +140,7 @@ module _ (less bound : ℕ) (wide : less ≤ bound) where
   pub replays_to-wider : {N : Type 0} (value : N → Fraction) (fits : (x : N) → (unsigned_abs (value x).num ≤ less) × ((value x).den ≤ less)) (m : Parts) (steps : List Step) (start now : SessionState) (outcomes : List (StepOutcome N)) (t : Telling)
       → start ≡ record { market = m; kept = cold } → IsMarket m → All IsStep steps
       → IsReplay less start.market start.kept.taken.takings steps (map (step_outcome_at value) outcomes) now.kept.taken.takings
-      → TellsSteps less m steps (map (step_outcome_at value) outcomes) t → All IsWithin (map (step_outcome_at value) outcomes) → ReplaysTo bound m steps t
+      → TellsSteps less m steps (map (step_outcome_at value) outcomes) t → All IsNoRange (map (step_outcome_at value) outcomes) → ReplaysTo bound m steps t
   unfolding replays_to
   replays_to-wider value fits m steps start now outcomes t is market data_ok replay told within =
       replays-wider m steps t market data_ok (replays_to value less fits m steps start now outcomes t is market data_ok replay told) within

@@ -1,5 +1,5 @@
 -- What the certificates that are written say of their markets.
-use Rattle.std.specs.Prelude.{◌≡◌, ◌↔◌, ◌⊎◌, ◌++◌, ◌≤◌, [], ◌∷◌, ℕ, List, All, Some, None, Ok, codes, length, option_and_then}
+use Rattle.std.specs.Prelude.{◌≡◌, ◌≢◌, ◌↔◌, ◌⊎◌, ◌++◌, ◌≤◌, [], ◌∷◌, ℕ, List, All, Some, None, Ok, codes, length, option_and_then}
 use Rattle.fraction_theory.specs.Fraction.{Fraction}
 use Rattle.exact_fraction.specs.declared.Passed.{Passed}
 use Rattle.market_model.specs.declared.answered.Answer.{Answer}
@@ -7,6 +7,7 @@ use Rattle.market_model.specs.declared.answered.Farkas.{Farkas}
 use Rattle.market_model.specs.declared.answered.Outcome.TheVariants as outcome
 use Rattle.market_model.specs.declared.participants.Parts.{Parts}
 use Rattle.market_model.specs.declared.participants.TransmissionRight.{TransmissionRight}
+use Rattle.market_model.specs.Market.{IsMarket}
 use Rattle.market_model.specs.Reserves.{no_reserve}
 use Rattle.cert_format.specs.declared.certificate.Cert.{Cert}
 use Rattle.cert_format.specs.Certificates.{cert_of_outcome}
@@ -14,6 +15,7 @@ use Rattle.cert_format.specs.Grammar.{cert_read}
 use Rattle.cert_verify.specs.Certificates.{IsTrueOf, first_reason}
 use Rattle.cert_verify.specs.Reasons.{verdict_of}
 use Rattle.cert_verify.specs.declared.verdicts.Verdict.TheVariants.{Yes}
+use Rattle.edit_table.specs.EditTable.{IsStep}
 use Rattle.edit_table.specs.declared.Step.{Step}
 use Rattle.edit_table.specs.declared.Step.TheVariants as step
 use Rattle.edit_replay.specs.Replays.{edited_by}
@@ -32,7 +34,7 @@ use Rattle.refusal_text.specs.declared.refusals.Input.TheVariants as input
 use Rattle.refusal_text.specs.declared.refusals.Refusal.TheVariants as refusal
 use Rattle.command_answers.specs.Clearing.{TellsClear}
 use Rattle.command_answers.specs.Inputs.{IsCertified, MarketSteps}
-use Rattle.command_answers.specs.Replaying.{TellsReplay, last_clear}
+use Rattle.command_answers.specs.Replaying.{IsNoRange, ReplaysTo, TellsReplay, last_clear}
 use Rattle.command_answers.specs.Rights.{EntitlesTo}
 use Rattle.command_answers.specs.RightsLines.{rights_lines}
 use Rattle.command_answers.specs.Tellings.{Telling, Tells, uncertified}
@@ -43,6 +45,20 @@ use Rattle.command_answers.specs.declared.status.Status.TheVariants as status
 -- the market that files stand for is of energy alone exactly where their table of reserves has no records
 abbrev pub LawOfListedReserve : Type 0
 LawOfListedReserve = (rating : PostRating) (places : FactorPlaces) (files : MarketTexts) (m : Parts) → IsLimited rating places files (Ok m) → (m.reserve ≡ no_reserve) ↔ ListsNoReserve files.reserves
+
+-- ---- bounds
+-- what a clear comes to by numbers within a bound, no two of which became too large, is right by a greater one too
+abbrev pub LawOfWiderClears : Type 0
+LawOfWiderClears = (less bound : ℕ) (m : Parts) (t : Telling) → less ≤ bound → TellsClear less m t → t.status ≢ status.Range → TellsClear bound m t
+
+-- so is what a clear with rights comes to
+abbrev pub LawOfWiderRights : Type 0
+LawOfWiderRights = (less bound : ℕ) (m : Parts) (rights : List TransmissionRight) (t : Telling) → less ≤ bound → EntitlesTo less m rights t → t.status ≢ status.Range → EntitlesTo bound m rights t
+
+-- so is what a replay comes to, where none of its clears ended so
+abbrev pub LawOfWiderReplays : Type 0
+LawOfWiderReplays =
+    (less bound : ℕ) (m : Parts) (steps : List Step) (t : Telling) → less ≤ bound → IsMarket m → All IsStep steps → (h : ReplaysTo less m steps t) → All IsNoRange h.outcomes → ReplaysTo bound m steps t
 
 -- ---- certificates
 -- a text is read as this certificate, of numbers within the bound, which is true of the market, and the verdict on it is yes

@@ -64,12 +64,12 @@ AreStepSidesWithin bound (step.Refused f) = Unit {0}
 AreStepSidesWithin bound (step.Clear o) = AreSidesWithin bound o
 
 -- a step that is no clear which ended with numbers that became too large
-abbrev pub IsWithin : StepOutcome Fraction → Type 0
-IsWithin step.Accepted = Unit {0}
-IsWithin (step.Refused f) = Unit {0}
-IsWithin (step.Clear (outcome.Cleared a)) = Unit {0}
-IsWithin (step.Clear (outcome.Infeasible f)) = Unit {0}
-IsWithin (step.Clear (outcome.Range p)) = ⊥
+abbrev pub IsNoRange : StepOutcome Fraction → Type 0
+IsNoRange step.Accepted = Unit {0}
+IsNoRange (step.Refused f) = Unit {0}
+IsNoRange (step.Clear (outcome.Cleared a)) = Unit {0}
+IsNoRange (step.Clear (outcome.Infeasible f)) = Unit {0}
+IsNoRange (step.Clear (outcome.Range p)) = ⊥
 
 -- With these limits taken before, no working pair passes the bound at any clear of the steps: none of the market as it is edited by then,
 -- over limits that are reached from those that the clear before can have left.

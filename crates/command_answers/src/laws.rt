@@ -1,11 +1,19 @@
 //! Laws of what commands come to, each the contract of a function that does nothing.
 
 ghost use Rattle.command_answers.specs.FactorLaws.{LawOfCheckedTables, LawOfMadeTables};
-ghost use Rattle.command_answers.specs.Laws.{LawOfListedReserve, LawOfTheReplay, LawOfTheRightsTelling, LawOfTheRightsText, LawOfTheRoundTrip, LawOfTheSameFiles, LawOfYes};
+ghost use Rattle.command_answers.specs.Laws.{LawOfListedReserve, LawOfTheReplay, LawOfTheRightsTelling, LawOfTheRightsText, LawOfTheRoundTrip, LawOfTheSameFiles, LawOfWiderClears, LawOfWiderReplays, LawOfWiderRights, LawOfYes};
 
 /// The market that files stand for is of energy alone exactly where their table of reserves has no records.
 pub fn no_records_no_reserve()
     ensures { LawOfListedReserve }
+{}
+
+/// What a clear, a replay or a clear with rights comes to by numbers within a bound, where none became too large, is right by a greater
+/// bound too.
+pub fn narrow_answers_stand()
+    ensures clears { LawOfWiderClears }
+    ensures replays { LawOfWiderReplays }
+    ensures rights { LawOfWiderRights }
 {}
 
 /// What a clear of a market writes is read back as the certificate of what it came to, which is true of the market: the verdict on it is yes.

@@ -1,6 +1,6 @@
 //! Edits and clears of a market, one after another.
 
-ghost use Rattle.std.specs.Prelude.{◌≡◌, ◌≢◌, ◌≤◌, ℕ, false, None, All, IfOk, IfSome, OnOk, length, map, option_and_then, option_map};
+ghost use Rattle.std.specs.Prelude.{◌≡◌, ◌≢◌, ◌≤◌, ℕ, true, false, None, All, IfOk, IfSome, OnOk, length, map, option_and_then, option_map};
 ghost use Rattle.fraction_theory.specs.Fraction.{Fraction};
 ghost use Rattle.cert_format.specs.Certificates.{NumbersFit, cert_of_outcome};
 ghost use Rattle.cert_format.specs.Written.{certificate_of};
@@ -14,7 +14,7 @@ ghost use Rattle.market_model.specs.Market.{IsMarket};
 ghost use Rattle.market_model.specs.declared.participants.Parts.{Parts};
 ghost use Rattle.market_model.specs.Valued.{outcome_at};
 ghost use Rattle.command_answers.specs.Inputs.{IsReplayed, steps_with};
-ghost use Rattle.command_answers.specs.Replaying.{IsWithin, ReplaysTo, TellsReplay, TellsSteps, clear_or, is_done, last_clear, replay_status, step_status};
+ghost use Rattle.command_answers.specs.Replaying.{IsNoRange, ReplaysTo, TellsReplay, TellsSteps, clear_or, is_done, last_clear, replay_status, step_status};
 ghost use Rattle.command_answers.specs.Status.{IsOfWork};
 ghost use Rattle.command_answers.specs.Tellings.{Tells, telling_of};
 ghost use Rattle.number_bits.specs.Bits.{most_of};
@@ -126,7 +126,8 @@ fn last_certificate<N: Exact>(
 
 /// Whether a step was a clear that ended with numbers that became too large.
 fn is_passed<N: Exact>(outcome: &StepOutcome<N>) -> bool
-    ensures { result ≡ false → IsWithin (step_outcome_at N.value outcome.now) }
+    ensures none { result ≡ false → IsNoRange (step_outcome_at N.value outcome.now) }
+    ensures one { result ≡ true → ¬ (IsNoRange (step_outcome_at N.value outcome.now)) }
 {
     match outcome {
         StepOutcome::Clear(Outcome::Range(_)) => true,
@@ -137,7 +138,8 @@ fn is_passed<N: Exact>(outcome: &StepOutcome<N>) -> bool
 
 /// Whether one of the steps was.
 fn is_any_passed<N: Exact>(outcomes: &Outcomes<N>) -> bool
-    ensures { result ≡ false → All IsWithin (map (step_outcome_at N.value) outcomes.now) }
+    ensures none { result ≡ false → All IsNoRange (map (step_outcome_at N.value) outcomes.now) }
+    ensures one { result ≡ true → ¬ (All IsNoRange (map (step_outcome_at N.value) outcomes.now)) }
 {
     for outcome in outcomes.slice() {
         if is_passed(outcome) {
@@ -167,7 +169,7 @@ fn outcomes_told<N: Exact>(
     requires fits { All (FitsStep market.now) outcomes.now }
     ensures status { IfOk result (λ made. IsOfWork made.told.status) }
     ensures tells { (m : Parts) → SameFrame market.now m → IfOk result (λ made. TellsSteps N.bound (with_need m need) steps.now (map (step_outcome_at N.value) outcomes.now) (telling_of made.told)) }
-    ensures within { IfOk result (λ made. made.is_passed ≡ false → All IsWithin (map (step_outcome_at N.value) outcomes.now)) }
+    ensures within { IfOk result (λ made. made.is_passed ≡ false → All IsNoRange (map (step_outcome_at N.value) outcomes.now)) }
 {
     let text = replay_text(alloc, market, need, steps, outcomes)?;
     let places = market.factor_places();

@@ -14,7 +14,7 @@ pub enum Status {
     Refused,
     /// No dispatch is feasible.
     Infeasible,
-    /// Numbers passed 127 bits.
+    /// Numbers became too large, for 127 bits or for as many as were asked for.
     Range,
     /// A named file could not be read.
     ReadFailed,

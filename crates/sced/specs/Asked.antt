@@ -21,7 +21,7 @@ pub data AsksToClear (files : Files) (words : List (List ℕ)) (told : Result Pa
   as_pool : (case offers : List ℕ) → AsksPool words case offers → ArePoolFiles files case offers told → AsksToClear files words told
   as_clear : (names : MarketNames) (file : Option (List ℕ)) → AsksClear words names file → AreClearFiles files names told → AsksToClear files words told
 
--- the greatest size of a numerator or a denominator by which a market is to be cleared: that of 127 bits, or what the words say
+-- the greatest size of a numerator or a denominator that the words ask for: that of 127 bits where they say nothing
 abbrev pub clear_bound : {files : Files} {words : List (List ℕ)} {told : Result Parts Refusal} → AsksToClear files words told → ℕ
 clear_bound (as_pool case offers asks stands) = most_of Bits127
 clear_bound (as_clear names file asks stands) = most_of names.bits

@@ -140,8 +140,8 @@ pub data Reports (words : List (List ℕ)) (files : Files) (text : List ℕ) (m 
       → OutcomesFit start steps outcomes → text ≡ replayed start steps outcomes → slice_get outcomes k ≡ Some (reply.Clear o)
       → m ≡ edited_by start (take k steps) → Reports words files text m o k
 
--- the rows with which the clear at that place begins: none, or in a replay the limits among what the clears before it ended with; and the bound of
--- the numbers by which it is cleared
+-- the rows with which the clear at that place begins: none, or in a replay the limits among what the clears before it ended with; and the
+-- bound that the words ask for
 pub data BeginsWith (words : List (List ℕ)) (files : Files) (text : List ℕ) (m : Parts) : ℕ → List Row → ℕ → Type 0 where
   in_clear : (asks : AsksMarket files words m) → BeginsWith words files text m 0 [] (clear_bound asks)
   in_replay : (start : Parts) (steps : List Step) (outcomes : List (StepOutcome Fraction)) (k : ℕ) (taken : List Taking) (asks : AsksSteps files words start steps)

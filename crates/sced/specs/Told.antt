@@ -45,7 +45,7 @@ written_by work = named_outputs (names_for work) (telling_of work.told).outputs
 
 -- The words are refused, or what is told is right for the files that they name. The files that there are to write are a certificate: that
 -- which a clear or a replay has, where the words name a file for it, or one that is written anew; or tables of factors that are made, that of
--- shift factors first. Markets are cleared by numbers of as many bits as the words say, and by 127 where they say nothing.
+-- shift factors first. Numbers have the bound that the words ask for, that of 127 bits where they say nothing.
 pub data AnswersTo (files : Option Files) (words : List (List ℕ)) (t : Telling) : List (List ℕ × List ℕ) → Type 0 where
   refused : AsksNothing words → t.status ≡ status.Usage → AnswersTo files words t []
   pooled : (case offers : List ℕ) → AsksPool words case offers → OfFiles files (λ f. ArePoolFiles f case offers) (TellsClear (most_of Bits127)) t → AnswersTo files words t []

@@ -49,13 +49,14 @@ pub fn complete()
     ensures { LawOfComplete }
 {}
 
-/// Where range is printed, the two printed numbers are a working pair of the market over rows that are reached, which passes 127 bits.
+/// Where range is printed, the two printed numbers are a working pair of the market over rows that are reached, which passes the bound that
+/// the words ask for.
 pub fn range()
     ensures { LawOfRange }
 {}
 
 /// Yes is printed where the certificate is true of the market, and no with the first reason where it is not; else two numbers of the
-/// certificate's sums, which pass 127 bits.
+/// certificate's sums, which pass the bound that the words ask for.
 pub fn verify()
     ensures { LawOfVerify }
 {}

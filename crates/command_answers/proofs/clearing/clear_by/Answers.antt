@@ -11,7 +11,7 @@ pub returns-then-is_made_anew-clause-clears : goal.returns-then-is_made_anew-cla
 unfolding limit
 returns-then-is_made_anew-clause-clears c =
     let anew : c.is_made_anew.result ≡ true = search rules in
-    subst (λ b. IfOk c.clear_outcome-then-is_made_anew.result (λ told. ClearsTo (most_of b) c.args.market.now (telling_of told))) (sym (c.is_made_anew.ensures.anew anew)) c.clear_outcome-then-is_made_anew.ensures.clears
+    subst (λ b. IfOk c.clear_outcome-then-is_made_anew.result (λ told. ClearsTo (most_of b) c.args.market.now (telling_of told))) (sym (c.is_made_anew.ensures.anew anew).0) c.clear_outcome-then-is_made_anew.ensures.clears
 
 pub returns-else-is_made_anew-clause-clears : goal.returns-else-is_made_anew-clause-clears
 returns-else-is_made_anew-clause-clears c =

@@ -19,5 +19,5 @@ pub returns-clause-tells : goal.returns-clause-tells
 unfolding limit
 returns-clause-tells c =
     let anew : c.is_replayed_anew.result ≡ true = search rules in
-    subst (λ b. Tells (IsReplayed c.args.rating c.args.places (tables_lent c.args.bytes.now) c.args.edits.now) (TellsReplay (most_of b)) (telling_of c.in_ok-anew.anew.told)) (sym (c.is_replayed_anew.ensures.anew anew))
+    subst (λ b. Tells (IsReplayed c.args.rating c.args.places (tables_lent c.args.bytes.now) c.args.edits.now) (TellsReplay (most_of b)) (telling_of c.in_ok-anew.anew.told)) (sym (c.is_replayed_anew.ensures.anew anew).0)
     c.in_ok-anew.ensures.tells

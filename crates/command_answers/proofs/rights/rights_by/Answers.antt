@@ -11,7 +11,7 @@ pub returns-then-is_made_anew-clause-entitles : goal.returns-then-is_made_anew-c
 unfolding limit
 returns-then-is_made_anew-clause-entitles c =
     let anew : c.is_made_anew.result ≡ true = search rules in
-    subst (λ b. IfOk c.rights_outcome-then-is_made_anew.result (λ told. EntitlesTo (most_of b) c.args.market.now c.args.rights.now (telling_of told))) (sym (c.is_made_anew.ensures.anew anew)) c.rights_outcome-then-is_made_anew.ensures.entitles
+    subst (λ b. IfOk c.rights_outcome-then-is_made_anew.result (λ told. EntitlesTo (most_of b) c.args.market.now c.args.rights.now (telling_of told))) (sym (c.is_made_anew.ensures.anew anew).0) c.rights_outcome-then-is_made_anew.ensures.entitles
 
 pub returns-else-is_made_anew-clause-entitles : goal.returns-else-is_made_anew-clause-entitles
 returns-else-is_made_anew-clause-entitles c =
