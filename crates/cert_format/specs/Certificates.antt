@@ -1,5 +1,5 @@
 -- Certificates, and those of what a clear came to.
-use Rattle.std.specs.Prelude.{◌≢◌, ◌==◌, ◌&&◌, ℕ, ◌<◌, ◌≤◌, ◌-◌, ◌^◌, Bool, List, [], map, All, AllPairs, Option, Some, None, IfSome, option_map, unsigned_abs, if◌then◌else◌}
+use Rattle.std.specs.Prelude.{◌≢◌, ◌==◌, ◌&&◌, ℕ, ◌<◌, ◌≤◌, ◌^◌, Bool, List, [], map, All, AllPairs, Option, Some, None, IfSome, option_map, unsigned_abs, if◌then◌else◌}
 use Rattle.fraction_theory.specs.Fraction.{Fraction}
 use Rattle.market_data.specs.declared.scales.FactorPlaces.{FactorPlaces}
 use Rattle.market_model.specs.declared.answered.Answer.{Answer}
@@ -69,10 +69,6 @@ RowsAreDistinct c = NamesNoRowTwice (limit_duals_of c)
 pub record Fits (most : ℕ) (x : Fraction) : Type 0 where
   pub num : unsigned_abs x.num ≤ most
   pub den : x.den ≤ most
-
--- the most that a numerator or a denominator may be: that of 127 bits
-abbrev pub most_part : ℕ
-most_part = 2 ^ 127 - 1
 
 -- a row's numbers have 32 bits
 pub record RowFits (row : RowId) : Type 0 where

@@ -13,5 +13,5 @@ mod writing;
 mod writing_reserve;
 
 pub use certificate::{Cert, CertFault, ClearedReserve, Key, ReserveDuals};
-pub use reading::from_json;
+pub use reading::{from_json, read_json};
 pub use writing::{outcome_json, to_json};

@@ -16,7 +16,7 @@ use crate::fractions::fraction;
 use crate::members::{has_size, number_at};
 use crate::reading_reserve::{cleared_reserve, reserve_duals};
 use crate::{Cert, CertFault, Key};
-use exact_fraction::Exact;
+use exact_fraction::{Exact, Frac};
 use indexmap::IndexSet;
 use market_model::{Dual, List, Memory, RowId};
 use serde_json::Value;
@@ -266,8 +266,8 @@ fn cert_in<N: Exact>(alloc: Global, value: &Value) -> Result<Cert<N>, CertFault>
     }
 }
 
-/// Reads a certificate of any version, or tells the first part of the text that is not in the grammar.
-pub fn from_json<N: Exact>(alloc: Global, bytes: &[u8]) -> Result<Cert<N>, CertFault>
+/// Reads a certificate of any version, of numbers within the bound of a type, or tells the first part of the text that is not in the grammar.
+pub fn read_json<N: Exact>(alloc: Global, bytes: &[u8]) -> Result<Cert<N>, CertFault>
     ensures read { IfOk result (λ cert. cert_read N.bound bytes.now ≡ Ok (cert_at N.value cert)) }
     ensures fault { (k : Key) → result ≡ Err (fault.Key k) → cert_read N.bound bytes.now ≡ Err k }
     ensures distinct { IfOk result (λ cert. RowsAreDistinct (cert_at N.value cert)) }
@@ -282,4 +282,13 @@ pub fn from_json<N: Exact>(alloc: Global, bytes: &[u8]) -> Result<Cert<N>, CertF
             }
         }
     }
+}
+
+/// Reads a certificate of any version, of numbers of 127 bits.
+pub fn from_json(alloc: Global, bytes: &[u8]) -> Result<Cert<Frac>, CertFault>
+    ensures read { IfOk result (λ cert. cert_read ⟦<Frac as Exact>⟧.bound bytes.now ≡ Ok (cert_at ⟦<Frac as Exact>⟧.value cert)) }
+    ensures fault { (k : Key) → result ≡ Err (fault.Key k) → cert_read ⟦<Frac as Exact>⟧.bound bytes.now ≡ Err k }
+    ensures distinct { IfOk result (λ cert. RowsAreDistinct (cert_at ⟦<Frac as Exact>⟧.value cert)) }
+{
+    read_json(alloc, bytes)
 }

@@ -21,7 +21,8 @@ use Rattle.command_answers.specs.declared.status.Status.TheVariants as status
 use Rattle.command_answers.specs.declared.told.Outputs.{Outputs}
 use Rattle.command_answers.specs.Clearing.{ArePassedWithin}
 use Rattle.command_answers.specs.Tellings.{Telling, refusal_of, tabled, uncertified}
-use Rattle.cert_format.specs.Certificates.{most_part}
+use Rattle.number_bits.specs.Bits.{most_of}
+use Rattle.number_bits.specs.declared.NumberBits.TheVariants.{Bits127}
 
 -- ---- the tables
 -- a table of shift factors is made where there are not too many of them and all reactances are above 0
@@ -94,4 +95,4 @@ pub data MakesFactors (bound : ℕ) (inputs : FactorInputs) (wanted : Bool) (pla
 
 -- the same of what tables may be made of, by numbers of 127 bits
 abbrev pub TellsFactors : Bool → FactorPlaces → FactorInputs → Telling → Type 0
-TellsFactors wanted places inputs t = AreFitToMake inputs × MakesFactors most_part inputs wanted places t
+TellsFactors wanted places inputs t = AreFitToMake inputs × MakesFactors (most_of Bits127) inputs wanted places t

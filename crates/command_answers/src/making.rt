@@ -12,7 +12,8 @@ ghost use Rattle.market_model.specs.Market.{IsMarket};
 ghost use Rattle.market_system.specs.Outcomes.{IsRightOutcome};
 ghost use Rattle.report_text.specs.Reports.{report_text};
 ghost use Rattle.market_data.specs.Scales.{IsRingSize};
-ghost use Rattle.cert_format.specs.Certificates.{most_part};
+ghost use Rattle.number_bits.specs.Bits.{most_of};
+ghost use Rattle.number_bits.specs.declared.NumberBits.TheVariants.{Bits127};
 
 use crate::clearing::cleared;
 use crate::status::Status;
@@ -152,7 +153,7 @@ pub fn make_told(alloc: Global, buses: usize, seed: u64) -> Result<Told, Memory>
     requires size { IsRingSize buses }
     requires small { seed ≤ 4294967295 }
     ensures status { IfOk result (λ told. IsOfWork told.status) }
-    ensures makes { IfOk result (λ told. MakesTo most_part buses seed (telling_of told)) }
+    ensures makes { IfOk result (λ told. MakesTo (most_of Bits127) buses seed (telling_of told)) }
 {
     let market = ring(alloc, buses, seed)?;
     ring_told::<Frac>(

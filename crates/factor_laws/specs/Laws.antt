@@ -32,7 +32,7 @@ abbrev pub ShiftTablesAreShort : Type 0
 ShiftTablesAreShort = (network : LiveNetwork) (xs : List ℤ) (places : FactorPlaces) (shift : FactorRecords) → IsSound network xs None → IsMadeShift network xs places shift
     → length (factor_table_text column.Bus shift.entries) ≤ most_table_line * (1 + shift_count network)
 
--- That of an outage table has at most one for each live branch and listed outage.
+-- That of an outage table has at most as many for the header and for each live branch and listed outage.
 abbrev pub LossTablesAreShort : Type 0
 LossTablesAreShort = (network : LiveNetwork) (xs : List ℤ) (outages : List ℕ) (places : FactorPlaces) (loss : FactorRecords) → IsSound network xs None → AreOutages network outages
     → IsMadeLoss network xs outages places loss → length (factor_table_text column.Outage loss.entries) ≤ most_table_line * (1 + loss_count network outages)

@@ -12,7 +12,7 @@ ghost use Rattle.market_inputs.specs.Stops.{IsToldAs};
 
 use crate::lengths::check_length;
 use crate::stops::InputStop;
-use cert_format::{Cert, from_json};
+use cert_format::{Cert, read_json};
 use edit_table::{Steps, steps};
 use exact_fraction::Exact;
 use refusal_text::Input;
@@ -33,5 +33,5 @@ pub fn read_certificate<N: Exact>(alloc: Global, bytes: &[u8]) -> Result<Cert<N>
     ensures distinct { IfOk result (λ cert. RowsAreDistinct (cert_at N.value cert)) }
 {
     check_length(bytes, Input::Certificate)?;
-    Ok(from_json(alloc, bytes)?)
+    Ok(read_json(alloc, bytes)?)
 }

@@ -5,7 +5,7 @@ use Rattle.std.proofs.Common.{refl, sym, subst, ◌∙◌}
 use Rattle.fraction_theory.specs.Fraction.{Fraction}
 use Rattle.outside_store.specs.Files.{Files}
 use Rattle.cert_format.specs.declared.certificate.Cert.{Cert}
-use Rattle.cert_format.specs.Certificates.{most_part}
+use Rattle.number_bits.specs.Bits.{most_of}
 use Rattle.clap.specs.Words as clap_words
 use Rattle.market_model.specs.declared.participants.Parts.{Parts}
 use Rattle.refusal_text.specs.declared.refusals.Refusal.{Refusal}
@@ -16,7 +16,6 @@ use Rattle.market_inputs.proofs.OnceLemmas.{OfOne, factor-inputs-once, inputs-on
 use Rattle.market_inputs.specs.Texts.{IsLimited, IsCheck}
 use Rattle.command_words.specs.Words.{AsksClear, AsksMake, AsksPool, CheckNames, Enters, FactorNames, GridNames, MarketNames, refuses}
 use Rattle.command_words.proofs.WordsLemmas.{asks-once, checks-once, clears-once, enters-one, factors-once, makes-once, migrates-once, names-apart, replays-once, rights-once, verifies-once}
-use Rattle.number_bits.specs.Bits.{most_of}
 use Rattle.number_bits.specs.declared.NumberBits.{NumberBits}
 use Rattle.number_bits.specs.declared.NumberBits.TheVariants.{Bits127}
 use Rattle.command_answers.specs.Checking.{TellsCheck}
@@ -254,10 +253,10 @@ module _ (files : Files) (words : List (List ℕ)) (t : Telling) where
 
 -- a ring is made of words alone
 module _ (files : Option Files) (words : List (List ℕ)) (t : Telling) (buses seed : ℕ) (asks : AsksMake words buses seed) where
-  other-made : (name : List ℕ) (rows : List clap_words.Row) → bytes_eq name (codes "make") ≡ false → Enters words name rows → MakesTo most_part buses seed t
+  other-made : (name : List ℕ) (rows : List clap_words.Row) → bytes_eq name (codes "make") ≡ false → Enters words name rows → MakesTo (most_of Bits127) buses seed t
   other-made name rows apart enters = absurd (no-other words name (codes "make") rows asks.rows apart enters asks.enters)
 
-  pub make-told : (w : List (List ℕ × List ℕ)) → AnswersTo files words t w → MakesTo most_part buses seed t
+  pub make-told : (w : List (List ℕ × List ℕ)) → AnswersTo files words t w → MakesTo (most_of Bits127) buses seed t
   make-told _ (refused nothing usage) = absurd (not-refused words _ asks.rows nothing asks.enters)
   make-told _ (pooled case offers asked told) = other-made (codes "pool") asked.rows refl asked.enters
   make-told _ (cleared names file asked told) = other-made (codes "clear") asked.rows refl asked.enters
@@ -269,4 +268,4 @@ module _ (files : Option Files) (words : List (List ℕ)) (t : Telling) (buses s
   make-told _ (factored names asked told) = other-made (codes "factors") asked.rows refl asked.enters
   make-told _ (made n s asked told) =
       let same = makes-once words n buses s seed asked asks in
-      subst (λ x. MakesTo most_part buses x t) same.1 (subst (λ x. MakesTo most_part x s t) same.0 told)
+      subst (λ x. MakesTo (most_of Bits127) buses x t) same.1 (subst (λ x. MakesTo (most_of Bits127) x s t) same.0 told)

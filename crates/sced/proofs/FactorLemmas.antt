@@ -33,7 +33,8 @@ use Rattle.sced.specs.Told as told
 use Rattle.sced.proofs.AskedLemmas.{factors-told, no-other, not-refused}
 use Rattle.sced.proofs.HeadlineLemmas.{bytes-named, kept-at, kept-one, no-outputs}
 use Rattle.sced.proofs.RunLemmas.{printed}
-use Rattle.cert_format.specs.Certificates.{most_part}
+use Rattle.number_bits.specs.Bits.{most_of}
+use Rattle.number_bits.specs.declared.NumberBits.TheVariants.{Bits127}
 
 -- what is written are the tables that there are, to the files that are named for them
 factors-written : (files : Files) (words : List (List ℕ)) (t : Telling) (w : List (List ℕ × List ℕ)) (names : FactorNames) → AsksFactors words names → AnswersTo (Some files) words t w
@@ -99,7 +100,7 @@ module _ (shift_back : ShiftTablesAreReadBack) (loss_back : LossTablesAreReadBac
   untouched : (e : Telling) → e.outputs ≡ certified None → Kept e → SameFiles (Some files) (Some later)
   untouched e none kept = (subst (λ w. KeepsWrites ⊥ w (Some files) (Some later)) (no-outputs (tabled names.ptdf_out names.lodf_out) e.outputs none) kept).1
 
-  of-stop : (why : MakeStop Fraction) → IsFactorsStop most_part inputs (is_some names.lodf_out) names.places why → TellsStop most_part why t → Kept t → IsFactored names inputs files later text s
+  of-stop : (why : MakeStop Fraction) → IsFactorsStop (most_of Bits127) inputs (is_some names.lodf_out) names.places why → TellsStop (most_of Bits127) why t → Kept t → IsFactored names inputs files later text s
   of-stop (make_stop.TooMany count) stops is = as-told _ is (λ kept. refused_tables (factor_fault.TooMany count) stops refl (untouched (refusal_of (refusal.Factors (factor_fault.TooMany count))) refl kept))
   of-stop (make_stop.NotPositive branch) stops is = as-told _ is (λ kept. refused_tables (factor_fault.NotPositive branch) stops refl (untouched (refusal_of (refusal.Factors (factor_fault.NotPositive branch))) refl kept))
   of-stop (make_stop.Passed p) stops (within, is) = as-told _ is (λ kept. passed_tables p stops within refl (untouched (uncertified status.Range (range_text p)) refl kept))

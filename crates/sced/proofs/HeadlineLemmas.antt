@@ -32,7 +32,7 @@ use Rattle.case_maker.specs.Rings.{ring_of}
 use Rattle.factor_maker.specs.declared.stops.MakeStop.{MakeStop}
 use Rattle.factor_maker.specs.declared.stops.MakeStop.TheVariants as make_stop
 use Rattle.record_reading.specs.Steps.{or_as}
-use Rattle.cert_format.specs.Certificates.{CertFits, NamesFit, RowsAreDistinct, cert_of_outcome, most_part}
+use Rattle.cert_format.specs.Certificates.{CertFits, NamesFit, RowsAreDistinct, cert_of_outcome}
 use Rattle.cert_format.specs.Grammar.{cert_read}
 use Rattle.cert_format.specs.Written.{cert_text, certificate_of}
 use Rattle.cert_format.specs.declared.certificate.Cert.{Cert}
@@ -578,17 +578,17 @@ module _ (words : List (List ℕ)) (files : Files) (text : List ℕ) (s : Status
         line : (fault : FactorFault) → p.telling ≡ refusal_of (refusal.Factors fault) → text ≡ refusal_line (refusal.Factors fault)
         line fault is = (refusal-put (refusal.Factors fault) is).1
 
-        none : (why : MakeStop Fraction) → making_factors.IsFactorsStop most_part inputs (is_some asks.names.lodf_out) asks.names.places why → making_factors.TellsStop most_part why p.telling → Why
+        none : (why : MakeStop Fraction) → making_factors.IsFactorsStop (most_of Bits127) inputs (is_some asks.names.lodf_out) asks.names.places why → making_factors.TellsStop (most_of Bits127) why p.telling → Why
         none (make_stop.TooMany count) stops is = inr (inr (record { inputs = inputs; asks = asks; fault = factor_fault.TooMany count; why = stops; told = line (factor_fault.TooMany count) is }))
         none (make_stop.NotPositive branch) stops is = inr (inr (record { inputs = inputs; asks = asks; fault = factor_fault.NotPositive branch; why = stops; told = line (factor_fault.NotPositive branch) is }))
         none (make_stop.Passed q) stops (within, is) = let wrong : status.Range ≡ status.Refused = sym (ap (λ (t : Telling). t.status) is) ∙ bad in cc wrong
         none make_stop.Memory stops never = absurd never
 
-        by : MakesFactors most_part inputs (is_some asks.names.lodf_out) asks.names.places p.telling → Why
+        by : MakesFactors (most_of Bits127) inputs (is_some asks.names.lodf_out) asks.names.places p.telling → Why
         by (making_factors.made tables are is) = let wrong : status.Done ≡ status.Refused = sym (ap (λ (t : Telling). t.status) is) ∙ bad in cc wrong
         by (making_factors.stopped why stops tells) = none why stops tells
 
-    of-ring : (buses seed : ℕ) → MakesTo most_part buses seed p.telling → Why
+    of-ring : (buses seed : ℕ) → MakesTo (most_of Bits127) buses seed p.telling → Why
     of-ring buses seed (making.cleared a market right is) = let wrong : status.Done ≡ status.Refused = sym (ap (λ (t : Telling). t.status) is) ∙ bad in cc wrong
     of-ring buses seed (making.passed q pair within is) = let wrong : status.Range ≡ status.Refused = sym (ap (λ (t : Telling). t.status) is) ∙ bad in cc wrong
 
@@ -625,7 +625,7 @@ ring-answer bound buses seed t (making.passed q pair within is) = inr (q, pair, 
 
 ring-made : LawOfTheReserve → (buses seed : ℕ) (t : Telling) (text : List ℕ) (s : Status) → t.text ≡ text → t.status ≡ s
     → ((a : Answer Fraction) × IsMarket (ring_of buses seed) × IsRight (ring_of buses seed) a × (t ≡ uncertified status.Done (making.ring_line buses seed ++ making.summary a)))
-    ⊎ ((p : Passed Fraction) × IsRangeOf (ring_of buses seed) [] most_part p × ArePassedWithin most_part p × (t ≡ uncertified status.Range (making.ring_line buses seed ++ range_text p))) → IsRingText buses seed text s
+    ⊎ ((p : Passed Fraction) × IsRangeOf (ring_of buses seed) [] (most_of Bits127) p × ArePassedWithin (most_of Bits127) p × (t ≡ uncertified status.Range (making.ring_line buses seed ++ range_text p))) → IsRingText buses seed text s
 ring-made law_of_reserve buses seed t text s words ends (inl (a, market, right, is)) =
     let best = right-best law_of_reserve (ring_of buses seed) a market right in
     subst (IsRingText buses seed text) (sym (ap (λ (x : Telling). x.status) is) ∙ ends) (cleared_ring a best.0 best.1 (sym words ∙ ap (λ (x : Telling). x.text) is))
@@ -635,7 +635,7 @@ ring-made law_of_reserve buses seed t text s words ends (inr (p, pair, within, i
 pub law_of_make : LawOfTheReserve → LawOfMake
 law_of_make law_of_reserve words files text s buses seed prints asks =
     let p = printed words files text s prints in
-    ring-made law_of_reserve buses seed p.telling text s p.text_is p.status_is (ring-answer most_part buses seed p.telling (make-told (Some files) words p.telling buses seed asks p.written p.answers))
+    ring-made law_of_reserve buses seed p.telling text s p.text_is p.status_is (ring-answer (most_of Bits127) buses seed p.telling (make-told (Some files) words p.telling buses seed asks p.written p.answers))
 
 -- ---- outside
 -- each file that is written is one of these

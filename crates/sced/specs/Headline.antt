@@ -9,6 +9,7 @@ use Rattle.fraction_theory.specs.Order.{◌≤ℚ◌}
 use Rattle.fraction_theory.specs.Sums.{sum_by}
 use Rattle.exact_fraction.specs.declared.Passed.{Passed}
 use Rattle.number_bits.specs.Bits.{most_of}
+use Rattle.number_bits.specs.declared.NumberBits.TheVariants.{Bits127}
 use Rattle.outside_store.specs.Causes.{Rose, Still}
 use Rattle.outside_store.specs.Files.{Files, SameFiles}
 use Rattle.market_model.specs.declared.answered.Answer.{Answer}
@@ -41,7 +42,7 @@ use Rattle.factor_text.specs.Texts.{factor_table_text}
 use Rattle.factor_maker.specs.declared.stops.MakeStop.{MakeStop}
 use Rattle.factor_maker.specs.declared.stops.MakeStop.TheVariants as make_stop
 use Rattle.case_maker.specs.Rings.{ring_of}
-use Rattle.cert_format.specs.Certificates.{cert_of_outcome, most_part}
+use Rattle.cert_format.specs.Certificates.{cert_of_outcome}
 use Rattle.cert_format.specs.Grammar.{cert_read}
 use Rattle.cert_format.specs.Written.{cert_text}
 use Rattle.cert_format.specs.declared.certificate.Cert.{Cert}
@@ -351,9 +352,9 @@ stop_refused (factor_fault.NotPositive branch) = make_stop.NotPositive branch
 pub data IsFactored (names : FactorNames) (inputs : FactorInputs) (files later : Files) (text : List ℕ) : Status → Type 0 where
   made_tables : (tables : MadeTables) → AreMadeTables inputs (is_some names.lodf_out) names.places tables → text ≡ tables_text tables
       → HaveTables names inputs.network tables later → IsFactored names inputs files later text status.Done
-  refused_tables : (fault : FactorFault) → IsFactorsStop most_part inputs (is_some names.lodf_out) names.places (stop_refused fault)
+  refused_tables : (fault : FactorFault) → IsFactorsStop (most_of Bits127) inputs (is_some names.lodf_out) names.places (stop_refused fault)
       → text ≡ refusal_line (refusal.Factors fault) → SameFiles (Some files) (Some later) → IsFactored names inputs files later text status.Refused
-  passed_tables : (p : Passed Fraction) → IsFactorsStop most_part inputs (is_some names.lodf_out) names.places (make_stop.Passed p) → ArePassedWithin most_part p
+  passed_tables : (p : Passed Fraction) → IsFactorsStop (most_of Bits127) inputs (is_some names.lodf_out) names.places (make_stop.Passed p) → ArePassedWithin (most_of Bits127) p
       → text ≡ range_text p → SameFiles (Some files) (Some later) → IsFactored names inputs files later text status.Range
 
 abbrev pub LawOfFactors : Type 0
@@ -399,7 +400,7 @@ pub record RefusesFactors (words : List (List ℕ)) (files : Files) (text : List
   pub inputs : FactorInputs
   pub asks : AsksForFactors files words (Ok inputs)
   pub fault : FactorFault
-  pub why : IsFactorsStop most_part inputs (is_some asks.names.lodf_out) asks.names.places (stop_refused fault)
+  pub why : IsFactorsStop (most_of Bits127) inputs (is_some asks.names.lodf_out) asks.names.places (stop_refused fault)
   pub told : text ≡ refusal_line (refusal.Factors fault)
 
 -- a fault of the files is told wherever there is one, and no file is touched then; and its status comes only there, for an edit that is refused,
@@ -414,7 +415,7 @@ LawOfFaults = (words : List (List ℕ)) (files : Files) (text : List ℕ) (s : S
 pub data IsRingText (buses seed : ℕ) (text : List ℕ) : Status → Type 0 where
   cleared_ring : (a : Answer Fraction) → HasGreatestWelfare (ring_of buses seed) (dispatch_in a) → IsPriced (ring_of buses seed) a
       → text ≡ ring_line buses seed ++ summary a → IsRingText buses seed text status.Done
-  range_ring : (p : Passed Fraction) → IsRangeOf (ring_of buses seed) [] most_part p → ArePassedWithin most_part p → text ≡ ring_line buses seed ++ range_text p
+  range_ring : (p : Passed Fraction) → IsRangeOf (ring_of buses seed) [] (most_of Bits127) p → ArePassedWithin (most_of Bits127) p → text ≡ ring_line buses seed ++ range_text p
       → IsRingText buses seed text status.Range
 
 abbrev pub LawOfMake : Type 0

@@ -19,7 +19,6 @@ use Rattle.command_answers.specs.declared.status.Status.TheVariants as status
 use Rattle.command_files.specs.Standing.{AreCheckFiles, AreClearFiles, AreFactorFiles, ArePoolFiles, AreReplayFiles, AreRightsFiles, AreVerifyFiles, IsMigratedFile, OfFiles, TellsFactorsOf}
 use Rattle.sced.specs.Runs.{Ends, FailsAt, Outside}
 use Rattle.sced.specs.declared.run.Work.{Work}
-use Rattle.cert_format.specs.Certificates.{most_part}
 
 -- ---- the words
 -- a file that is named, with the bytes that there are for it, before others
@@ -61,7 +60,7 @@ pub data AnswersTo (files : Option Files) (words : List (List ℕ)) (t : Telling
   checked : (names : CheckNames) → AsksCheck words names → OfFiles files (λ f. AreCheckFiles f names) TellsCheck t → AnswersTo files words t []
   factored : (names : FactorNames) → AsksFactors words names → OfFiles files (λ f. AreFactorFiles f names) (TellsFactorsOf names) t
       → AnswersTo files words t (named_outputs (tabled names.ptdf_out names.lodf_out) t.outputs)
-  made : (buses seed : ℕ) → AsksMake words buses seed → MakesTo most_part buses seed t → AnswersTo files words t []
+  made : (buses seed : ℕ) → AsksMake words buses seed → MakesTo (most_of Bits127) buses seed t → AnswersTo files words t []
 
 -- what is told is right for the words and for the files that these name, and so is the file that is written
 pub record Answers (words : List (List ℕ)) (before after : Outside) (s : Status) : Type 0 where

@@ -1,7 +1,7 @@
 //! `cert_format`: certificates that are read and written, and the first fault of texts that are none.
 
 use cert_format::{CertFault, Key, from_json, outcome_json, to_json};
-use exact_fraction::{Exact, Frac, Frac63, Op, Passed};
+use exact_fraction::{Exact, Frac63, Op, Passed};
 use market_model::{Dual, Duals, FactorPlaces, Farkas, List, Memory, Outcome, RoomDual, RowId};
 use std::alloc::Global;
 use std::test::Fail;
@@ -185,7 +185,7 @@ static FAULTS: [(&str, Key); 45] = [
 
 /// Whether a text is written anew so.
 fn is_rewritten(alloc: Global, text: &str, want: &str) -> Result<bool, CertFault> {
-    let cert = from_json::<Frac>(alloc, text.as_bytes())?;
+    let cert = from_json(alloc, text.as_bytes())?;
     match to_json(alloc, &cert) {
         Ok(written) => Ok(written.as_slice() == want.as_bytes()),
         Err(Memory) => Err(CertFault::Memory),
@@ -202,7 +202,7 @@ fn writes_what_it_reads(rt: HostRuntime) -> Result<(), Fail> {
 
 /// Why a text is no certificate.
 fn fault_of(alloc: Global, text: &str) -> Option<CertFault> {
-    match from_json::<Frac>(alloc, text.as_bytes()) {
+    match from_json(alloc, text.as_bytes()) {
         Ok(_) => None,
         Err(fault) => Some(fault),
     }

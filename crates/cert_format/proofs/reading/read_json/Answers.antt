@@ -6,7 +6,7 @@ use Rattle.cert_format.specs.Grammar.{cert_in, cert_read}
 use Rattle.cert_format.proofs.CertLemmas.{json-fault, json-value}
 use Rattle.cert_format.proofs.GivesLemmas.{gives-fault, gives-read, key_is}
 use Rattle.cert_format.proofs.InverseLemmas.{cert_read-distinct}
-use Rattle.cert_format.proofs.reading.from_json.Goals as goal
+use Rattle.cert_format.proofs.reading.read_json.Goals as goal
 
 pub returns-in-Ok-clause-read : goal.returns-in-Ok-clause-read
 returns-in-Ok-clause-read g c =
