@@ -1,3 +1,4 @@
+pub mod BoundLemmas
 pub mod FactorLemmas
 pub mod IfOkLemmas
 pub mod ListingLemmas
@@ -6,6 +7,5 @@ pub mod RightsLemmas
 pub mod RightsReading
 pub mod RingLemmas
 pub mod RoundTripLemmas
-pub mod SidesLemmas
 pub mod TellingLemmas
 pub mod WiderLemmas

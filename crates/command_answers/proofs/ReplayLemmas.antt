@@ -29,10 +29,9 @@ use Rattle.edit_replay.specs.SessionStates.{SessionState}
 use Rattle.edit_replay.specs.Replays.{IsReplay}
 use Rattle.edit_replay.proofs.FrameLemmas.{steps_market}
 use Rattle.edit_replay.specs.declared.step_outcome.StepOutcome.TheVariants as step
-use Rattle.command_answers.specs.Clearing.{AreSidesWithin}
+use Rattle.command_answers.proofs.BoundLemmas.{outcome_within}
 use Rattle.command_answers.specs.Tellings.{Telling}
-use Rattle.command_answers.specs.Replaying.{AreDecided, AreStepSidesWithin, IsNoRange, NoPairPassesIn, ReplaysTo, clear_or, is_done, last_clear, replay_status, step_status, TellsSteps}
-use Rattle.command_answers.proofs.SidesLemmas.{passed_within}
+use Rattle.command_answers.specs.Replaying.{AreDecided, IsStepWithin, IsNoRange, NoPairPassesIn, ReplaysTo, clear_or, is_done, last_clear, replay_status, step_status, TellsSteps}
 
 -- the first outcome and those behind it
 status_first : (o : StepOutcome Fraction) (os : List (StepOutcome Fraction)) → replay_status (o ∷ os) ≡ (if is_done (step_status o) then replay_status os else step_status o)
@@ -131,20 +130,15 @@ are_decided bound m before after (edit.Clear ∷ steps) (step.Clear q ∷ outcom
 
 -- ---- a replay as it is told
 module _ {N : Type 0} (value : N → Fraction) (bound : ℕ) (fits : (x : N) → (unsigned_abs (value x).num ≤ bound) × ((value x).den ≤ bound)) where
-  -- the two sides of an operation that was refused are within the bound, as all numbers of their type
-  sides_within : (o : Outcome N) → AreSidesWithin bound (outcome_at value o)
-  sides_within (outcome.Cleared a) = tt
-  sides_within (outcome.Infeasible f) = tt
-  sides_within (outcome.Range p) = passed_within value bound fits p
-
-  step_within : (o : StepOutcome N) → AreStepSidesWithin bound (step_outcome_at value o)
+  -- each number of an outcome is within the bound, as all numbers of its type
+  step_within : (o : StepOutcome N) → IsStepWithin bound (step_outcome_at value o)
   step_within step.Accepted = tt
   step_within (step.Refused f) = tt
-  step_within (step.Clear o) = sides_within o
+  step_within (step.Clear o) = outcome_within value bound fits o
 
-  pub all_within : (os : List (StepOutcome N)) → All (AreStepSidesWithin bound) (map (step_outcome_at value) os)
-  all_within [] = All-nil (AreStepSidesWithin bound)
-  all_within (o ∷ os) = All-cons (AreStepSidesWithin bound) (step_outcome_at value o) (map (step_outcome_at value) os) (step_within o) (all_within os)
+  pub all_within : (os : List (StepOutcome N)) → All (IsStepWithin bound) (map (step_outcome_at value) os)
+  all_within [] = All-nil (IsStepWithin bound)
+  all_within (o ∷ os) = All-cons (IsStepWithin bound) (step_outcome_at value o) (map (step_outcome_at value) os) (step_within o) (all_within os)
 
   unfoldable pub replays_to : (m : Parts) (steps : List Step) (start now : SessionState) (outcomes : List (StepOutcome N)) (t : Telling) → start ≡ record { market = m; kept = cold }
       → IsMarket m → All IsStep steps
@@ -157,7 +151,7 @@ module _ {N : Type 0} (value : N → Fraction) (bound : ℕ) (fits : (x : N) →
         outcomes = map (step_outcome_at value) outcomes;
         taken = now.kept.taken.takings;
         right = right;
-        sides = all_within outcomes;
+        within = all_within outcomes;
         markets = λ k. steps_market m (take k steps) market (All-take IsStep k steps data_ok);
         decided = λ none. are_decided bound m [] now.kept.taken.takings steps (map (step_outcome_at value) outcomes) market data_ok none right;
         told = told;

@@ -15,22 +15,23 @@ use Rattle.market_system.specs.Outcomes.{IsRightOutcome}
 use Rattle.report_text.specs.Reports.{report_text}
 use Rattle.case_maker.specs.Rings.{ring_of}
 use Rattle.case_maker.proofs.Serving.{is-feasible, serving}
-use Rattle.command_answers.specs.Clearing.{AreSidesWithin}
+use Rattle.command_answers.specs.Bounds.{IsAnswerWithin, IsOutcomeWithin}
 use Rattle.command_answers.specs.Making.{MakesTo, cleared, counts, passed, summary, title}
 use Rattle.command_answers.specs.Tellings.{Telling, uncertified}
 use Rattle.command_answers.specs.declared.status.Status.TheVariants as status
 
 module _ {N : Type 0} (value : N → Fraction) (bound : ℕ) (buses seed : ℕ) (m : Parts) (ring : m ≡ ring_of buses seed) (o : Outcome N) (right : IsRightOutcome bound m [] (outcome_at value o)) where
-  pub ring_cleared : (a : Answer N) (t : Telling) → IsMarket m → o ≡ outcome.Cleared a → t ≡ uncertified status.Done ((title buses seed ++ counts m) ++ summary (answer_at value a)) → MakesTo bound buses seed t
-  ring_cleared a t market is told =
+  pub ring_cleared : (a : Answer N) (t : Telling) → IsMarket m → o ≡ outcome.Cleared a → IsOutcomeWithin bound (outcome_at value o) → t ≡ uncertified status.Done ((title buses seed ++ counts m) ++ summary (answer_at value a)) → MakesTo bound buses seed t
+  ring_cleared a t market is within told =
       let here = subst (λ (x : Outcome N). IsRightOutcome bound m [] (outcome_at value x)) is right in
-      cleared (answer_at value a) (subst IsMarket ring market) (rw ring at here) (rw ring at told)
+      let numbers : IsAnswerWithin bound (answer_at value a) = subst (λ (x : Outcome N). IsOutcomeWithin bound (outcome_at value x)) is within in
+      cleared (answer_at value a) (subst IsMarket ring market) (rw ring at here) numbers (rw ring at told)
 
-  pub ring_passed : (p : Passed N) (t : Telling) → o ≡ outcome.Range p → AreSidesWithin bound (outcome_at value o)
+  pub ring_passed : (p : Passed N) (t : Telling) → o ≡ outcome.Range p → IsOutcomeWithin bound (outcome_at value o)
       → t ≡ uncertified status.Range ((title buses seed ++ counts m) ++ report_text m (outcome_at value o)) → MakesTo bound buses seed t
   ring_passed p t is within told =
       let here = subst (λ (x : Outcome N). IsRightOutcome bound m [] (outcome_at value x)) is right in
-      let sides = subst (λ (x : Outcome N). AreSidesWithin bound (outcome_at value x)) is within in
+      let sides = subst (λ (x : Outcome N). IsOutcomeWithin bound (outcome_at value x)) is within in
       let text = subst (λ (x : Outcome N). t ≡ uncertified status.Range ((title buses seed ++ counts m) ++ report_text m (outcome_at value x))) is told in
       passed (passed_at value p) (rw ring at here) sides (rw ring at text)
 

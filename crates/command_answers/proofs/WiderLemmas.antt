@@ -2,7 +2,7 @@
 use Rattle.std.proofs.Common.{◌≡◌, ◌≢◌, ◌≤◌, ◌⊎◌, ◌∙◌, inl, inr, lit≤, ℕ, List, [], ◌∷◌, All, Option, Some, None, IfSome, arith, refl, sym, ap, subst, zero, suc}
 use Rattle.std.proofs.Common.{map}
 use Rattle.std.specs.Prelude.{unsigned_abs}
-use Rattle.std.proofs.lemmas.List.Elements.{All-cons, All-nil, All-tail}
+use Rattle.std.proofs.lemmas.List.Elements.{All-tail, All-weaker}
 use Rattle.fraction_theory.specs.Fraction.{Fraction}
 use Rattle.market_model.specs.declared.answered.Outcome.{Outcome}
 use Rattle.market_model.specs.declared.answered.Outcome.TheVariants as outcome
@@ -25,11 +25,13 @@ use Rattle.edit_replay.specs.Replays.{IsReplay, IsReply, step_outcome_at, steppe
 use Rattle.edit_replay.specs.SessionStates.{SessionState}
 use Rattle.edit_replay.specs.declared.step_outcome.StepOutcome.{StepOutcome}
 use Rattle.edit_replay.specs.declared.step_outcome.StepOutcome.TheVariants as step
-use Rattle.command_answers.specs.Clearing.{AreSidesWithin, ClearsTo, TellsCertified}
-use Rattle.command_answers.specs.Replaying.{AreStepSidesWithin, IsNoRange, ReplaysTo, TellsSteps}
+use Rattle.command_answers.specs.Clearing.{ClearsTo, TellsCertified}
+use Rattle.command_answers.specs.Replaying.{IsNoRange, IsStepWithin, ReplaysTo, TellsSteps}
 use Rattle.command_answers.specs.Rights.{EntitlesTo, TellsFit, TellsOutcome, fitted, passed}
 use Rattle.command_answers.specs.Tellings.{Telling}
 use Rattle.command_answers.specs.declared.status.Status.TheVariants as status
+use Rattle.rights_test.specs.Paid.{payments_of}
+use Rattle.command_answers.proofs.BoundLemmas.{fit-within-wider, outcome-wider, payments-wider}
 use Rattle.command_answers.proofs.ReplayLemmas.{are_decided, replays_to}
 use Rattle.report_text.specs.Reports.{report_text}
 use Rattle.number_bits.specs.Bits.{most_of}
@@ -57,11 +59,6 @@ module _ (less bound : ℕ) (wide : less ≤ bound) where
   right-wider m taken (outcome.Infeasible f) within right = right
   right-wider m taken (outcome.Range p) within right = absurd within
 
-  sides-wider : (o : Outcome Fraction) → IsNoRange (step.Clear o) → AreSidesWithin bound o
-  sides-wider (outcome.Cleared a) within = tt
-  sides-wider (outcome.Infeasible f) within = tt
-  sides-wider (outcome.Range p) within = absurd within
-
   certified-wider : (m : Parts) (o : Outcome Fraction) (t : Telling) → TellsCertified less m o t → TellsCertified bound m o t
   certified-wider m o t h = record { status_is = h.status_is; text_is = h.text_is; certificate_is = h.certificate_is; certificate_fits = some-wider _ h.certificate_fits }
 
@@ -74,11 +71,11 @@ module _ (less bound : ℕ) (wide : less ≤ bound) where
   pub clears-wider : (m : Parts) (t : Telling) → ClearsTo less m t → t.status ≢ status.Range → ClearsTo bound m t
   clears-wider m t h other =
       let within = clear-within m h.outcome t h.told other in
-      record { outcome = h.outcome; right = right-wider m [] h.outcome within h.right; sides = sides-wider h.outcome within; told = certified-wider m h.outcome t h.told }
+      record { outcome = h.outcome; right = right-wider m [] h.outcome within h.right; within = outcome-wider less bound wide h.outcome h.within; told = certified-wider m h.outcome t h.told }
 
   -- ---- rights
   fit-wider : (m : Parts) (rights : List TransmissionRight) (price : ℕ → Fraction) (report : List ℕ) (t : Telling) → TellsFit less m rights price report t → t.status ≢ status.Range → TellsFit bound m rights price report t
-  fit-wider m rights price report t (fitted f is told) other = fitted f is told
+  fit-wider m rights price report t (fitted f is flow paid told) other = fitted f is (fit-within-wider less bound wide f flow) (payments-wider less bound wide (payments_of price rights) paid) told
   fit-wider m rights price report t (passed p stop within told) other = absurd (other (ap (λ (s : Telling). s.status) told))
 
   outcome-within : (m : Parts) (rights : List TransmissionRight) (o : Outcome Fraction) (t : Telling) → TellsOutcome less m rights o t → t.status ≢ status.Range → IsNoRange (step.Clear o) × TellsOutcome bound m rights o t
@@ -89,7 +86,7 @@ module _ (less bound : ℕ) (wide : less ≤ bound) where
   pub entitles-wider : (m : Parts) (rights : List TransmissionRight) (t : Telling) → EntitlesTo less m rights t → t.status ≢ status.Range → EntitlesTo bound m rights t
   entitles-wider m rights t h other =
       let told = outcome-within m rights h.outcome t h.told other in
-      record { outcome = h.outcome; right = right-wider m [] h.outcome told.0 h.right; sides = sides-wider h.outcome told.0; told = told.1 }
+      record { outcome = h.outcome; right = right-wider m [] h.outcome told.0 h.right; within = outcome-wider less bound wide h.outcome h.within; told = told.1 }
 
   -- ---- replays
   clear-wider : (m : Parts) (before after : List Row) (o : Outcome Fraction) → IsNoRange (step.Clear o) → IsClear less m before o after → IsClear bound m before o after
@@ -110,15 +107,10 @@ module _ (less bound : ℕ) (wide : less ≤ bound) where
   replay-wider m before after (s ∷ steps) (o ∷ outcomes) within h =
       (h.0, reply-wider m before h.0 s o (within 0 o (omega arith)) h.1, replay-wider (stepped m s) h.0 after steps outcomes (All-tail IsNoRange o outcomes within) h.2)
 
-  step-sides-wider : (o : StepOutcome Fraction) → IsNoRange o → AreStepSidesWithin bound o
-  step-sides-wider step.Accepted within = tt
-  step-sides-wider (step.Refused f) within = tt
-  step-sides-wider (step.Clear o) within = sides-wider o within
-
-  all-sides-wider : (outcomes : List (StepOutcome Fraction)) → All IsNoRange outcomes → All (AreStepSidesWithin bound) outcomes
-  all-sides-wider [] within = All-nil (AreStepSidesWithin bound)
-  all-sides-wider (o ∷ outcomes) within =
-      All-cons (AreStepSidesWithin bound) o outcomes (step-sides-wider o (within 0 o (omega arith))) (all-sides-wider outcomes (All-tail IsNoRange o outcomes within))
+  step-within-wider : (o : StepOutcome Fraction) → IsStepWithin less o → IsStepWithin bound o
+  step-within-wider step.Accepted within = tt
+  step-within-wider (step.Refused f) within = tt
+  step-within-wider (step.Clear o) within = outcome-wider less bound wide o within
 
   steps-wider : (m : Parts) (steps : List Step) (outcomes : List (StepOutcome Fraction)) (t : Telling) → TellsSteps less m steps outcomes t → TellsSteps bound m steps outcomes t
   steps-wider m steps outcomes t h = record { status_is = h.status_is; text_is = h.text_is; certificate_is = h.certificate_is; certificate_fits = some-wider _ h.certificate_fits }
@@ -130,7 +122,7 @@ module _ (less bound : ℕ) (wide : less ≤ bound) where
         outcomes = h.outcomes;
         taken = h.taken;
         right = right;
-        sides = all-sides-wider h.outcomes within;
+        within = All-weaker (IsStepWithin less) (IsStepWithin bound) step-within-wider h.outcomes h.within;
         markets = h.markets;
         decided = λ none. are_decided bound m [] h.taken steps h.outcomes market data_ok none right;
         told = steps-wider m steps h.outcomes t h.told;

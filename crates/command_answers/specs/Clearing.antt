@@ -1,15 +1,15 @@
 -- What clearing a market comes to.
 use Rattle.std.specs.Prelude.{◌≡◌, ℕ, [], IfSome}
 use Rattle.fraction_theory.specs.Fraction.{Fraction}
-use Rattle.exact_fraction.specs.declared.Passed.{Passed}
 use Rattle.market_model.specs.declared.participants.Parts.{Parts}
 use Rattle.market_model.specs.declared.answered.Outcome.{Outcome}
 use Rattle.market_model.specs.declared.answered.Outcome.TheVariants as outcome
 use Rattle.market_model.specs.Market.{IsMarket}
 use Rattle.market_system.specs.Outcomes.{IsRightOutcome}
 use Rattle.report_text.specs.Reports.{report_text}
-use Rattle.cert_format.specs.Certificates.{NumbersFit, cert_of_outcome, Fits}
+use Rattle.cert_format.specs.Certificates.{NumbersFit, cert_of_outcome}
 use Rattle.cert_format.specs.Written.{certificate_of}
+use Rattle.command_answers.specs.Bounds.{IsOutcomeWithin}
 use Rattle.command_answers.specs.declared.status.Status.{Status}
 use Rattle.command_answers.specs.declared.status.Status.TheVariants as status
 use Rattle.command_answers.specs.Tellings.{Telling, certified}
@@ -20,16 +20,6 @@ status_of (outcome.Cleared a) = status.Done
 status_of (outcome.Infeasible f) = status.Infeasible
 status_of (outcome.Range p) = status.Range
 
--- the numerators and the denominators of the two sides of an operation are within the bound
-abbrev pub ArePassedWithin : ℕ → Passed Fraction → Type 0
-ArePassedWithin bound p = Fits bound p.left × Fits bound p.right
-
--- of two numbers that became too large together, each is within the bound
-abbrev pub AreSidesWithin : ℕ → Outcome Fraction → Type 0
-AreSidesWithin bound (outcome.Cleared a) = Unit {0}
-AreSidesWithin bound (outcome.Infeasible f) = Unit {0}
-AreSidesWithin bound (outcome.Range p) = ArePassedWithin bound p
-
 -- what is told is the report of an outcome of a market with its status, and its certificate, whose numbers are within their bounds
 pub record TellsCertified (bound : ℕ) (m : Parts) (o : Outcome Fraction) (t : Telling) : Type 0 where
   pub status_is : t.status ≡ status_of o
@@ -38,12 +28,12 @@ pub record TellsCertified (bound : ℕ) (m : Parts) (o : Outcome Fraction) (t : 
   pub certificate_fits : IfSome (cert_of_outcome m.factor_places m.reserve.listed o) (NumbersFit bound)
 
 -- What is told is that of a right outcome of the market, with no limits taken before: the report of a right answer, of duals that show
--- that no dispatch is feasible, or of two numbers of the market, each within the bound, whose outcome passes it. Its certificate is that
--- of the answer, or of the duals, with a part on reserve where the market lists it, and its numbers are within their bounds.
+-- that no dispatch is feasible, or of two numbers of the market whose outcome passes the bound; each number of it is within the bound. Its
+-- certificate is that of the answer, or of the duals, with a part on reserve where the market lists it, and its numbers are within their bounds.
 pub record ClearsTo (bound : ℕ) (m : Parts) (t : Telling) : Type 0 where
   pub outcome : Outcome Fraction
   pub right : IsRightOutcome bound m [] outcome
-  pub sides : AreSidesWithin bound outcome
+  pub within : IsOutcomeWithin bound outcome
   pub told : TellsCertified bound m outcome t
 
 -- the same of a market, which keeps what every market keeps

@@ -19,7 +19,7 @@ use Rattle.market_inputs.specs.declared.making.FactorInputs.{FactorInputs}
 use Rattle.command_answers.specs.declared.factors.MadeTables.{MadeTables}
 use Rattle.command_answers.specs.declared.status.Status.TheVariants as status
 use Rattle.command_answers.specs.declared.told.Outputs.{Outputs}
-use Rattle.command_answers.specs.Clearing.{ArePassedWithin}
+use Rattle.command_answers.specs.Bounds.{ArePassedWithin}
 use Rattle.command_answers.specs.Tellings.{Telling, refusal_of, tabled, uncertified}
 use Rattle.number_bits.specs.Bits.{most_of}
 use Rattle.number_bits.specs.declared.NumberBits.TheVariants.{Bits127}

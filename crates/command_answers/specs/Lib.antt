@@ -1,3 +1,4 @@
+pub mod Bounds
 pub mod Checking
 pub mod Clearing
 pub mod FactorLaws

@@ -21,7 +21,8 @@ use Rattle.edit_replay.specs.Replays.{IsReplay, edited_by}
 use Rattle.replay_text.specs.ReplayTexts.{replayed}
 use Rattle.command_answers.specs.declared.status.Status.{Status}
 use Rattle.command_answers.specs.declared.status.Status.TheVariants as status
-use Rattle.command_answers.specs.Clearing.{AreSidesWithin, status_of}
+use Rattle.command_answers.specs.Bounds.{IsOutcomeWithin}
+use Rattle.command_answers.specs.Clearing.{status_of}
 use Rattle.command_answers.specs.Inputs.{MarketSteps}
 use Rattle.command_answers.specs.Tellings.{Telling, certified}
 
@@ -58,10 +59,11 @@ unfoldable pub last_clear : Option (Outcome Fraction) → List (StepOutcome Frac
 last_clear before [] = before
 last_clear before (o ∷ os) = last_clear (clear_or before o) os
 
-abbrev pub AreStepSidesWithin : ℕ → StepOutcome Fraction → Type 0
-AreStepSidesWithin bound step.Accepted = Unit {0}
-AreStepSidesWithin bound (step.Refused f) = Unit {0}
-AreStepSidesWithin bound (step.Clear o) = AreSidesWithin bound o
+-- each number of a clear's outcome is within the bound
+abbrev pub IsStepWithin : ℕ → StepOutcome Fraction → Type 0
+IsStepWithin bound step.Accepted = Unit {0}
+IsStepWithin bound (step.Refused f) = Unit {0}
+IsStepWithin bound (step.Clear o) = IsOutcomeWithin bound o
 
 -- a step that is no clear which ended with numbers that became too large
 abbrev pub IsNoRange : StepOutcome Fraction → Type 0
@@ -90,13 +92,14 @@ pub record TellsSteps (bound : ℕ) (m : Parts) (steps : List Step) (outcomes : 
   pub certificate_fits : IfSome (option_and_then (cert_of_outcome m.factor_places m.reserve.listed) (last_clear None outcomes)) (NumbersFit bound)
 
 -- What is told is that of right outcomes, one for each step: those of edits as the market stands then, and those of clears of the market
--- as it is edited by then, with no limits and no rooms taken before the first; each of these is a market. Each clear is decided, where no
--- working pair passes the bound at any. The certificate is that of the last clear, and its numbers are within their bounds.
+-- as it is edited by then, with no limits and no rooms taken before the first; each of these is a market. Each number of a clear's outcome is
+-- within the bound, and each clear is decided, where no working pair passes the bound at any. The certificate is that of the last clear, and
+-- its numbers are within their bounds.
 pub record ReplaysTo (bound : ℕ) (m : Parts) (steps : List Step) (t : Telling) : Type 0 where
   pub outcomes : List (StepOutcome Fraction)
   pub taken : List Taking
   pub right : IsReplay bound m [] steps outcomes taken
-  pub sides : All (AreStepSidesWithin bound) outcomes
+  pub within : All (IsStepWithin bound) outcomes
   pub markets : (k : ℕ) → IsMarket (edited_by m (take k steps))
   pub decided : NoPairPassesIn m [] steps bound → AreDecided m steps outcomes
   pub told : TellsSteps bound m steps outcomes t

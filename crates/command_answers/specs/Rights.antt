@@ -17,7 +17,7 @@ use Rattle.rights_test.specs.Fits.{IsFit, IsFitRefusal}
 use Rattle.rights_test.specs.Paid.{IsPayRefusal, payments_of}
 use Rattle.command_answers.specs.declared.status.Status.{Status}
 use Rattle.command_answers.specs.declared.status.Status.TheVariants as status
-use Rattle.command_answers.specs.Clearing.{ArePassedWithin, AreSidesWithin}
+use Rattle.command_answers.specs.Bounds.{ArePassedWithin, ArePaymentsWithin, IsFitWithin, IsOutcomeWithin}
 use Rattle.command_answers.specs.Inputs.{MarketRights}
 use Rattle.command_answers.specs.RightsLines.{rights_lines}
 use Rattle.command_answers.specs.Tellings.{Telling, uncertified}
@@ -31,11 +31,11 @@ fit_status (fit.Breaks row flow) = status.Refuted
 abbrev pub IsRightsRefusal : Parts → List TransmissionRight → (ℕ → Fraction) → ℕ → Passed Fraction → Type 0
 IsRightsRefusal m rights price bound p = IsFitRefusal m rights bound p ⊎ IsPayRefusal price rights bound p
 
--- Behind the report of an answer come whether the rights fit and what they are paid at these bus prices; or, in place of all these lines,
--- two numbers of one of these sums, each within the bound, whose outcome passes it.
+-- Behind the report of an answer come whether the rights fit and what they are paid at these bus prices, each number within the bound; or, in
+-- place of all these lines, two numbers of one of these sums, each within the bound, whose outcome passes it.
 pub data TellsFit (bound : ℕ) (m : Parts) (rights : List TransmissionRight) (price : ℕ → Fraction) (report : List ℕ) (t : Telling) : Type 0 where
-  fitted : (f : Fit Fraction) → IsFit m rights f → t ≡ uncertified (fit_status f) (report ++ rights_lines f (payments_of price rights))
-      → TellsFit bound m rights price report t
+  fitted : (f : Fit Fraction) → IsFit m rights f → IsFitWithin bound f → ArePaymentsWithin bound (payments_of price rights)
+      → t ≡ uncertified (fit_status f) (report ++ rights_lines f (payments_of price rights)) → TellsFit bound m rights price report t
   passed : (p : Passed Fraction) → IsRightsRefusal m rights price bound p → ArePassedWithin bound p → t ≡ uncertified status.Range (report ++ range_text p)
       → TellsFit bound m rights price report t
 
@@ -49,7 +49,7 @@ TellsOutcome bound m rights (outcome.Range p) t = t ≡ uncertified status.Range
 pub record EntitlesTo (bound : ℕ) (m : Parts) (rights : List TransmissionRight) (t : Telling) : Type 0 where
   pub outcome : Outcome Fraction
   pub right : IsRightOutcome bound m [] outcome
-  pub sides : AreSidesWithin bound outcome
+  pub within : IsOutcomeWithin bound outcome
   pub told : TellsOutcome bound m rights outcome t
 
 -- the same of a market, which keeps what every market keeps, and of rights between its buses

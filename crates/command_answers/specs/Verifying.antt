@@ -11,7 +11,7 @@ use Rattle.cert_verify.specs.Stops.{IsCertificateStop}
 use Rattle.cert_verify.specs.declared.verdicts.Reason.{Reason}
 use Rattle.command_answers.specs.declared.status.Status.{Status}
 use Rattle.command_answers.specs.declared.status.Status.TheVariants as status
-use Rattle.command_answers.specs.Clearing.{ArePassedWithin}
+use Rattle.command_answers.specs.Bounds.{ArePassedWithin}
 use Rattle.command_answers.specs.Inputs.{MarketCertificate}
 use Rattle.command_answers.specs.Tellings.{Telling, uncertified}
 use Rattle.command_answers.specs.Verdicts.{verdict_line}

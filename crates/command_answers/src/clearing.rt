@@ -7,7 +7,8 @@ ghost use Rattle.market_model.specs.Market.{IsMarket};
 ghost use Rattle.market_model.specs.Valued.{outcome_at, passed_at};
 ghost use Rattle.market_system.specs.Outcomes.{IsRightOutcome};
 ghost use Rattle.report_text.specs.Reports.{range_text};
-ghost use Rattle.command_answers.specs.Clearing.{AreSidesWithin, ClearsTo, TellsCertified, TellsClear, status_of};
+ghost use Rattle.command_answers.specs.Bounds.{IsOutcomeWithin};
+ghost use Rattle.command_answers.specs.Clearing.{ClearsTo, TellsCertified, TellsClear, status_of};
 ghost use Rattle.command_answers.specs.Status.{IsOfWork};
 ghost use Rattle.command_answers.specs.Tellings.{MadeTo, Tells, telling_of};
 ghost use Rattle.market_inputs.specs.Texts.{IsPool, IsLimited};
@@ -33,7 +34,7 @@ use std::alloc::Global;
 pub(crate) fn cleared<N: Exact>(alloc: Global, market: &Market) -> Result<Outcome<N>, Memory>
     ensures fits { IfOk result (FitsOutcome market.now) }
     ensures right { IfOk result (λ outcome. IsRightOutcome N.bound market.now [] (outcome_at N.value outcome)) }
-    ensures sides { IfOk result (λ outcome. AreSidesWithin N.bound (outcome_at N.value outcome)) }
+    ensures within { IfOk result (λ outcome. IsOutcomeWithin N.bound (outcome_at N.value outcome)) }
 {
     let mut clearer = Clearer::new(market);
     outcome(clearer.clear(alloc, market))

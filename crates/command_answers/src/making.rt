@@ -3,7 +3,7 @@
 ghost use Rattle.std.specs.Prelude.{◌≡◌, ◌≤◌, ◌<◌, ◌^◌, ◌++◌, [], IfOk, decimal};
 ghost use Rattle.case_maker.specs.Rings.{ring_of};
 ghost use Rattle.market_model.specs.Valued.{answer_at, outcome_at};
-ghost use Rattle.command_answers.specs.Clearing.{AreSidesWithin};
+ghost use Rattle.command_answers.specs.Bounds.{IsOutcomeWithin};
 ghost use Rattle.command_answers.specs.Making.{MakesTo, counts, summary, title};
 ghost use Rattle.command_answers.specs.Status.{IsOfWork};
 ghost use Rattle.command_answers.specs.Tellings.{telling_of};
@@ -123,7 +123,7 @@ fn outcome_told<N: Exact>(
     requires kept { IsMarket ring.now.market.now }
     requires fits { FitsOutcome ring.now.market.now outcome.now }
     requires right { IsRightOutcome N.bound ring.now.market.now [] (outcome_at N.value outcome.now) }
-    requires sides { AreSidesWithin N.bound (outcome_at N.value outcome.now) }
+    requires within { IsOutcomeWithin N.bound (outcome_at N.value outcome.now) }
     ensures status { IfOk result (λ told. IsOfWork told.status) }
     ensures makes { IfOk result (λ told. MakesTo N.bound ring.now.buses ring.now.seed (telling_of told)) }
 {

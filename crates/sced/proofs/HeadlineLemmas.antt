@@ -63,7 +63,8 @@ use Rattle.market_inputs.specs.declared.checking.Inputs.{Inputs}
 use Rattle.market_inputs.specs.declared.making.FactorInputs.{FactorInputs}
 use Rattle.command_words.specs.Words.{AsksClear, AsksMigrate, AsksReplay, MarketNames, NamesToWrite}
 use Rattle.command_words.proofs.WordsLemmas.{clears-once, replays-once}
-use Rattle.command_answers.specs.Clearing.{ArePassedWithin, TellsClear, status_of}
+use Rattle.command_answers.specs.Bounds.{ArePassedWithin, IsAnswerWithin}
+use Rattle.command_answers.specs.Clearing.{TellsClear, status_of}
 use Rattle.residual_text.specs.ResidualLines.{residuals_text}
 use Rattle.command_answers.specs.Checking.{AreResiduals, TellsCheck, are_within, check_status_of}
 use Rattle.command_answers.specs.declared.checking.Residuals.{Residuals}
@@ -84,7 +85,7 @@ use Rattle.command_answers.specs.Verifying.{TellsVerdict, VerifiesTo, judged, pa
 use Rattle.command_answers.specs.declared.status.Status.{Status}
 use Rattle.command_answers.specs.declared.status.Status.TheVariants as status
 use Rattle.sced.specs.Asked.{AsksForFactors, AsksMarket, AsksSteps, AsksVerdict, as_clear, as_pool, clear_bound}
-use Rattle.sced.specs.Headline.{HasCertificate, IsAsked, HasGreatestWelfare, IsFirstRefusal, IsRingText, IsPriced, IsReplayText, IsReported, IsVerdict, LawOfAsked, LawOfCertificate, LawOfCheck, LawOfCleared, LawOfComplete, LawOfFaults, LawOfInfeasible, LawOfLastCertificate, LawOfMake, LawOfOutside, LawOfRange, LawOfReplay, LawOfRoundTrip, LawOfSurplus, LawOfVerify, RefusesEdit, RefusesFactors, cleared_ring, for_check, for_clear, for_factors, for_holders, for_migration, for_nothing, for_rights, for_ring, for_steps, for_tables, for_verdict, no, passes, range_ring, to_check, to_clear, to_migrate, to_replay, to_verify, with_fault, yes}
+use Rattle.sced.specs.Headline.{HasCertificate, IsAsked, HasGreatestWelfare, IsFirstRefusal, IsRingText, IsPriced, IsReplayText, IsReported, IsVerdict, IsWithinBound, LawOfAsked, LawOfBounds, LawOfCertificate, LawOfCheck, LawOfCleared, LawOfComplete, LawOfFaults, LawOfInfeasible, LawOfLastCertificate, LawOfMake, LawOfOutside, LawOfRange, LawOfReplay, LawOfRoundTrip, LawOfSurplus, LawOfVerify, RefusesEdit, RefusesFactors, cleared_ring, for_check, for_clear, for_factors, for_holders, for_migration, for_nothing, for_rights, for_ring, for_steps, for_tables, for_verdict, no, passes, range_ring, to_check, to_clear, to_migrate, to_replay, to_verify, with_fault, yes}
 use Rattle.sced.specs.Runs.{KeepsWrites, Outside}
 use Rattle.sced.specs.Runs as ending
 use Rattle.sced.specs.Told.{Answers, AnswersTo, checked, cleared, entitled, factored, made, migrated, named_bytes, named_outputs, pooled, refused, replayed, verified}
@@ -141,11 +142,17 @@ law_of_infeasible words files text s m f place prints reports =
     let is = reported words files text s m (outcome.Infeasible f) place _ (printed words files text s prints) reports in
     ((λ x. law_of_infeasibility m f.duals x is.market is.right.shows), is.right)
 
+-- ---- bounds
+pub law_of_bounds : LawOfBounds
+law_of_bounds words files text s m o place prints reports =
+    let is = reported words files text s m o place _ (printed words files text s prints) reports in
+    record { taken = is.taken; bound = is.bound; begins = is.begins; within = is.within }
+
 -- ---- range
 pub law_of_range : LawOfRange
 law_of_range words files text s m p place prints reports =
     let is = reported words files text s m (outcome.Range p) place _ (printed words files text s prints) reports in
-    record { taken = is.taken; bound = is.bound; begins = is.begins; pair = is.right; sides = is.sides }
+    record { taken = is.taken; bound = is.bound; begins = is.begins; pair = is.right; sides = is.within }
 
 -- ---- complete
 market-reported : (bound : ℕ) (m : Parts) (t : Telling) (text : List ℕ) (s : Status) → t.text ≡ text → t.status ≡ s → TellsClear bound m t → IsReported m text s
@@ -550,8 +557,8 @@ module _ (words : List (List ℕ)) (files : Files) (text : List ℕ) (s : Status
         range-refused wrong = cc wrong
 
     of-fit : (bound : ℕ) (m : Parts) (rights : List TransmissionRight) (price : ℕ → Fraction) (report : List ℕ) → TellsFit bound m rights price report p.telling → Why
-    of-fit bound m rights price report (fitted fit.Fits is-fit is) = let wrong : status.Done ≡ status.Refused = sym (ap (λ (t : Telling). t.status) is) ∙ bad in cc wrong
-    of-fit bound m rights price report (fitted (fit.Breaks row flow) is-fit is) = let wrong : status.Refuted ≡ status.Refused = sym (ap (λ (t : Telling). t.status) is) ∙ bad in cc wrong
+    of-fit bound m rights price report (fitted fit.Fits is-fit flow paid is) = let wrong : status.Done ≡ status.Refused = sym (ap (λ (t : Telling). t.status) is) ∙ bad in cc wrong
+    of-fit bound m rights price report (fitted (fit.Breaks row flow) is-fit within paid is) = let wrong : status.Refuted ≡ status.Refused = sym (ap (λ (t : Telling). t.status) is) ∙ bad in cc wrong
     of-fit bound m rights price report (answers.passed q pair within is) = let wrong : status.Range ≡ status.Refused = sym (ap (λ (t : Telling). t.status) is) ∙ bad in cc wrong
 
     of-rights : (bound : ℕ) (r : MarketRights) → TellsRights bound r p.telling → Why
@@ -589,7 +596,7 @@ module _ (words : List (List ℕ)) (files : Files) (text : List ℕ) (s : Status
         by (making_factors.stopped why stops tells) = none why stops tells
 
     of-ring : (buses seed : ℕ) → MakesTo (most_of Bits127) buses seed p.telling → Why
-    of-ring buses seed (making.cleared a market right is) = let wrong : status.Done ≡ status.Refused = sym (ap (λ (t : Telling). t.status) is) ∙ bad in cc wrong
+    of-ring buses seed (making.cleared a market right within is) = let wrong : status.Done ≡ status.Refused = sym (ap (λ (t : Telling). t.status) is) ∙ bad in cc wrong
     of-ring buses seed (making.passed q pair within is) = let wrong : status.Range ≡ status.Refused = sym (ap (λ (t : Telling). t.status) is) ∙ bad in cc wrong
 
     why-refused : (w : List (List ℕ × List ℕ)) → AnswersTo (Some files) words p.telling w → Why
@@ -618,17 +625,17 @@ law_of_faults words files text s prints =
 
 -- ---- make
 ring-answer : (bound buses seed : ℕ) (t : Telling) → MakesTo bound buses seed t
-    → ((a : Answer Fraction) × IsMarket (ring_of buses seed) × IsRight (ring_of buses seed) a × (t ≡ uncertified status.Done (making.ring_line buses seed ++ making.summary a)))
+    → ((a : Answer Fraction) × IsMarket (ring_of buses seed) × IsRight (ring_of buses seed) a × IsAnswerWithin bound a × (t ≡ uncertified status.Done (making.ring_line buses seed ++ making.summary a)))
     ⊎ ((p : Passed Fraction) × IsRangeOf (ring_of buses seed) [] bound p × ArePassedWithin bound p × (t ≡ uncertified status.Range (making.ring_line buses seed ++ range_text p)))
-ring-answer bound buses seed t (making.cleared a market right is) = inl (a, market, right, is)
+ring-answer bound buses seed t (making.cleared a market right within is) = inl (a, market, right, within, is)
 ring-answer bound buses seed t (making.passed q pair within is) = inr (q, pair, within, is)
 
 ring-made : LawOfTheReserve → (buses seed : ℕ) (t : Telling) (text : List ℕ) (s : Status) → t.text ≡ text → t.status ≡ s
-    → ((a : Answer Fraction) × IsMarket (ring_of buses seed) × IsRight (ring_of buses seed) a × (t ≡ uncertified status.Done (making.ring_line buses seed ++ making.summary a)))
+    → ((a : Answer Fraction) × IsMarket (ring_of buses seed) × IsRight (ring_of buses seed) a × IsAnswerWithin (most_of Bits127) a × (t ≡ uncertified status.Done (making.ring_line buses seed ++ making.summary a)))
     ⊎ ((p : Passed Fraction) × IsRangeOf (ring_of buses seed) [] (most_of Bits127) p × ArePassedWithin (most_of Bits127) p × (t ≡ uncertified status.Range (making.ring_line buses seed ++ range_text p))) → IsRingText buses seed text s
-ring-made law_of_reserve buses seed t text s words ends (inl (a, market, right, is)) =
+ring-made law_of_reserve buses seed t text s words ends (inl (a, market, right, within, is)) =
     let best = right-best law_of_reserve (ring_of buses seed) a market right in
-    subst (IsRingText buses seed text) (sym (ap (λ (x : Telling). x.status) is) ∙ ends) (cleared_ring a best.0 best.1 (sym words ∙ ap (λ (x : Telling). x.text) is))
+    subst (IsRingText buses seed text) (sym (ap (λ (x : Telling). x.status) is) ∙ ends) (cleared_ring a best.0 best.1 within (sym words ∙ ap (λ (x : Telling). x.text) is))
 ring-made law_of_reserve buses seed t text s words ends (inr (p, pair, within, is)) =
     subst (IsRingText buses seed text) (sym (ap (λ (x : Telling). x.status) is) ∙ ends) (range_ring p pair within (sym words ∙ ap (λ (x : Telling). x.text) is))
 

@@ -36,7 +36,7 @@ use Rattle.refusal_text.specs.declared.refusals.Input.TheVariants as input
 use Rattle.refusal_text.specs.declared.refusals.Refusal.TheVariants as refusal
 use Rattle.command_words.specs.Words.{AsksMigrate}
 use Rattle.command_words.proofs.WordsLemmas.{migrates-once}
-use Rattle.command_answers.specs.Clearing.{AreSidesWithin}
+use Rattle.command_answers.specs.Bounds.{IsAnswerWithin, IsOutcomeWithin}
 use Rattle.command_answers.specs.Rights.{TellsFit, TellsOutcome, fitted, passed}
 use Rattle.command_answers.specs.Tellings.{Telling, certified}
 use Rattle.command_answers.specs.declared.status.Status.{Status}
@@ -69,31 +69,31 @@ module _ (bound : ℕ) (m : Parts) (rights : List TransmissionRight) (t : Tellin
         subst (λ z. (payments_of price rights).total ≤ℚ z) (sym (ap (λ (b : Answer Fraction). b.money.surplus) right.made))
         (law_of_payments m a.duals (dispatch_in a) price rights market (record { prices = prices-of m a right; feasible = right.feasible; supported = right.supported }) held is-fit)
 
-    of-answer : (a : Answer Fraction) → IsRight m a → TellsFit bound m rights (total_at (λ x. x) a.prices) (report_text m (outcome.Cleared a)) t → IsEntitled bound m rights text s
-    of-answer a right (fitted fit.Fits is-fit is) =
+    of-answer : (a : Answer Fraction) → IsRight m a → IsAnswerWithin bound a → TellsFit bound m rights (total_at (λ x. x) a.prices) (report_text m (outcome.Cleared a)) t → IsEntitled bound m rights text s
+    of-answer a right numbers (fitted fit.Fits is-fit flow paid is) =
         let best = right-best law_of_reserve m a market right in
-        as-told _ is (rights_fit a best.0 best.1 ((law_of_the_fit m rights fit.Fits is-fit).0 refl) refl (covered a right is-fit))
-    of-answer a right (fitted (fit.Breaks row flow) is-fit is) =
+        as-told _ is (rights_fit a best.0 best.1 numbers paid ((law_of_the_fit m rights fit.Fits is-fit).0 refl) refl (covered a right is-fit))
+    of-answer a right numbers (fitted (fit.Breaks row flow) is-fit within paid is) =
         let best = right-best law_of_reserve m a market right in
         let law = law_of_the_fit m rights (fit.Breaks row flow) is-fit in
-        as-told _ is (rights_break a row flow best.0 best.1 (λ feasible. other (law.1 feasible)) is-fit refl)
+        as-told _ is (rights_break a row flow best.0 best.1 numbers within paid (λ feasible. other (law.1 feasible)) is-fit refl)
       where
         other : fit.Breaks row flow ≡ fit.Fits → ⊥
         other bad = cc bad
-    of-answer a right (passed p pair within is) =
+    of-answer a right numbers (passed p pair within is) =
         let best = right-best law_of_reserve m a market right in
-        as-told _ is (rights_pass a p best.0 best.1 pair within refl)
+        as-told _ is (rights_pass a p best.0 best.1 numbers pair within refl)
 
-    of-outcome : (o : Outcome Fraction) → IsRightOutcome bound m [] o → AreSidesWithin bound o → TellsOutcome bound m rights o t → IsEntitled bound m rights text s
-    of-outcome (outcome.Cleared a) right sides told = of-answer a right told
-    of-outcome (outcome.Infeasible f) right sides is = as-told _ is (nothing_qualifies f (λ x. law_of_infeasibility m f.duals x market right.shows) right refl)
-    of-outcome (outcome.Range p) right sides is = as-told _ is (clear_passes p right sides refl)
+    of-outcome : (o : Outcome Fraction) → IsRightOutcome bound m [] o → IsOutcomeWithin bound o → TellsOutcome bound m rights o t → IsEntitled bound m rights text s
+    of-outcome (outcome.Cleared a) right within told = of-answer a right within told
+    of-outcome (outcome.Infeasible f) right within is = as-told _ is (nothing_qualifies f (λ x. law_of_infeasibility m f.duals x market right.shows) right within refl)
+    of-outcome (outcome.Range p) right within is = as-told _ is (clear_passes p right within refl)
 
 pub law_of_rights : LawOfTheReserve → LawOfCoveredPayments → LawOfRights
 law_of_rights law_of_reserve law_of_payments words files text s m rights prints asks =
     let p = printed words files text s prints in
     let tells = rights-told files words p.telling p.written (Ok (record { market = m; rights = rights })) p.answers asks in
-    of-outcome (most_of asks.names.bits) m rights p.telling text s p.text_is p.status_is law_of_reserve law_of_payments tells.market tells.rights tells.entitles.outcome tells.entitles.right tells.entitles.sides tells.entitles.told
+    of-outcome (most_of asks.names.bits) m rights p.telling text s p.text_is p.status_is law_of_reserve law_of_payments tells.market tells.rights tells.entitles.outcome tells.entitles.right tells.entitles.within tells.entitles.told
 
 -- ---- migrate
 -- what is written is the certificate, to the file that is named for it

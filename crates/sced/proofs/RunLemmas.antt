@@ -28,8 +28,9 @@ use Rattle.report_text.proofs.OutcomeReading.{outcome_fits, reports_apart}
 use Rattle.replay_text.specs.ReplayTextLaws.{OutcomesFit}
 use Rattle.replay_text.specs.ReplayTexts.{replayed}
 use Rattle.replay_text.proofs.ReplayReading.{replay_fits, replays_read_apart}
-use Rattle.command_answers.specs.Clearing.{AreSidesWithin, TellsClear, status_of}
-use Rattle.command_answers.specs.Replaying.{AreStepSidesWithin, TellsReplay, is_done, replay_status, step_status}
+use Rattle.command_answers.specs.Bounds.{IsOutcomeWithin}
+use Rattle.command_answers.specs.Clearing.{TellsClear, status_of}
+use Rattle.command_answers.specs.Replaying.{IsStepWithin, TellsReplay, is_done, replay_status, step_status}
 use Rattle.command_answers.specs.Tellings.{Telling}
 use Rattle.command_answers.specs.declared.status.Status.{Status}
 use Rattle.command_answers.specs.declared.status.Status.TheVariants as status
@@ -175,16 +176,16 @@ refused-status (x ∷ outcomes) is = elim (refused-first x (replay_status outcom
 ]
 
 -- ---- what is reported
--- of each outcome that is a clear's, two numbers that are too large are each within the bound
-sides-here : (bound : ℕ) (x : StepOutcome Fraction) (o : Outcome Fraction) → AreStepSidesWithin bound x → Some x ≡ Some (reply.Clear o) → AreSidesWithin bound o
-sides-here bound reply.Accepted o h same = cc same
-sides-here bound (reply.Refused f) o h same = cc same
-sides-here bound (reply.Clear q) o h same = let here : q ≡ o = cc same in subst (AreSidesWithin bound) here h
+-- each number of an outcome that is a clear's is within the bound
+within-here : (bound : ℕ) (x : StepOutcome Fraction) (o : Outcome Fraction) → IsStepWithin bound x → Some x ≡ Some (reply.Clear o) → IsOutcomeWithin bound o
+within-here bound reply.Accepted o h same = cc same
+within-here bound (reply.Refused f) o h same = cc same
+within-here bound (reply.Clear q) o h same = let here : q ≡ o = cc same in subst (IsOutcomeWithin bound) here h
 
-sides-at : (bound : ℕ) (outcomes : List (StepOutcome Fraction)) (k : ℕ) (o : Outcome Fraction) → All (AreStepSidesWithin bound) outcomes → slice_get outcomes k ≡ Some (reply.Clear o) → AreSidesWithin bound o
-sides-at bound [] k o all is = cc is
-sides-at bound (x ∷ outcomes) zero o all is = sides-here bound x o (All-head (AreStepSidesWithin bound) x outcomes all) is
-sides-at bound (x ∷ outcomes) (suc k) o all is = sides-at bound outcomes k o (All-tail (AreStepSidesWithin bound) x outcomes all) is
+within-at : (bound : ℕ) (outcomes : List (StepOutcome Fraction)) (k : ℕ) (o : Outcome Fraction) → All (IsStepWithin bound) outcomes → slice_get outcomes k ≡ Some (reply.Clear o) → IsOutcomeWithin bound o
+within-at bound [] k o all is = cc is
+within-at bound (x ∷ outcomes) zero o all is = within-here bound x o (All-head (IsStepWithin bound) x outcomes all) is
+within-at bound (x ∷ outcomes) (suc k) o all is = within-at bound outcomes k o (All-tail (IsStepWithin bound) x outcomes all) is
 
 -- what a clear that the words ask for came to, and with which rows it began
 pub record IsOutcomeOf (words : List (List ℕ)) (files : Files) (text : List ℕ) (m : Parts) (o : Outcome Fraction) (place : ℕ) : Type 0 where
@@ -193,7 +194,7 @@ pub record IsOutcomeOf (words : List (List ℕ)) (files : Files) (text : List �
   pub bound : ℕ
   pub begins : BeginsWith words files text m place taken bound
   pub right : IsRightOutcome bound m taken o
-  pub sides : AreSidesWithin bound o
+  pub within : IsOutcomeWithin bound o
 
 module _ (words : List (List ℕ)) (files : Files) (text : List ℕ) (m : Parts) (o : Outcome Fraction) (t : Telling) where
   clear-outcome : (asks : AsksMarket files words m) → OutcomeFitsReport m o → t.text ≡ report_text m o → TellsClear (clear_bound asks) m t → IsOutcomeOf words files text m o 0
@@ -205,7 +206,7 @@ module _ (words : List (List ℕ)) (files : Files) (text : List ℕ) (m : Parts)
         bound = clear_bound asks;
         begins = in_clear asks;
         right = subst (IsRightOutcome (clear_bound asks) m []) same clears.right;
-        sides = subst (AreSidesWithin (clear_bound asks)) same clears.sides;
+        within = subst (IsOutcomeWithin (clear_bound asks)) same clears.within;
       }
 
   step-outcome : (start : Parts) (steps : List Step) (outcomes : List (StepOutcome Fraction)) (k : ℕ) (asks : AsksSteps files words start steps) → OutcomesFit start steps outcomes
@@ -222,7 +223,7 @@ module _ (words : List (List ℕ)) (files : Files) (text : List ℕ) (m : Parts)
         bound = bound;
         begins = in_replay start steps outcomes k here.taken asks fits text_is edited here.replay;
         right = subst (λ (n : Parts). IsRightOutcome bound n (limits_of here.taken) o) (sym edited) here.clear.right;
-        sides = sides-at bound outcomes k o (subst (All (AreStepSidesWithin bound)) same replays.sides) at;
+        within = within-at bound outcomes k o (subst (All (IsStepWithin bound)) same replays.within) at;
       }
 
 pub reported : (words : List (List ℕ)) (files : Files) (text : List ℕ) (s : Status) (m : Parts) (o : Outcome Fraction) (place : ℕ) (after : Option Files) → IsPrinted words files after text s → Reports words files text m o place

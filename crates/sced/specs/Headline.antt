@@ -42,7 +42,7 @@ use Rattle.factor_text.specs.Texts.{factor_table_text}
 use Rattle.factor_maker.specs.declared.stops.MakeStop.{MakeStop}
 use Rattle.factor_maker.specs.declared.stops.MakeStop.TheVariants as make_stop
 use Rattle.case_maker.specs.Rings.{ring_of}
-use Rattle.cert_format.specs.Certificates.{cert_of_outcome}
+use Rattle.cert_format.specs.Certificates.{Fits, cert_of_outcome}
 use Rattle.cert_format.specs.Grammar.{cert_read}
 use Rattle.cert_format.specs.Written.{cert_text}
 use Rattle.cert_format.specs.declared.certificate.Cert.{Cert}
@@ -73,7 +73,8 @@ use Rattle.market_inputs.specs.declared.checking.Inputs.{Inputs}
 use Rattle.market_inputs.specs.declared.making.FactorInputs.{FactorInputs}
 use Rattle.command_answers.specs.Checking.{AreResiduals, check_status_of}
 use Rattle.command_answers.specs.declared.checking.Residuals.{Residuals}
-use Rattle.command_answers.specs.Clearing.{ArePassedWithin, status_of}
+use Rattle.command_answers.specs.Bounds.{ArePassedWithin, ArePaymentsWithin, IsAnswerWithin, IsFarkasWithin, IsOutcomeWithin}
+use Rattle.command_answers.specs.Clearing.{status_of}
 use Rattle.command_answers.specs.Factors.{AreMadeTables, IsFactorsStop, tables_text}
 use Rattle.command_answers.specs.declared.factors.MadeTables.{MadeTables}
 use Rattle.command_answers.specs.Inputs.{MarketSteps}
@@ -233,6 +234,19 @@ LawOfComplete = (words : List (List ℕ)) (files : Files) (text : List ℕ) (s :
     → ((m : Parts) → AsksMarket files words m → IsReported m text s)
     × ((m : Parts) (o : Outcome Fraction) (place : ℕ) → Reports words files text m o place → IsDecidedFrom words files text m o place)
 
+-- ---- bounds
+-- Each number of what is reported, a dispatch, a dual, a price, an amount of money or one of two that became too large together, is within the
+-- bound that the words ask for.
+pub record IsWithinBound (words : List (List ℕ)) (files : Files) (text : List ℕ) (m : Parts) (o : Outcome Fraction) (place : ℕ) : Type 0 where
+  pub taken : List Row
+  pub bound : ℕ
+  pub begins : BeginsWith words files text m place taken bound
+  pub within : IsOutcomeWithin bound o
+
+abbrev pub LawOfBounds : Type 0
+LawOfBounds = (words : List (List ℕ)) (files : Files) (text : List ℕ) (s : Status) (m : Parts) (o : Outcome Fraction) (place : ℕ)
+    → Prints words files text s → Reports words files text m o place → IsWithinBound words files text m o place
+
 -- ---- range
 -- Two numbers, each within the bound of the clear's numbers, that are a working pair of the market, over rows that are reached from those with which it
 -- begins: the pair passes the bound, on the way to a number that the clear may have to write down and that is above it itself.
@@ -290,22 +304,24 @@ LawOfRoundTrip = (words again : List (List ℕ)) (files later : Files) (text ans
     → ((t ≡ status.Done) × (answer ≡ codes "yes\n")) ⊎ (t ≡ status.Range)
 
 -- ---- rights
--- The market is cleared, best and priced as above, and behind the report stand whether limits could carry the rights together and what each is
+-- Each number that is told is within the bound. The market is cleared, best and priced as above, and behind the report stand whether limits could carry the rights together and what each is
 -- paid by the bus prices that are printed. Where they could, the rights are paid no more than the surplus; where not, the first limit that is broken is told.
 -- Or the report stands alone: that nothing qualifies, or two numbers that are a working pair of the market and pass the bound; where no
 -- working pair passes, this never comes. Or in place of the lines on rights stand two numbers of a sum of these.
 pub data IsEntitled (bound : ℕ) (m : Parts) (rights : List TransmissionRight) (text : List ℕ) : Status → Type 0 where
-  rights_fit : (a : Answer Fraction) → HasGreatestWelfare m (dispatch_in a) → IsPriced m a → AreFeasibleTogether m rights
+  rights_fit : (a : Answer Fraction) → HasGreatestWelfare m (dispatch_in a) → IsPriced m a → IsAnswerWithin bound a
+      → ArePaymentsWithin bound (payments_of (total_at (λ x. x) a.prices) rights) → AreFeasibleTogether m rights
       → text ≡ report_text m (Cleared a) ++ rights_lines Fits (payments_of (total_at (λ x. x) a.prices) rights)
       → (payments_of (total_at (λ x. x) a.prices) rights).total ≤ℚ a.money.surplus → IsEntitled bound m rights text status.Done
-  rights_break : (a : Answer Fraction) (r : RowId) (flow : Fraction) → HasGreatestWelfare m (dispatch_in a) → IsPriced m a → ¬ (AreFeasibleTogether m rights)
+  rights_break : (a : Answer Fraction) (r : RowId) (flow : Fraction) → HasGreatestWelfare m (dispatch_in a) → IsPriced m a → IsAnswerWithin bound a → Fits bound flow
+      → ArePaymentsWithin bound (payments_of (total_at (λ x. x) a.prices) rights) → ¬ (AreFeasibleTogether m rights)
       → IsFit m rights (Breaks r flow) → text ≡ report_text m (Cleared a) ++ rights_lines (Breaks r flow) (payments_of (total_at (λ x. x) a.prices) rights)
       → IsEntitled bound m rights text status.Refuted
-  nothing_qualifies : (f : Farkas Fraction) → ((x : Dispatch) → ¬ (Feasible m x)) → IsFarkas m f → text ≡ report_text m (Infeasible f)
+  nothing_qualifies : (f : Farkas Fraction) → ((x : Dispatch) → ¬ (Feasible m x)) → IsFarkas m f → IsFarkasWithin bound f → text ≡ report_text m (Infeasible f)
       → IsEntitled bound m rights text status.Infeasible
   clear_passes : (p : Passed Fraction) → IsRangeOf m [] bound p → ArePassedWithin bound p → text ≡ report_text m (Range p)
       → IsEntitled bound m rights text status.Range
-  rights_pass : (a : Answer Fraction) (p : Passed Fraction) → HasGreatestWelfare m (dispatch_in a) → IsPriced m a
+  rights_pass : (a : Answer Fraction) (p : Passed Fraction) → HasGreatestWelfare m (dispatch_in a) → IsPriced m a → IsAnswerWithin bound a
       → IsRightsRefusal m rights (total_at (λ x. x) a.prices) bound p → ArePassedWithin bound p → text ≡ report_text m (Cleared a) ++ range_text p
       → IsEntitled bound m rights text status.Range
 
@@ -411,9 +427,10 @@ LawOfFaults = (words : List (List ℕ)) (files : Files) (text : List ℕ) (s : S
     × (s ≡ status.Refused → ((r : Refusal) × IsFirstRefusal words files r × (text ≡ refusal_line r)) ⊎ RefusesEdit words files ⊎ RefusesFactors words files text)
 
 -- ---- make
--- the worth and the surplus of an answer that is best and priced, or two numbers of the ring as above; where no pair passes it is cleared
+-- the worth and the surplus of an answer that is best and priced, its numbers within 127 bits, or two numbers of the ring as above; where no
+-- pair passes it is cleared
 pub data IsRingText (buses seed : ℕ) (text : List ℕ) : Status → Type 0 where
-  cleared_ring : (a : Answer Fraction) → HasGreatestWelfare (ring_of buses seed) (dispatch_in a) → IsPriced (ring_of buses seed) a
+  cleared_ring : (a : Answer Fraction) → HasGreatestWelfare (ring_of buses seed) (dispatch_in a) → IsPriced (ring_of buses seed) a → IsAnswerWithin (most_of Bits127) a
       → text ≡ ring_line buses seed ++ summary a → IsRingText buses seed text status.Done
   range_ring : (p : Passed Fraction) → IsRangeOf (ring_of buses seed) [] (most_of Bits127) p → ArePassedWithin (most_of Bits127) p → text ≡ ring_line buses seed ++ range_text p
       → IsRingText buses seed text status.Range

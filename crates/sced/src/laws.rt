@@ -1,7 +1,7 @@
 //! What every run of the program means for those who read what it prints: laws that follow from what `run` promises, each the contract of a
 //! function that does nothing.
 
-ghost use Rattle.sced.specs.Headline.{LawOfAnswered, LawOfAsked, LawOfCauses, LawOfCertificate, LawOfCheck, LawOfCleared, LawOfComplete, LawOfCutShort, LawOfFactorCheck, LawOfFactors, LawOfFaults, LawOfInfeasible, LawOfLastCertificate, LawOfMake, LawOfMigrate, LawOfMissing, LawOfOutside, LawOfRange, LawOfReplay, LawOfRights, LawOfRoundTrip, LawOfSurplus, LawOfVerify};
+ghost use Rattle.sced.specs.Headline.{LawOfAnswered, LawOfAsked, LawOfBounds, LawOfCauses, LawOfCertificate, LawOfCheck, LawOfCleared, LawOfComplete, LawOfCutShort, LawOfFactorCheck, LawOfFactors, LawOfFaults, LawOfInfeasible, LawOfLastCertificate, LawOfMake, LawOfMigrate, LawOfMissing, LawOfOutside, LawOfRange, LawOfReplay, LawOfRights, LawOfRoundTrip, LawOfSurplus, LawOfVerify};
 
 use factor_laws::laws::{
     loss_tables_are_explained, loss_tables_are_read_back, loss_tables_are_short,
@@ -47,6 +47,11 @@ pub fn replay()
 /// some dispatch qualifies, and infeasible where none does.
 pub fn complete()
     ensures { LawOfComplete }
+{}
+
+/// Each number of what is reported of a clear is within the bound that the words ask for.
+pub fn bounds()
+    ensures { LawOfBounds }
 {}
 
 /// Where range is printed, the two printed numbers are a working pair of the market over rows that are reached, which passes the bound that

@@ -8,7 +8,7 @@ returns-clause-entitles g c =
     (λ told is. record {
       outcome = outcome_at g.N.Exact.value c.in_ok-outcome.outcome;
       right = c.in_ok-outcome.ensures.right;
-      sides = c.in_ok-outcome.ensures.sides;
+      within = c.in_ok-outcome.ensures.within;
       told = is;
     })
     c.outcome_told.ensures.tells

@@ -2,13 +2,13 @@ use Rattle.std.proofs.Common.{◌≡◌, rules, subst}
 use Rattle.cert_verify.specs.Stops.{IsVerifyStop}
 use Rattle.cert_format.specs.Certificates.{cert_at}
 use Rattle.market_model.specs.Valued.{passed_at}
-use Rattle.command_answers.specs.Clearing.{ArePassedWithin}
+use Rattle.command_answers.specs.Bounds.{ArePassedWithin}
 use Rattle.command_answers.specs.Tellings.{telling_of, uncertified}
 use Rattle.command_answers.specs.Verifying.{passed}
 use Rattle.command_answers.specs.declared.status.Status.TheVariants as status
 use Rattle.report_text.specs.Reports.{range_text}
 use Rattle.command_answers.proofs.verifying.verdict_told.Goals as goal
-use Rattle.command_answers.proofs.SidesLemmas.{passed_within}
+use Rattle.command_answers.proofs.BoundLemmas.{passed_within}
 
 pub returns-in_ok-text-in-Err-Range-clause-verifies : goal.returns-in_ok-text-in-Err-Range-clause-verifies
 returns-in_ok-text-in-Err-Range-clause-verifies g c =
