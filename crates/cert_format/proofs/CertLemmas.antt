@@ -309,6 +309,13 @@ module _ {N : Type 0} (value : N → Fraction) (bound : ℕ) (fits : (x : N) →
   pub written-back : (c : Cert N) (bytes : List ℕ) → NamesFit c → bytes ≡ cert_text (cert_at value c) → RowsAreDistinct (cert_at value c) → cert_read bound bytes ≡ Ok (cert_at value c)
   written-back c bytes h text once = ap (cert_read bound) text ∙ reads-back bound (cert_at value c) (record { numbers = numbers-fit c h; distinct = once })
 
+-- numbers within a bound are within a greater one
+pub fits-wider : {N : Type 0} (value : N → Fraction) (less bound : ℕ) → less ≤ bound → ((x : N) → (unsigned_abs (value x).num ≤ less) × ((value x).den ≤ less)) → (x : N) → (unsigned_abs (value x).num ≤ bound) × ((value x).den ≤ bound)
+fits-wider value less bound wide fits x =
+    let num = (fits x).0 in
+    let den = (fits x).1 in
+    (omega arith, omega arith)
+
 -- ---- what is written of an outcome
 -- the certificate of what a clear came to, with each number as the fraction that it stands for
 pub answer-at : {N : Type 0} (value : N → Fraction) (places : FactorPlaces) (listed : Bool) (a : Answer N) → cert_at value (cert_of places listed a) ≡ cert_of places listed (answer_at value a)

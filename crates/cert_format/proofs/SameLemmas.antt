@@ -21,7 +21,7 @@ use Rattle.cert_format.specs.declared.forms.Version.TheVariants as version
 use Rattle.cert_format.specs.Certificates.{Fits, NamesFit, RowFits}
 use Rattle.cert_format.specs.FractionTexts.{fraction_of_text}
 use Rattle.cert_format.specs.Grammar.{cert_in, cert_read, cleared_reserve_in, each, farkas_in, fraction_in, if_distinct, distinct, limit_in, members_with, optimal_in, places_named, reserve_duals_in, room_dual_in}
-use Rattle.cert_format.specs.Laws.{LawOfMigratedTexts}
+use Rattle.cert_format.specs.Laws.{LawOfMigratedTexts, LawOfOneReading}
 use Rattle.cert_format.specs.Written.{cert_data, cert_text, cleared_reserve_data, fraction_data, limit_data, reserve_duals_data, room_data}
 use Rattle.cert_format.proofs.CertLemmas.{after_unit, one-reader, places-back, read-cert_text, utf8-cert_text}
 use Rattle.cert_format.proofs.FractionLemmas.{fraction_of_text-read, fraction_of_text-spells}
@@ -172,6 +172,9 @@ module _ (most : ℕ) where
   read-same : (c d : Cert Fraction) → NamesFit c → cert_read most (cert_text c) ≡ Ok d → d ≡ c
   unfolding cert_read
   read-same c d names h = cert-same c d names (rw (is_utf8-from_IsUtf8 (cert_text c) (utf8-cert_text c names), read-cert_text c names) at h)
+
+pub law_of_one_reading : LawOfOneReading
+law_of_one_reading most c d names h = read-same most c d names h
 
 pub law_of_migrated_texts : LawOfMigratedTexts
 law_of_migrated_texts most c d names h = ap cert_text (read-same most c d names h)

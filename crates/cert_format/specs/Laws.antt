@@ -23,6 +23,10 @@ ReadsWhatFits = (most : ℕ) (bytes : List ℕ) (c : Cert Fraction) → cert_rea
 abbrev pub LawOfMigration : Type 0
 LawOfMigration = (most : ℕ) (bytes : List ℕ) (c : Cert Fraction) → cert_read most bytes ≡ Ok c → cert_read most (cert_text c) ≡ Ok c
 
+-- a text that was written is read as what it was written of, by whatever bound it is read: numbers of rows and units have 32 bits
+abbrev pub LawOfOneReading : Type 0
+LawOfOneReading = (most : ℕ) (c d : Cert Fraction) → NamesFit c → cert_read most (cert_text c) ≡ Ok d → d ≡ c
+
 -- and a text that was written is left as it is by that, where it is read at all: numbers of rows and units have 32 bits, others may be too large
 abbrev pub LawOfMigratedTexts : Type 0
 LawOfMigratedTexts = (most : ℕ) (c d : Cert Fraction) → NamesFit c → cert_read most (cert_text c) ≡ Ok d → cert_text d ≡ cert_text c

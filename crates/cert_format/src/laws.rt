@@ -1,6 +1,6 @@
 //! Laws of the texts of certificates, each the contract of a function that does nothing.
 
-ghost use Rattle.cert_format.specs.Laws.{LawOfMigratedTexts, LawOfMigration, ReadsBack, ReadsSpelling, ReadsWhatFits};
+ghost use Rattle.cert_format.specs.Laws.{LawOfMigratedTexts, LawOfMigration, LawOfOneReading, ReadsBack, ReadsSpelling, ReadsWhatFits};
 
 /// A text is read as the fraction that it spells, and as none where it spells none.
 pub fn reads_spelling()
@@ -20,6 +20,12 @@ pub fn reads_what_fits()
 /// What is written of a certificate that was read, of any version, is read back as the same certificate.
 pub fn migrating_keeps()
     ensures { LawOfMigration }
+{}
+
+/// A text that was written, where it is read as a certificate, by whatever bound, is read as the one that it was written of. Numbers of
+/// rows and units have 32 bits.
+pub fn written_texts_have_one_reading()
+    ensures { LawOfOneReading }
 {}
 
 /// A text that was written, where it is read as a certificate, is written again as the same text. Numbers of rows and

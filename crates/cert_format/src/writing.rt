@@ -191,11 +191,11 @@ fn cert_bytes<N: Exact>(alloc: Global, cert: &Cert<N>) -> Result<Vec<u8>, AllocE
 }
 
 /// The text of a certificate, without a line end: of the third version where it has a part on reserve, and else of the second. Where no row
-/// is named twice it is read back as the certificate, by the bound of its numbers.
+/// is named twice it is read back as the certificate, by the bound of its numbers and by each greater one.
 pub fn to_json<N: Exact>(alloc: Global, cert: &Cert<N>) -> Result<Vec<u8>, Memory>
     ensures text { IfOk result (λ bytes. bytes.items ≡ cert_text (cert_at N.value cert.now)) }
-    ensures reads_back { IfOk result (λ bytes. RowsAreDistinct (cert_at N.value cert.now)
-        → cert_read N.bound bytes.items ≡ Ok (cert_at N.value cert.now)) }
+    ensures reads_back { (most : ℕ) → N.bound ≤ most → RowsAreDistinct (cert_at N.value cert.now)
+        → IfOk result (λ bytes. cert_read most bytes.items ≡ Ok (cert_at N.value cert.now)) }
 {
     match cert_bytes(alloc, cert) {
         Ok(bytes) => Ok(bytes),
@@ -266,7 +266,7 @@ fn made(text: Result<Vec<u8>, AllocError>) -> Result<Option<Vec<u8>>, Memory>
 }
 
 /// The text of the certificate of what a clear came to, where there is one. Factors of the market had so many places, and its reserve was
-/// listed or not. Where the certificate names no row twice the text is read back as it, by the bound of its numbers.
+/// listed or not. Where the certificate names no row twice the text is read back as it, by the bound of its numbers and by each greater one.
 pub fn outcome_json<N: Exact>(
     alloc: Global,
     places: FactorPlaces,
@@ -275,8 +275,8 @@ pub fn outcome_json<N: Exact>(
 ) -> Result<Option<Vec<u8>>, Memory>
     ensures text { IfOk result (λ made. option_map (λ bytes. bytes.items) made ≡ certificate_of places listed (outcome_at N.value outcome.now)) }
     ensures fits { OnOk result (IfSome (cert_of_outcome places listed (outcome_at N.value outcome.now)) (NumbersFit N.bound)) }
-    ensures reads_back { (c : Cert Fraction) → cert_of_outcome places listed (outcome_at N.value outcome.now) ≡ Some c → RowsAreDistinct c
-        → IfOk result (λ made. option_map (λ bytes. cert_read N.bound bytes.items) made ≡ Some (Ok c)) }
+    ensures reads_back { (most : ℕ) (c : Cert Fraction) → N.bound ≤ most → cert_of_outcome places listed (outcome_at N.value outcome.now) ≡ Some c → RowsAreDistinct c
+        → IfOk result (λ made. option_map (λ bytes. cert_read most bytes.items) made ≡ Some (Ok c)) }
 {
     match outcome {
         Outcome::Cleared(answer) => made(answer_text(alloc, places, listed, answer)),
