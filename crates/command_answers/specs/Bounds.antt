@@ -1,5 +1,5 @@
--- Answers whose numbers are all within a bound: those that are told, of money and of prices too, and the two sides of an operation
--- whose outcome passes it.
+-- Answers whose numbers are all within a bound, in their units (10^-9 MW, 10^-6 per MWh, 10^-15): those that are told, of money and of
+-- prices too, and the two sides of an operation whose outcome passes it.
 use Rattle.std.specs.Prelude.{ℕ, All}
 use Rattle.fraction_theory.specs.Fraction.{Fraction}
 use Rattle.exact_fraction.specs.declared.Passed.{Passed}

@@ -334,6 +334,12 @@ fn greatest_of_127_bits(rt: HostRuntime) {
             let mut buf = [0; 128];
             let end = most.write_parts(&mut buf);
             assert!(rt; &buf[..end] == b"170141183460469231731687303715884105727/1".as_slice());
+            let end = most.write_exact(6, &mut buf);
+            assert!(rt; &buf[..end] == b"170141183460469231731687303715884.105727".as_slice());
+            let end = Frac63::of_parts(-8, 3).write_exact(1, &mut buf);
+            assert!(rt; &buf[..end] == b"-0.2:2/3".as_slice());
+            let end = Frac63::of_parts(-8, 6).write_parts(&mut buf);
+            assert!(rt; &buf[..end] == b"-4/3".as_slice());
             assert!(rt; most.plus(one).is_err() && most.neg().minus(one).is_err());
             assert!(rt; is(most.plus(most.neg()), Frac::of_parts(0, 1)));
             assert!(rt; is(most.times(one.neg()), most.neg()));

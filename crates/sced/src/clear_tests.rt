@@ -161,7 +161,7 @@ const AT_40_AND_45: Rows = (BUSES, UNITS, "40 0 45 0 0");
 
 const SHIFTED: Rows = (FIRST_BUS, UNITS, "5 0 0 0 3");
 
-/// Words, rows of the case, and what is told.
+/// Words, rows of the case, and what is told, with wider numbers too.
 static CLEARS: [(&str, Rows, Status, Text); 14] = [
     (ALONE, AT_40, Status::Done, Text::Whole(LIMITED)),
     (ALONE, SAME_40, Status::Done, Text::Whole(LIMITED)),
@@ -184,8 +184,11 @@ fn clears_within_limits(rt: HostRuntime) -> Result<(), Fail> {
     let all = ([].as_slice(), [].as_slice());
     for (line, rows, status, text) in &CLEARS {
         let case = case(&rt, rows.0, rows.1, rows.2)?;
-        let want = told(*status, *text);
-        expect_clear(&rt, line, case.as_str(), all, want)?;
+        let wide = format!(in rt.alloc(); "{line} --number-bits 1023")?;
+        for words in [*line, wide.as_str()] {
+            let want = told(*status, *text);
+            expect_clear(&rt, words, case.as_str(), all, want)?;
+        }
     }
     Ok(())
 }
