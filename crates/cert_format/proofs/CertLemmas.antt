@@ -336,7 +336,7 @@ passed_on (Err e) s P Q h k to = tt
 pub record IsTold {V E : Type 0} (items : V → List ℕ) (bound : ℕ) (c : Cert Fraction) (r : Result (Option V) E) : Type 0 where
   pub text : IfOk r (λ made. option_map items made ≡ Some (cert_text c))
   pub fits : OnOk r (NumbersFit bound c)
-  pub reads_back : (d : Cert Fraction) → Some c ≡ Some d → RowsAreDistinct d → IfOk r (λ made. option_map (λ v. cert_read bound (items v)) made ≡ Some (Ok d))
+  pub reads_back : (most : ℕ) (d : Cert Fraction) → bound ≤ most → Some c ≡ Some d → RowsAreDistinct d → IfOk r (λ made. option_map (λ v. cert_read most (items v)) made ≡ Some (Ok d))
 
 module _ {V E : Type 0} (items : V → List ℕ) (bound : ℕ) (c : Cert Fraction) (once : RowsAreDistinct c) where
   made_back : (r : Result (Option V) E) → IfOk r (λ made. option_map items made ≡ Some (cert_text c)) → OnOk r (NumbersFit bound c) → IfOk r (λ made. option_map (λ v. cert_read bound (items v)) made ≡ Some (Ok c))
@@ -361,5 +361,6 @@ module _ {N : Type 0} (value : N → Fraction) (bound : ℕ) (fits : (x : N) →
       subst (λ (e : Cert Fraction). IsTold items bound e r) same (record {
         text = text;
         fits = fit;
-        reads_back = λ k is once. cert_back items bound k once (cert_at value c) is r text fit;
+        reads_back = λ most k wide is once. cert_back items most k once (cert_at value c) is r text
+            (passed_on r written _ (NumbersFit most (cert_at value c)) made names (λ n. numbers-fit value most (fits-wider value bound most wide fits) c n));
       })
