@@ -6,7 +6,7 @@ use std::process::Abort;
 use std::test::Fail;
 
 /// The IEEE system of fourteen buses.
-const CASE: &str = "function mpc = ieee_fourteen_bus
+pub(crate) const CASE: &str = "function mpc = ieee_fourteen_bus
 mpc.version = '2';
 mpc.baseMVA = 100;
 mpc.bus = [

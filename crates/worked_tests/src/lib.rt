@@ -1,5 +1,5 @@
 //! Tests of `command_answers` by cases worked by hand: the pool, reserve that is cleared with energy, and tables of factors that are
-//! checked and made, with the flows that they are made of.
+//! checked and made, with the flows that they are made of; and a market whose numbers pass 127 bits.
 #![tactic(auto)]
 
 #[cfg(test)]
@@ -20,3 +20,5 @@ mod reserve;
 mod tells;
 #[cfg(test)]
 mod triangle;
+#[cfg(test)]
+mod wide_tests;
