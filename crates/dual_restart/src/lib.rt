@@ -4,6 +4,7 @@
 
 ghost use Rattle.std.specs.Prelude.{All, ◌≡◌, ◌+◌, ◌↔◌, IfErr, IfOk, IfSome, IsSome, IsTrue, None, Some, false, length};
 ghost use Rattle.fraction_theory.specs.Order.{◌≤ℚ◌};
+ghost use Rattle.simplex_core.specs.Fixed.{IsFixedPairPosed};
 ghost use Rattle.simplex_core.specs.Posings.{IsPairPosed, IsPosing};
 
 use exact_fraction::{Exact, Passed};
@@ -55,6 +56,7 @@ impl<N: Exact> Warm<N> {
         requires ordered { All (λ b. N.value b.low ≤ℚ N.value b.high) bounds.now }
         ensures posed { IfSome self (λ d. IfOk result (IsPosing N.value d prices.now bounds.now)) }
         ensures pair { IfSome self (λ d. IfErr result (IsPairPosed N.value N.bound d prices.now bounds.now)) }
+        ensures fixed { IfSome self (λ d. IfErr result (IsFixedPairPosed N.value N.bound d prices.now bounds.now)) }
     {
         match self.dict {
             Some(dict) => pose(dict, prices, bounds),

@@ -14,11 +14,11 @@ use Rattle.fraction_theory.proofs.Ring.{by_ring, at, pnil, pone, ◌⊕◌, ◌�
 use Rattle.linear_system.specs.Systems.{System}
 use Rattle.linear_system.specs.Choices.{Choice, at_bound, column_entry, reduced, reduced_terms, value, value_terms}
 use Rattle.linear_system.specs.Numbers.{is_one}
-use Rattle.linear_system.specs.Pairs.{IsSystemPair}
 use Rattle.linear_system.proofs.ChoiceLaws.{column_entry-basic, column_entry-itself, column_entry-other}
 use Rattle.linear_dict.specs.Dictionaries.{Dictionary, IsDictionary, system_in, choice_of, note_of, with_note}
 use Rattle.linear_dict.specs.Notes.{Noted}
 use Rattle.linear_dict.specs.Places.{is_among}
+use Rattle.simplex_core.specs.Fixed.{IsFixedSystemPair}
 use Rattle.simplex_core.specs.Operations.{PriceShare, adding_scaled, adding_own, BoundShare, adding_bound}
 use Rattle.simplex_core.specs.Posings.{asks_high, at_asked, asked_note, bound_added, price_added, reduced_note, value_note}
 use Rattle.simplex_core.specs.Turns.{noted_anew}
@@ -226,7 +226,7 @@ module _ (d : Dictionary) (h : IsDictionary d) (k : ℕ) where
     price_same = ap (λ (s : System). s.price j) reduced_system
 
     pub price_pair : ((w : ℕ) → Contains d.rows w → (system_in d).price w ≡ whole (pos 0)) → (bound : ℕ) (op : Op) (left right x p q : Fraction)
-        → PriceShare (noted_anew d (reduced_so_far d k)) j x p q → IsShareRefused bound x p q op left right → IsSystemPair (system_in d) bound op left right
+        → PriceShare (noted_anew d (reduced_so_far d k)) j x p q → IsShareRefused bound x p q op left right → IsFixedSystemPair d bound op left right
     price_pair unpriced bound op left right _ _ _ (adding_scaled w b o) refused =
         let basic : Contains d.basics j = to_basics j b in
         let other : Contains d.others w = to_others w o in
@@ -254,7 +254,7 @@ module _ (d : Dictionary) (h : IsDictionary d) (k : ℕ) where
     value_read b m = ap Noted.value (value_here b m) ∙ bound_prefix d h b k
 
     pub bound_pair : Contains d.others j → (bound : ℕ) (op : Op) (left right x p q : Fraction)
-        → BoundShare (noted_anew d (value_so_far d k)) j x p q → IsShareRefused bound x p q op left right → IsSystemPair (system_in d) bound op left right
+        → BoundShare (noted_anew d (value_so_far d k)) j x p q → IsShareRefused bound x p q op left right → IsFixedSystemPair d bound op left right
     bound_pair o bound op left right _ _ _ (adding_bound b c) refused =
         let m : Contains d.basics b = subst (λ (bs : List ℕ). Contains bs b) (anew_basics d h (value_so_far d k)) c in
         value_share d h live (others_before k) (others_before (k + 1)) b j m o (next_bound o b) bound op left right

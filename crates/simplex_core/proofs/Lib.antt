@@ -1,5 +1,6 @@
 pub mod Adding
 pub mod AnewLaws
+pub mod FixedLemmas
 pub mod Helping
 pub mod MoveLemmas
 pub mod Nexts

@@ -1,5 +1,5 @@
 -- Refused operations as working pairs of a dictionary's own system.
-use Rattle.std.specs.Prelude.{◌≡◌, ◌≢◌, ℕ, pos, Bool, true, false, List, [], ◌∷◌, ◌==◌, Result, Ok, Err, IfErr, length, if◌then◌else◌, refl}
+use Rattle.std.specs.Prelude.{◌≡◌, ◌≢◌, ℕ, ◌<◌, pos, Bool, true, false, List, [], ◌∷◌, ◌==◌, Result, Ok, Err, IfErr, length, slice_index, if◌then◌else◌, refl}
 use Rattle.std.specs.List.{Contains}
 use Rattle.std.proofs.Common.{arith, ap, ap₂, sym, ◌∙◌, subst, subst₂, inl, inr}
 use Rattle.std.proofs.lemmas.List.{take_all}
@@ -20,33 +20,39 @@ use Rattle.fraction_theory.proofs.ListSums.{Contains-filter, Distinct, Distinct-
 use Rattle.linear_system.specs.Systems.{System, IsSystem, MeetsRows}
 use Rattle.linear_system.specs.Choices.{Choice, IsChoice, OneExchange, at_bound, basics, column_entry, others, reduced, reduced_terms, value, value_terms}
 use Rattle.linear_system.specs.Exchanges.{entering_entry, exchanged}
-use Rattle.linear_system.specs.Numbers.{Kind, Factor, Quantity, Price, SystemNumber, is_entry, is_low, is_high, is_value, is_price, is_reduced, is_opposite, IsFirst, SolvingNumber, is_number, is_fall, is_rise, is_turned}
-use Rattle.linear_system.specs.Pairs.{IsCombined, IsSystemPair, OfEither, alone, difference, plain, subtracted, itself}
+use Rattle.linear_system.specs.Numbers.{Kind, Factor, Quantity, Price, SystemNumber, is_zero, is_entry, is_low, is_high, is_value, is_price, is_reduced, is_opposite, IsFirst, SolvingNumber, is_number, is_fall, is_rise, is_turned}
+use Rattle.linear_system.specs.Pairs.{IsCombined, OfEither, alone, difference, plain, subtracted, itself}
 use Rattle.linear_system.proofs.ChoiceLaws.{at_unit, basics_are, column_entry-basic, column_entry-other, is_basic, is_other, objective_by_others, others_are, others_distinct, unit_meets, unit_point}
 use Rattle.linear_system.proofs.ExchangeLaws.{exchanged_is, exchanged_once}
 use Rattle.linear_system.proofs.PairLaws.{IsScaling}
-use Rattle.linear_dict.specs.Causes.{IsPairOf}
+use Rattle.linear_dict.specs.Causes.{PivotShare, solving, scaling, adding}
 use Rattle.linear_dict.specs.Dictionaries.{Dictionary, IsDictionary, system_in, choice_of, entry_of, note_of, pivoted}
 use Rattle.linear_dict.specs.Notes.{Noted}
 use Rattle.linear_dict.specs.Places.{is_among, place_in}
-use Rattle.linear_dict.proofs.CauseLemmas.{share_pair, written}
-use Rattle.linear_dict.proofs.NameLemmas.{among-tells}
-use Rattle.linear_dict.proofs.SplitLemmas.{basic_in, in_basics, in_others, other_in, system_is}
+use Rattle.linear_dict.specs.Tables.{cell, pivoted_cell, pivoted_row}
+use Rattle.linear_dict.proofs.CauseLemmas.{written}
+use Rattle.linear_dict.proofs.NameLemmas.{among-tells, entry_at, place_in-within}
+use Rattle.linear_dict.proofs.PivotLemmas.{pivoted-solved, pivoted-column, pivoted-other, row-itself, row-other}
+use Rattle.linear_dict.proofs.SplitLemmas.{Contains-at, basic_in, in_basics, in_others, other_in, system_is}
+use Rattle.linear_dict.proofs.TableLemmas.{shows_table}
 use Rattle.simplex_theory.specs.Steps.{Enters, IsStep, Leaves, violated_bound, displacement}
 use Rattle.simplex_theory.proofs.Exchanges.{entering_basic, entering_other, leaving_other, other_after, other_not_leaving}
 use Rattle.simplex_theory.proofs.PosedNumbers.{posed_reduced, posed_value, value_other}
+use Rattle.simplex_core.specs.Fixed.{IsFixedPair, IsFixedSystemPair}
 use Rattle.simplex_core.specs.States.{IsReady, state_of}
 use Rattle.simplex_core.specs.Operations.{MoveShare, MovesShare, of_note, adding_rise, adding_price}
 use Rattle.simplex_core.specs.Turns.{noted_anew, turned}
+use Rattle.simplex_core.proofs.FixedLemmas.{fixed_after, fixed_own, fixed_share}
+use Rattle.simplex_core.proofs.StepLemmas.{pivoted_columns, pivoted_rows}
 use Rattle.simplex_core.proofs.TurnLaws.{turned_names, turned_ready, turned_step, turned_system}
 
 -- a refused operation by the values of its sides
-pub pair_by : {N : Type 0} (value : N → Fraction) (bound : ℕ) (s : System) (op : Op) (left right : N) (e : Passed N) (x y : Fraction)
-    → IsTooLargeAt value bound op left right e → value left ≡ x → value right ≡ y → (IsTooLarge bound (outcome op x y) → Passes bound op x y → IsSystemPair s bound op x y) → IsPairOf value bound s e
-pair_by value bound s op left right e x y h ex ey f =
+pub pair_by : {N : Type 0} (value : N → Fraction) (bound : ℕ) (d : Dictionary) (op : Op) (left right : N) (e : Passed N) (x y : Fraction)
+    → IsTooLargeAt value bound op left right e → value left ≡ x → value right ≡ y → (IsTooLarge bound (outcome op x y) → Passes bound op x y → IsFixedSystemPair d bound op x y) → IsFixedPair value bound d e
+pair_by value bound d op left right e x y h ex ey f =
     let p = h.passed in
-    subst (λ (o : Op). IsSystemPair s bound o (value e.left) (value e.right)) (sym p.same_op)
-    (subst₂ (IsSystemPair s bound op) (sym (ap value p.same_left ∙ ex)) (sym (ap value p.same_right ∙ ey))
+    subst (λ (o : Op). IsFixedSystemPair d bound o (value e.left) (value e.right)) (sym p.same_op)
+    (subst₂ (IsFixedSystemPair d bound op) (sym (ap value p.same_left ∙ ex)) (sym (ap value p.same_right ∙ ey))
     (f (subst (IsTooLarge bound) (ap₂ (outcome op) ex ey) h.too_large) (subst₂ (Passes bound op) ex ey p.passes)))
 
 module _ (d : Dictionary) (h : IsDictionary d) (live : d.spent ≡ false) where
@@ -59,9 +65,9 @@ module _ (d : Dictionary) (h : IsDictionary d) (live : d.spent ≡ false) where
   -- a refused sum of numbers of the choice in hand, which is one of its numbers itself
   lone_share : (kind : Kind) (x p q y : Fraction) → SystemNumber (system_in d) (choice_of d) kind x → IsScaling (OfEither (SystemNumber (system_in d)) (choice_of d) (choice_of d)) kind p q
       → SystemNumber (system_in d) (choice_of d) kind y → y ≡ x +ℚ p *ℚ q → (bound : ℕ) (op : Op) (left right : Fraction) → IsShareRefused bound x p q op left right
-      → IsSystemPair (system_in d) bound op left right
+      → IsFixedSystemPair d bound op left right
   lone_share kind x p q y number product whole_sum is bound op left right refused =
-      share_pair (system_in d) (choice_of d) (choice_of d) (h.solutions live) (h.solutions live) (inl refl) kind x p q (inl number) product
+      fixed_share d (choice_of d) (choice_of d) (fixed_own d h) (fixed_own d h) (h.solutions live) (h.solutions live) (inl refl) kind x p q (inl number) product
       (inl (is_number kind (x +ℚ p *ℚ q) (subst (SystemNumber (system_in d) (choice_of d) kind) is whole_sum))) bound op left right refused
 
   pub entry_number : (b w : ℕ) → Contains d.basics b → Contains d.others w → SystemNumber (system_in d) (choice_of d) Factor ((choice_of d).entry b w)
@@ -95,7 +101,7 @@ module _ (d : Dictionary) (h : IsDictionary d) (live : d.spent ≡ false) where
   pub price_share : ((w : ℕ) → Contains d.rows w → (system_in d).price w ≡ whole (pos 0)) → (k n j w : ℕ) (q : Fraction) → Contains d.names j → Contains d.others w → SystemNumber (system_in d) (choice_of d) Factor q
       → prefix n (reduced_terms (system_in d) (choice_of d) w) ≡ prefix k (reduced_terms (system_in d) (choice_of d) w) +ℚ (system_in d).price j *ℚ q
       → (bound : ℕ) (op : Op) (left right : Fraction) → IsShareRefused bound (prefix k (reduced_terms (system_in d) (choice_of d) w)) ((system_in d).price j) q op left right
-      → IsSystemPair (system_in d) bound op left right
+      → IsFixedSystemPair d bound op left right
   price_share unpriced k n j w q m o factor is bound op left right refused =
       let other : Contains (others (system_in d) (choice_of d)) w = other_in d h w o in
       lone_share Price _ _ _ _ (is_reduced w k other) (inr (alone _ (inl (price_number unpriced j w m o)), inl factor)) (is_reduced w n other) is bound op left right refused
@@ -104,7 +110,7 @@ module _ (d : Dictionary) (h : IsDictionary d) (live : d.spent ≡ false) where
   pub value_share : (k n b w : ℕ) → Contains d.basics b → Contains d.others w
       → prefix n (value_terms (system_in d) (choice_of d) b) ≡ prefix k (value_terms (system_in d) (choice_of d) b) +ℚ (choice_of d).entry b w *ℚ at_bound (system_in d) (choice_of d) w
       → (bound : ℕ) (op : Op) (left right : Fraction) → IsShareRefused bound (prefix k (value_terms (system_in d) (choice_of d) b)) ((choice_of d).entry b w) (at_bound (system_in d) (choice_of d) w) op left right
-      → IsSystemPair (system_in d) bound op left right
+      → IsFixedSystemPair d bound op left right
   value_share k n b w m o is bound op left right refused =
       let basic : Contains (basics (system_in d) (choice_of d)) b = basic_in d h b m in
       lone_share Quantity _ _ _ _ (is_value b k basic) (inl (inl (entry_number b w m o), alone _ (inl (bound_number w (h.split.second_named w o))))) (is_value b n basic) is bound op left right refused
@@ -224,32 +230,36 @@ module _ (d : Dictionary) (ready : IsReady d) where
 
   -- its bound and its value
   pub displace_pair : (bound v : ℕ) (above : Bool) → Leaves (system_in d) (state_of d) v above → IsTooLarge bound (violated_bound (system_in d) v above -ℚ (note_of d v).value)
-      → Passes bound Minus (violated_bound (system_in d) v above) (note_of d v).value → IsSystemPair (system_in d) bound Minus (violated_bound (system_in d) v above) (note_of d v).value
+      → Passes bound Minus (violated_bound (system_in d) v above) (note_of d v).value → IsFixedSystemPair d bound Minus (violated_bound (system_in d) v above) (note_of d v).value
   unfolding state_of
   displace_pair bound v above leaves large passes =
       let named : Contains d.names v = ready.sound.split.first_named v (in_basics d ready.sound v leaves.basic) in record {
-        passes = passes;
-        one = choice_of d;
-        near = choice_of d;
-        is_choice = ready.sound.solutions ready.live;
-        near_is_choice = ready.sound.solutions ready.live;
-        are_near = inl refl;
-        sides = subtracted Quantity _ _ (plain _ (alone _ (inl (violated_number v above named)))) (plain _ (alone _ (inl (value_number v named))));
-        large = record { number = violated_bound (system_in d) v above -ℚ (note_of d v).value; is_number = inl (displaced v above leaves); too_large = large; made = itself Minus _ _ };
+        pair = record {
+          passes = passes;
+          one = choice_of d;
+          near = choice_of d;
+          is_choice = ready.sound.solutions ready.live;
+          near_is_choice = ready.sound.solutions ready.live;
+          are_near = inl refl;
+          sides = subtracted Quantity _ _ (plain _ (alone _ (inl (violated_number v above named)))) (plain _ (alone _ (inl (value_number v named))));
+          large = record { number = violated_bound (system_in d) v above -ℚ (note_of d v).value; is_number = inl (displaced v above leaves); too_large = large; made = itself Minus _ _ };
+        };
+        one = fixed_own d ready.sound;
+        near = fixed_own d ready.sound;
       }
 
   -- the ratio of a candidate: the inverse of its entry is that of the leaving variable once the two have changed places, and the ratio is,
   -- up to its sign, the reduced price of that one then
-  pub ratio_pair : (bound v w : ℕ) (t : Fraction) → Contains d.basics v → Contains d.others w → whole (pos 0) <ℚ t → t ≡ abs_ℚ ((choice_of d).entry v w)
-      → (op : Op) (left right : Fraction) → IsShareRefused bound (whole (pos 0)) (abs_ℚ (note_of d w).reduced) (recip_ℚ t) op left right → IsSystemPair (system_in d) bound op left right
+  pub ratio_pair : (bound v w : ℕ) (t : Fraction) → Contains d.basics v → Contains d.others w → (system_in d).low w <ℚ (system_in d).high w → whole (pos 0) <ℚ t → t ≡ abs_ℚ ((choice_of d).entry v w)
+      → (op : Op) (left right : Fraction) → IsShareRefused bound (whole (pos 0)) (abs_ℚ (note_of d w).reduced) (recip_ℚ t) op left right → IsFixedSystemPair d bound op left right
   unfolding exchanged entering_entry abs_ℚ
-  ratio_pair bound v w t basic other above same op left right refused =
+  ratio_pair bound v w t basic other free above same op left right refused =
       let scaling : IsScaling (OfEither (SystemNumber s) h k) Price (abs_ℚ price) (recip_ℚ t) =
       inr (alone _ (inl (abs_number s h Price _ (reduced_number w other))), inr (subst (λ x. SystemNumber s k Factor (recip_ℚ x)) (sym same) (inverse_size (sign_of (h.entry v w))))) in
       let whole_sum : SystemNumber s k Price (whole (pos 0) +ℚ abs_ℚ price *ℚ recip_ℚ t) =
       subst (SystemNumber s k Price) (by_ring ring_ℚ (abs_ℚ price ∷ recip_ℚ t ∷ []) (pmul (at 0) (at 1)) (pnil ⊕ pmul (at 0) (at 1)) refl)
       (subst (λ x. SystemNumber s k Price (abs_ℚ price *ℚ recip_ℚ x)) (sym same) (ratio_size (sign_of price) _ (ratio (sign_of (h.entry v w))))) in
-      share_pair s h k (ready.sound.solutions ready.live) near_choice (inr (v, w, once)) Price (whole (pos 0)) (abs_ℚ price) (recip_ℚ t)
+      fixed_share d h k (fixed_own d ready.sound) (fixed_after d ready.sound k v w once free) (ready.sound.solutions ready.live) near_choice (inr (v, w, once)) Price (whole (pos 0)) (abs_ℚ price) (recip_ℚ t)
       (inl (is_reduced w 0 entering)) scaling (written s h k Price _ (inr whole_sum)) bound op left right refused
     where
       s : System
@@ -431,10 +441,101 @@ module _ (d : Dictionary) (ready : IsReady d) (v k : ℕ) (above : Bool) (leaves
 
   pub move_pair : (bound : ℕ) (op : Op) (left right x p q : Fraction)
       → MovesShare (pivoted d (place_in d.basics v) (place_in d.others k)) v k (displacement (system_in d) (state_of d) v above) (note_of d k).reduced x p q
-      → IsShareRefused bound x p q op left right → IsSystemPair (system_in d) bound op left right
+      → IsShareRefused bound x p q op left right → IsFixedSystemPair d bound op left right
   unfolding e t far Number state_of
   move_pair bound op left right x p q asked refused =
       let near : Choice = choice_of (turned d v k above) in
       let n = move_numbers x p q asked in
-      share_pair (system_in d) (choice_of d) near (ready.sound.solutions ready.live) step.exchanged.choice (inr (v, k, once)) n.0 x p q n.1 n.2
+      fixed_share d (choice_of d) near (fixed_own d ready.sound) (fixed_after d ready.sound near v k once enters.helps.free)
+      (ready.sound.solutions ready.live) step.exchanged.choice (inr (v, k, once)) n.0 x p q n.1 n.2
       (written (system_in d) (choice_of d) near n.0 _ n.3) bound op left right refused
+
+  -- the same of the exchange itself: what it puts at two places of the table is an entry of the choice after it
+  old_cell : ℕ → ℕ → Fraction
+  old_cell = cell (length d.others) d.table
+
+  leaving_row : ℕ
+  leaving_row = place_in d.basics v
+
+  entering_column : ℕ
+  entering_column = place_in d.others k
+
+  row_within : leaving_row < length d.basics
+  unfolding leaving_row state_of
+  row_within = (place_in-within d.basics v (in_basics d ready.sound v leaves.basic)).0
+
+  column_within : entering_column < length d.others
+  unfolding entering_column
+  column_within = (place_in-within d.others k k_in).0
+
+  t_rows : length t.basics ≡ length d.basics
+  unfolding t turned noted_anew
+  t_rows = pivoted_rows d (place_in d.basics v) (place_in d.others k)
+
+  t_columns : length t.others ≡ length d.others
+  unfolding t turned noted_anew
+  t_columns = pivoted_columns d (place_in d.basics v) (place_in d.others k)
+
+  t_cell : (i j : ℕ) → i < length d.basics → j < length d.others → cell (length d.others) t.table i j ≡ pivoted_cell old_cell leaving_row entering_column i j
+  unfolding t turned noted_anew pivoted old_cell leaving_row entering_column
+  t_cell i j hi hj = (shows_table (length d.basics) (length d.others) (pivoted_cell (cell (length d.others) d.table) (place_in d.basics v) (place_in d.others k))).at i j hi hj
+
+  cell_before : (i j : ℕ) → i < length d.basics → j < length d.others → Number Factor (old_cell i j)
+  unfolding old_cell Number choice_of
+  cell_before i j hi hj = inl (subst (SystemNumber (system_in d) (choice_of d) Factor) (sym (entry_at d ready.sound i j hi hj))
+      (entry_number d ready.sound ready.live (slice_index d.basics i) (slice_index d.others j) (Contains-at d.basics i hi) (Contains-at d.others j hj)))
+
+  cell_after : (i j : ℕ) → i < length d.basics → j < length d.others → Number Factor (pivoted_cell old_cell leaving_row entering_column i j)
+  unfolding choice_of
+  cell_after i j hi hj =
+      let ti : i < length t.basics = Prim.omega (arith, hi, t_rows) in
+      let tj : j < length t.others = Prim.omega (arith, hj, t_columns) in
+      subst (Number Factor) (sym (entry_at t t_ready.sound i j ti tj) ∙ ap (λ (n : ℕ). cell n t.table i j) t_columns ∙ t_cell i j hi hj)
+      (near_number Factor _ (entry_number t t_ready.sound t_ready.live (slice_index t.basics i) (slice_index t.others j) (Contains-at t.basics i ti) (Contains-at t.others j tj)))
+
+  row_after : (j : ℕ) → j < length d.others → Number Factor (pivoted_row old_cell leaving_row entering_column j)
+  row_after j hj = subst (Number Factor) (pivoted-solved old_cell leaving_row entering_column leaving_row j refl) (cell_after leaving_row j row_within hj)
+
+  zero_before : Number Factor (whole (pos 0))
+  unfolding Number
+  zero_before = inl is_zero
+
+  opposite : (x : Fraction) → Number Factor x → Number Factor (neg_ℚ x)
+  unfolding Number
+  opposite x (inl n) = inl (is_opposite Factor x n)
+  opposite x (inr n) = inr (is_opposite Factor x n)
+
+  pivot_numbers : (x p q : Fraction) → PivotShare (length d.basics) (length d.others) old_cell leaving_row entering_column x p q
+      → Number Factor x × IsScaling Number Factor p q × Number Factor (x +ℚ p *ℚ q)
+  pivot_numbers _ _ _ (solving j hj n) = (
+    zero_before,
+    inl (opposite _ (cell_before leaving_row j row_within hj), alone _ (subst (Number Factor) (row-itself old_cell leaving_row entering_column entering_column refl) (row_after entering_column column_within))),
+    subst (Number Factor)
+        (row-other old_cell leaving_row entering_column j n
+        ∙ by_ring ring_ℚ ((neg_ℚ (old_cell leaving_row j) *ℚ recip_ℚ (old_cell leaving_row entering_column)) ∷ []) (at 0) (pnil ⊕ at 0) refl) (row_after j hj),
+  )
+  pivot_numbers _ _ _ (scaling i hi n) = (
+    zero_before,
+    inl (cell_before i entering_column hi column_within, alone _ (row_after entering_column column_within)),
+    subst (Number Factor)
+        (pivoted-column old_cell leaving_row entering_column i entering_column n refl
+        ∙ ap (λ x. old_cell i entering_column *ℚ x) (sym (row-itself old_cell leaving_row entering_column entering_column refl))
+        ∙ by_ring ring_ℚ (old_cell i entering_column ∷ pivoted_row old_cell leaving_row entering_column entering_column ∷ []) (pmul (at 0) (at 1)) (pnil ⊕ pmul (at 0) (at 1)) refl)
+        (cell_after i entering_column hi column_within),
+  )
+  pivot_numbers _ _ _ (adding i j hi n hj m) = (
+    cell_before i j hi hj,
+    inl (cell_before i entering_column hi column_within, alone _ (row_after j hj)),
+    subst (Number Factor) (pivoted-other old_cell leaving_row entering_column i j n m) (cell_after i j hi hj),
+  )
+
+  pub turn_pair : (bound : ℕ) (op : Op) (left right x p q : Fraction)
+      → PivotShare (length d.basics) (length d.others) (cell (length d.others) d.table) (place_in d.basics v) (place_in d.others k) x p q
+      → IsShareRefused bound x p q op left right → IsFixedSystemPair d bound op left right
+  unfolding old_cell leaving_row entering_column t Number state_of
+  turn_pair bound op left right x p q asked refused =
+      let near : Choice = choice_of (turned d v k above) in
+      let n = pivot_numbers x p q asked in
+      fixed_share d (choice_of d) near (fixed_own d ready.sound) (fixed_after d ready.sound near v k once enters.helps.free)
+      (ready.sound.solutions ready.live) step.exchanged.choice (inr (v, k, once)) Factor x p q n.0 n.1
+      (written (system_in d) (choice_of d) near Factor (x +ℚ p *ℚ q) n.2) bound op left right refused

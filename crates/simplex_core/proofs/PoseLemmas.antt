@@ -8,7 +8,6 @@ use Rattle.fraction_theory.specs.Signs.{sign_of}
 use Rattle.linear_system.specs.Systems.{System}
 use Rattle.linear_system.specs.Choices.{Choice, basics, others, at_bound, reduced, value}
 use Rattle.exact_fraction.specs.declared.Passed.{Passed}
-use Rattle.linear_dict.specs.Causes.{IsPairOf}
 use Rattle.linear_dict.specs.Dictionaries.{Dictionary, IsDictionary, system_in, choice_of, note_of}
 use Rattle.linear_dict.specs.Notes.{Noted}
 use Rattle.linear_dict.specs.Places.{place_in}
@@ -16,11 +15,13 @@ use Rattle.linear_dict.proofs.NameLemmas.{place_in-within}
 use Rattle.linear_dict.proofs.SplitLemmas.{Contains-at, system_is, basic_in, other_in, in_others}
 use Rattle.simplex_theory.specs.States.{IsPosed}
 use Rattle.simplex_theory.proofs.PosedNumbers.{value_other, reduced_basic, posed_by_choice}
+use Rattle.simplex_core.specs.Fixed.{IsFixedPair, IsFixedPairPosed}
 use Rattle.simplex_core.specs.States.{state_of, IsReady}
 use Rattle.simplex_core.specs.Turns.{noted_anew}
 use Rattle.simplex_core.specs.Posings.{HasNotes, IsPairPosed, IsPosing, column_note, row_note, low_at, high_at, asks_high, at_asked, value_note}
 use Rattle.simplex_core.specs.declared.bounds.Bounds.{Bounds}
-use Rattle.simplex_core.proofs.AnewLaws.{anew_sound, anew_basics, anew_keeps, anew_system, anew_choice, anew_reduced}
+use Rattle.simplex_core.proofs.AnewLaws.{anew_sound, anew_basics, anew_others, anew_keeps, anew_system, anew_choice, anew_reduced}
+use Rattle.simplex_core.proofs.FixedLemmas.{fixed_of}
 use Rattle.simplex_core.proofs.NoteLaws.{note_anew, renoted_dictionary}
 use Rattle.simplex_core.proofs.StandLemmas.{stand_note, asked_low, asked_high, stand-basic, stand-other, value-basic, value-other, stand-price, stand-low, stand-high, value-price, value-low, value-high, value-flag}
 
@@ -278,10 +279,17 @@ module _ {N : Type 0} (value : N → Fraction) (d : Dictionary) (h : IsDictionar
       posing g k eg ek = subst (IsPosing value d prices bounds) (sym (ek ∙ ap (λ (x : Dictionary). noted_anew x (value_note x)) eg)) posed_so
 
       -- a working pair on the way is one of the system that would be posed
-      pub posed_pair : (most : ℕ) (p : Passed N) → IsPairOf value most (system_in f) p → IsPairPosed value most d prices bounds p
-      unfolding end
-      posed_pair most p pair = (end, posed_so, subst (λ (s : System). IsPairOf value most s p) (sym (stands_system f put_both put_live put_ordered put_reduced)) pair)
+      pub posed_pair : (most : ℕ) (p : Passed N) → IsFixedPair value most f p → IsFixedPairPosed value most d prices bounds p
+      unfolding end noted_anew
+      posed_pair most p pair =
+          (end, posed_so, fixed_of end f (sym (stands_system f put_both put_live put_ordered put_reduced)) (λ w o equal. o) most p.op (value p.left) (value p.right) pair)
 
-      pub posed_pair_later : (most : ℕ) (p : Passed N) (g : Dictionary) → g ≡ noted_anew f (stand_note f) → IsPairOf value most (system_in g) p → IsPairPosed value most d prices bounds p
+      pub posed_pair_later : (most : ℕ) (p : Passed N) (g : Dictionary) → g ≡ noted_anew f (stand_note f) → IsFixedPair value most g p → IsFixedPairPosed value most d prices bounds p
       posed_pair_later most p g eg pair =
-          posed_pair most p (subst (λ (s : System). IsPairOf value most s p) (ap system_in eg ∙ stands_first f put_both put_live put_ordered put_reduced) pair)
+          posed_pair most p (fixed_of f g (ap system_in eg ∙ stands_first f put_both put_live put_ordered put_reduced)
+          (λ w o equal. subst (λ (ws : List ℕ). Contains ws w) (sym (ap Dictionary.others eg ∙ anew_others f put_both (stand_note f))) o) most p.op (value p.left) (value p.right) pair)
+
+-- as a pair without what is said of its choices
+pub posed_plain : {N : Type 0} (value : N → Fraction) (most : ℕ) (d : Dictionary) (prices : List N) (bounds : List (Bounds N)) (p : Passed N)
+    → IsFixedPairPosed value most d prices bounds p → IsPairPosed value most d prices bounds p
+posed_plain value most d prices bounds p h = (h.0, h.1, h.2.pair)

@@ -8,23 +8,26 @@ use Rattle.linear_system.specs.Choices.{Choice, basics, value}
 use Rattle.linear_system.proofs.ChoiceLaws.{basics_are}
 use Rattle.linear_dict.specs.Dictionaries.{Dictionary, system_in, choice_of}
 use Rattle.simplex_theory.specs.States.{IsWithin, IsSolved, IsOutOfReach, Violates}
-use Rattle.simplex_theory.specs.Steps.{Leaves, Helps, opposite_if}
+use Rattle.simplex_theory.specs.Steps.{IsStep, Leaves, Helps, opposite_if}
 use Rattle.simplex_theory.proofs.PosedNumbers.{posed_value, posed_reduced}
 use Rattle.simplex_theory.proofs.Signs.{neg_at_least, not_above}
 use Rattle.simplex_theory.proofs.Outcomes.{solved, out_of_reach, no_point}
 use Rattle.exact_fraction.specs.declared.Op.{Op}
+use Rattle.exact_fraction.specs.declared.Passed.{Passed}
 use Rattle.fraction_theory.specs.Fraction.{Fraction, whole, neg_ℚ}
 use Rattle.linear_system.specs.Numbers.{IsFirst}
 use Rattle.linear_system.specs.Pairs.{IsSystemPair}
 use Rattle.simplex_core.specs.declared.solving.Run.{Run}
-use Rattle.simplex_core.specs.declared.solving.Run.TheVariants.{Solved, Empty, Passed}
+use Rattle.simplex_core.specs.declared.solving.Run.TheVariants.{Solved, Empty, Passed as StoppedBy}
+use Rattle.simplex_core.specs.Fixed.{IsFixedPair, KeepsFixed}
 use Rattle.simplex_core.specs.Outcomes.{Keeps, IsAnswered, IsEmptyAt, IsRunOutcome, ShowsChoice}
 use Rattle.simplex_theory.specs.Stuck.{IsStuck}
 use Rattle.simplex_core.specs.States.{state_of, IsReady}
 use Rattle.simplex_core.specs.Turns.{turned}
+use Rattle.simplex_core.proofs.FixedLemmas.{fixed_after, fixed_pair, fixed_through}
 use Rattle.simplex_core.proofs.Nexts.{IsTurn}
 use Rattle.simplex_core.proofs.Pairs.{first_leaving}
-use Rattle.simplex_core.proofs.TurnLaws.{turned_ready, turned_system, turned_columns, turned_rows, turned_coefficients, turned_names}
+use Rattle.simplex_core.proofs.TurnLaws.{turned_ready, turned_step, turned_system, turned_columns, turned_rows, turned_coefficients, turned_names}
 
 pub keeps_itself : (d : Dictionary) → IsReady d → Keeps d d
 keeps_itself d ready = record { columns = refl; rows = refl; coefficients = refl; names = refl; system = refl; ready = ready }
@@ -40,6 +43,18 @@ keeps_turned d e h v k above t =
       system = turned_system e h.ready v k above t.leaves t.enters ∙ h.system;
       ready = ready;
     }
+
+-- and the variables whose bounds are equal stay others
+pub fixed_turned : (d e : Dictionary) → IsReady d → Keeps d e → KeepsFixed d (choice_of e) → (v k : ℕ) (above : Bool) → IsTurn e v k above → KeepsFixed d (choice_of (turned e v k above))
+unfolding state_of
+fixed_turned d e ready h kept v k above t =
+    let step : IsStep (system_in e) (state_of e) (state_of (turned e v k above)) v k above = turned_step e h.ready v k above t.leaves t.enters in
+    fixed_through d e h.system ready.sound h.ready.sound kept (choice_of (turned e v k above))
+    (fixed_after e h.ready.sound (choice_of (turned e v k above)) v k step.exchanged.exchange t.enters.helps.free)
+
+-- so a working pair on the way is one of the dictionary at the start
+pub fixed_before : {N : Type 0} (value : N → Fraction) (bound : ℕ) (d e : Dictionary) → IsReady d → Keeps d e → KeepsFixed d (choice_of e) → (p : Passed N) → IsFixedPair value bound e p → IsFixedPair value bound d p
+fixed_before value bound d e ready h kept p pair = fixed_pair d e h.system ready.sound h.ready.sound kept bound p.op (value p.left) (value p.right) pair
 
 -- all basic variables are within their bounds
 pub solved_at : (d : Dictionary) → IsReady d → ((b : ℕ) → Contains (basics (system_in d) (choice_of d)) b → IsWithin (system_in d) (state_of d).value b) → IsSolved (system_in d) (state_of d)
@@ -91,4 +106,4 @@ empty_at d ready v row above leaves idle within e = record {
 pub answered : {N : Type 0} (value : N → Fraction) (bound : ℕ) (d : Dictionary) (r : Run N) → ((op : Op) (left right : Fraction) → ¬ (IsSystemPair (system_in d) bound op left right)) → IsRunOutcome value bound d r → IsAnswered r
 answered value bound d (Solved e) none o = tt
 answered value bound d (Empty e row above) none o = tt
-answered value bound d (Passed p) none o = none p.op (value p.left) (value p.right) o
+answered value bound d (StoppedBy p) none o = none p.op (value p.left) (value p.right) o

@@ -1,3 +1,4 @@
+pub mod Fixed
 pub mod Operations
 pub mod Outcomes
 pub mod Posings

@@ -1,8 +1,8 @@
 // Which other variable enters: the ratio test.
 ghost use Rattle.std.specs.Prelude.{◌≡◌, ◌<◌, IfErr, IfOk, false, length, slice_index};
 ghost use Rattle.std.specs.List.{Contains};
-ghost use Rattle.linear_dict.specs.Causes.{IsPairOf};
-ghost use Rattle.linear_dict.specs.Dictionaries.{IsDictionary, system_in};
+ghost use Rattle.linear_dict.specs.Dictionaries.{IsDictionary};
+ghost use Rattle.simplex_core.specs.Fixed.{IsFixedPair};
 ghost use Rattle.simplex_core.specs.States.{IsReady};
 ghost use Rattle.simplex_core.specs.Searches.{IsCandidate, IsLesser, IsEntering};
 
@@ -37,7 +37,7 @@ fn candidate_at<N: Exact>(
     requires rank { rank < length dict.now.names }
     requires name { slice_index dict.now.others column ≡ slice_index dict.now.names rank }
     ensures candidate { IfOk result (IsCandidate N.value dict.now leaving.now.name leaving.now.above (slice_index dict.now.names rank)) }
-    ensures pair { IfErr result (IsPairOf N.value N.bound (system_in dict.now)) }
+    ensures pair { IfErr result (IsFixedPair N.value N.bound dict.now) }
 {
     let entry = dict.entry(leaving.row, column);
     match entry.sign() {
@@ -89,7 +89,7 @@ pub(crate) fn find_entering<N: Exact>(
     requires row { leaving.now.row < length dict.now.basics }
     requires leaving { slice_index dict.now.basics leaving.now.row ≡ leaving.now.name }
     ensures found { IfOk result (IsEntering dict.now leaving.now.name leaving.now.above) }
-    ensures pair { IfErr result (IsPairOf N.value N.bound (system_in dict.now)) }
+    ensures pair { IfErr result (IsFixedPair N.value N.bound dict.now) }
 {
     let mut best = None;
     for rank in 0..dict.name_count() {

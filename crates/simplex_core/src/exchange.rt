@@ -1,8 +1,9 @@
 // A step: the leaving and the entering variable change places, and the notes move by the new table.
 ghost use Rattle.std.specs.Prelude.{◌≡◌, ◌<◌, IfErr, IfOk, IsTrue, if◌then◌else◌, false, length, slice_index};
-ghost use Rattle.linear_dict.specs.Causes.{IsPairOf, IsRefused};
+ghost use Rattle.linear_dict.specs.Causes.{IsRefused};
 ghost use Rattle.linear_dict.specs.Dictionaries.{IsDictionary, note_of, system_in};
 ghost use Rattle.linear_dict.specs.Notes.{noted};
+ghost use Rattle.simplex_core.specs.Fixed.{IsFixedPair};
 ghost use Rattle.simplex_core.specs.Operations.{MoveShare, MovesShare};
 ghost use Rattle.simplex_theory.specs.Steps.{Enters, Leaves};
 ghost use Rattle.simplex_core.specs.States.{IsReady, state_of};
@@ -150,7 +151,7 @@ pub(crate) fn step<N: Exact>(
     requires leaves { Leaves (system_in dict.old) (state_of dict.old) leaving.now.name leaving.now.above }
     requires enters { Enters (system_in dict.old) (state_of dict.old) leaving.now.name leaving.now.above entering.now.name }
     ensures turned { IfOk result (λ _. dict.new ≡ turned dict.old leaving.now.name entering.now.name leaving.now.above) }
-    ensures pair { IfErr result (IsPairOf N.value N.bound (system_in dict.old)) }
+    ensures pair { IfErr result (IsFixedPair N.value N.bound dict.old) }
 {
     let note = dict.note(leaving.name);
     let bound = bound_on(&note, leaving.above);

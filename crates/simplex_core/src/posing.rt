@@ -3,9 +3,10 @@ ghost use Rattle.std.specs.Prelude.{◌≡◌, ℕ, ◌+◌, ◌<◌, ◌≤◌,
 ghost use Rattle.std.specs.List.{All, Contains};
 ghost use Rattle.fraction_theory.specs.Fraction.{whole};
 ghost use Rattle.fraction_theory.specs.Order.{◌≤ℚ◌};
-ghost use Rattle.linear_dict.specs.Causes.{IsPairOf, IsRefused};
+ghost use Rattle.linear_dict.specs.Causes.{IsRefused};
 ghost use Rattle.linear_dict.specs.Dictionaries.{IsDictionary, note_of, system_in};
 ghost use Rattle.linear_dict.specs.Notes.{noted};
+ghost use Rattle.simplex_core.specs.Fixed.{IsFixedPair, IsFixedPairPosed};
 ghost use Rattle.simplex_core.specs.Operations.{BoundShare, PriceShare};
 ghost use Rattle.simplex_core.specs.Posings.{HasNotes, IsPairPosed, IsPosing, asked_note, bound_added, column_note, price_added, reduced_note, row_note, term_note, value_note};
 ghost use Rattle.simplex_core.specs.Turns.{noted_anew};
@@ -120,7 +121,7 @@ fn put_reduced<N: Exact>(dict: &mut Dict<N>) -> Result<(), Passed<N>>
     requires unpriced { (w : ℕ) → Contains dict.old.rows w → (system_in dict.old).price w ≡ whole (pos 0) }
     requires blank { (w : ℕ) → Contains dict.old.others w → (note_of dict.old w).reduced ≡ whole (pos 0) }
     ensures notes { IfOk result (λ _. dict.new ≡ noted_anew dict.old (reduced_note dict.old)) }
-    ensures pair { IfErr result (IsPairOf N.value N.bound (system_in dict.old)) }
+    ensures pair { IfErr result (IsFixedPair N.value N.bound dict.old) }
 {
     for rank in 0..dict.name_count() {
         let name = dict.ranked(rank);
@@ -185,7 +186,7 @@ fn put_basics<N: Exact>(dict: &mut Dict<N>) -> Result<(), Passed<N>>
     requires sound { IsDictionary dict.old }
     requires blank { (b : ℕ) → Contains dict.old.basics b → (note_of dict.old b).value ≡ whole (pos 0) }
     ensures notes { IfOk result (λ _. dict.new ≡ noted_anew dict.old (value_note dict.old)) }
-    ensures pair { IfErr result (IsPairOf N.value N.bound (system_in dict.old)) }
+    ensures pair { IfErr result (IsFixedPair N.value N.bound dict.old) }
 {
     for rank in 0..dict.name_count() {
         let name = dict.ranked(rank);
@@ -209,6 +210,7 @@ pub fn pose<N: Exact>(
     requires ordered { All (λ b. N.value b.low ≤ℚ N.value b.high) bounds.now }
     ensures posed { IfOk result (IsPosing N.value dict prices.now bounds.now) }
     ensures pair { IfErr result (IsPairPosed N.value N.bound dict prices.now bounds.now) }
+    ensures fixed { IfErr result (IsFixedPairPosed N.value N.bound dict prices.now bounds.now) }
 {
     let mut dict = dict;
     let live = !dict.spent();

@@ -1,8 +1,8 @@
 // The run of the method.
-ghost use Rattle.std.specs.Prelude.{◌≡◌, IfErr, IfOk};
+ghost use Rattle.std.specs.Prelude.{◌≡◌, IfErr, IfOk, OnOk};
 ghost use Rattle.std.specs.List.{Contains};
-ghost use Rattle.linear_dict.specs.Causes.{IsPairOf};
-ghost use Rattle.linear_dict.specs.Dictionaries.{system_in};
+ghost use Rattle.linear_dict.specs.Dictionaries.{choice_of};
+ghost use Rattle.simplex_core.specs.Fixed.{HoldsFixed, IsFixedPair, KeepsFixed};
 ghost use Rattle.simplex_core.specs.States.{IsReady, state_of};
 ghost use Rattle.simplex_core.specs.Outcomes.{IsSettled, IsRunOutcome};
 
@@ -69,7 +69,8 @@ pub enum Run<N: Exact> {
 fn settle<N: Exact>(dict: &mut Dict<N>) -> Result<Option<Leaving>, Passed<N>>
     requires { IsReady dict.old }
     ensures settled { IfOk result (IsSettled dict.old dict.new) }
-    ensures pair { IfErr result (IsPairOf N.value N.bound (system_in dict.old)) }
+    ensures fixed { OnOk result (KeepsFixed dict.old (choice_of dict.new)) }
+    ensures pair { IfErr result (IsFixedPair N.value N.bound dict.old) }
 {
     while let Some(variable) = find_leaving(dict) {
         match find_entering(dict, &variable)? {
@@ -83,7 +84,8 @@ fn settle<N: Exact>(dict: &mut Dict<N>) -> Result<Option<Leaving>, Passed<N>>
 impl<N: Exact> Posed<N> {
     /// Runs the dual simplex method to its end.
     pub fn run(self) -> Run<N>
-        ensures { IsRunOutcome N.value N.bound self result }
+        ensures outcome { IsRunOutcome N.value N.bound self result }
+        ensures fixed { HoldsFixed N.value N.bound self result }
     {
         let mut dict = self.dict;
         match settle(&mut dict) {

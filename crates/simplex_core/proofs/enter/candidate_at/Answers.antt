@@ -1,4 +1,4 @@
-use Rattle.std.proofs.Common.{◌≡◌, ◌∙◌, ap, refl, sym, subst, inl, inr, pos, ℕ, Bool, Ordering, slice_index}
+use Rattle.std.proofs.Common.{◌≡◌, ◌∙◌, ap, refl, sym, subst, subst₂, inl, inr, pos, ℕ, Bool, Ordering, slice_index}
 use mathlib.Core.Path.{ap₂}
 use Rattle.std.specs.List.{Contains}
 use Rattle.std.specs.Ordering.{MatchOrdering}
@@ -9,12 +9,12 @@ use Rattle.fraction_theory.specs.Order.{◌<ℚ◌}
 use Rattle.fraction_theory.proofs.OrderLaws.{<ℚ_irrefl, <ℚ_trans}
 use Rattle.fraction_theory.proofs.SignLaws.{sign_of_is}
 use Rattle.exact_fraction.proofs.Shares.{product_refused}
-use Rattle.linear_dict.specs.Dictionaries.{choice_of, note_of}
+use Rattle.linear_dict.specs.Dictionaries.{choice_of, note_of, system_in}
 use Rattle.linear_dict.specs.Notes.{Noted, noted}
 use Rattle.linear_dict.proofs.SplitLemmas.{Contains-at}
 use Rattle.simplex_theory.specs.Steps.{opposite_if}
 use Rattle.simplex_core.specs.States.{state_of}
-use Rattle.simplex_core.proofs.Helping.{signed_same, signed_apart, size_of_signed, reduced_is, helps_is, helps_free, helps_towards, turned_nil}
+use Rattle.simplex_core.proofs.Helping.{signed_same, signed_apart, size_of_signed, low_is, high_is, reduced_is, helps_is, helps_free, helps_towards, turned_nil}
 use Rattle.simplex_core.proofs.Pairs.{ratio_pair}
 use Rattle.simplex_core.proofs.enter.candidate_at.Goals as goal
 use Rattle.simplex_core.proofs.enter.candidate_at.Goals.{then-leaving-note, else-leaving-note}
@@ -83,10 +83,12 @@ returns-in_err-times-in-Above-clause-pair g c =
     let above : whole (pos 0) <ℚ t = sign_of_is t Above c.in-Above.ensures in
     let basic : Contains d.basics v = subst (Contains d.basics) c.requires.leaving (Contains-at d.basics c.args.leaving.now.row c.requires.row) in
     let other : Contains d.others name = subst (Contains d.others) c.requires.name (Contains-at d.others c.args.column c.requires.column) in
+    let low : value c.note_at-note.result.low ≡ (system_in d).low name = low_is d name (noted value c.note_at-note.result) c.note_at-note.ensures in
+    let high : value c.note_at-note.result.high ≡ (system_in d).high name = high_is d name (noted value c.note_at-note.result) c.note_at-note.ensures in
     let r = c.in_err-times-in-Above.field-0.0 in
     let p = err_from_is_err_and c.from_residual.result c.from_residual.ensures.1 in
     rw (p.1, p.2)
-    (ratio_pair d c.requires.ready g.N.Exact.bound v name t basic other above (size_of_signed a f e t turned above) r.op (value r.left) (value r.right)
+    (ratio_pair d c.requires.ready g.N.Exact.bound v name t basic other (subst₂ ◌<ℚ◌ low high c.in-Less.ensures) above (size_of_signed a f e t turned above) r.op (value r.left) (value r.right)
     (product_refused value g.N.Exact.bound c.size.result c.recip.result r (abs_ℚ (note_of d name).reduced) (recip_ℚ t) c.in_err-times-in-Above.ensures
     (c.size.ensures ∙ ap (λ (n : Noted). abs_ℚ n.reduced) c.note_at-note.ensures) c.recip.ensures))
 

@@ -6,6 +6,7 @@ use Rattle.fraction_theory.specs.Fraction.{Fraction, ◌-ℚ◌}
 use Rattle.linear_dict.specs.Dictionaries.{Dictionary, system_in, entry_of, note_of, pivoted}
 use Rattle.linear_dict.specs.Notes.{Noted, noted}
 use Rattle.linear_dict.specs.Places.{place_in}
+use Rattle.linear_dict.specs.Tables.{cell}
 use Rattle.linear_dict.proofs.NameLemmas.{entry_at, place_in-at}
 use Rattle.linear_dict.proofs.SplitLemmas.{Contains-at}
 use Rattle.simplex_theory.specs.Steps.{violated_bound, displacement}
@@ -15,9 +16,10 @@ use Rattle.simplex_core.proofs.Helping.{value_is}
 use Rattle.simplex_core.proofs.StepLemmas.{pivoted_live, pivoted_rows, pivoted_columns, pivoted_entering, pivoted_leaving, bound_is, turned_is}
 use Rattle.exact_fraction.specs.declared.Op.TheVariants.{Minus}
 use Rattle.std.proofs.lemmas.Result.{err_from_is_err_and}
-use Rattle.linear_dict.specs.Causes.{IsPairOf, IsRefused}
+use Rattle.linear_dict.specs.Causes.{IsRefused, PivotShare}
+use Rattle.simplex_core.specs.Fixed.{IsFixedPair}
 use Rattle.simplex_core.specs.Operations.{MovesShare}
-use Rattle.simplex_core.proofs.Pairs.{pair_by, displace_pair, if_err_as, move_pair}
+use Rattle.simplex_core.proofs.Pairs.{pair_by, displace_pair, if_err_as, move_pair, turn_pair}
 use Rattle.simplex_core.proofs.TurnLaws.{pivot_not_nil}
 use Rattle.simplex_core.proofs.exchange.step.Goals as goal
 
@@ -87,8 +89,23 @@ returns-in_err-displacement-clause-pair g c =
     let bound : value c.bound_on-bound.result ≡ violated_bound (system_in d) v a = bound_is value d v c.note-note.result a c.bound_on-bound.result is c.bound_on-bound.ensures in
     let p = err_from_is_err_and c.from_residual.result c.from_residual.ensures.1 in
     rw (p.1, p.2)
-    (pair_by value g.N.Exact.bound (system_in d) Minus c.bound_on-bound.result c.note-note.result.value c.in_err-displacement.field-0.0 (violated_bound (system_in d) v a) (note_of d v).value
+    (pair_by value g.N.Exact.bound d Minus c.bound_on-bound.result c.note-note.result.value c.in_err-displacement.field-0.0 (violated_bound (system_in d) v a) (note_of d v).value
     c.in_err-displacement.ensures bound (ap Noted.value is) (displace_pair d c.requires.ready g.N.Exact.bound v a c.requires.leaves))
+
+pub returns-in_err-pivot-clause-pair : goal.returns-in_err-pivot-clause-pair
+returns-in_err-pivot-clause-pair g c =
+    let value = g.N.Exact.value in
+    let d : Dictionary = c.args.dict.now in
+    let v : ℕ = c.args.leaving.now.name in
+    let k : ℕ = c.args.entering.now.name in
+    let e = c.in_err-pivot.field-0.0 in
+    let r = c.in_err-pivot.ensures.stops in
+    let row : c.args.leaving.now.row ≡ place_in d.basics v = sym (place_in-at d.basics c.args.leaving.now.row v c.requires.sound.split.first_distinct c.requires.row c.requires.leaving) in
+    let column : c.args.entering.now.column ≡ place_in d.others k = sym (place_in-at d.others c.args.entering.now.column k c.requires.sound.split.second_distinct c.requires.column c.requires.entering) in
+    let p = err_from_is_err_and c.from_residual-in_err-pivot.result c.from_residual-in_err-pivot.ensures.1 in
+    rw (p.1, p.2)
+    (turn_pair d c.requires.ready v k c.args.leaving.now.above c.requires.leaves c.requires.enters g.N.Exact.bound e.op (value e.left) (value e.right) r.x r.a r.b
+    (subst₂ (λ (i j : ℕ). PivotShare (length d.basics) (length d.others) (cell (length d.others) d.table) i j r.x r.a r.b) row column r.asked) r.refused)
 
 pub returns-clause-pair : goal.returns-clause-pair
 unfolding displacement
@@ -107,7 +124,7 @@ returns-clause-pair g c =
     c.in_ok-pivot.ensures.pivoted
     ∙ ap₂ (pivoted d) (sym (place_in-at d.basics c.args.leaving.now.row v c.requires.sound.split.first_distinct c.requires.row c.requires.leaving))
     (sym (place_in-at d.others c.args.entering.now.column k c.requires.sound.split.second_distinct c.requires.column c.requires.entering)) in
-    if_err_as (IsRefused value g.N.Exact.bound (MovesShare c.pivot.new.self v k (value c.in_ok-displacement.displacement) (value c.note-price.result.reduced))) (IsPairOf value g.N.Exact.bound (system_in d)) c.move_notes.result
+    if_err_as (IsRefused value g.N.Exact.bound (MovesShare c.pivot.new.self v k (value c.in_ok-displacement.displacement) (value c.note-price.result.reduced))) (IsFixedPair value g.N.Exact.bound d) c.move_notes.result
     (λ e r.
     move_pair d c.requires.ready v k a c.requires.leaves c.requires.enters g.N.Exact.bound e.op (value e.left) (value e.right) r.x r.a r.b
     (subst (λ (x : Dictionary). MovesShare x v k (displacement (system_in d) (state_of d) v a) (note_of d k).reduced r.x r.a r.b) pivot

@@ -1,10 +1,12 @@
 use Rattle.std.proofs.Common.{◌∙◌, ap, sym, subst}
 use Rattle.linear_dict.specs.Dictionaries.{Dictionary, IsDictionary}
-use Rattle.simplex_core.specs.Posings.{column_note, reduced_note}
+use Rattle.simplex_core.specs.Fixed.{IsFixedPairPosed}
+use Rattle.simplex_core.specs.Posings.{IsPairPosed, column_note, reduced_note}
 use Rattle.std.proofs.lemmas.Result.{err_from_is_err_and}
 use Rattle.simplex_core.proofs.Adding.{stands_asked}
 use Rattle.simplex_core.proofs.AnewLaws.{anew_live, anew_sound}
-use Rattle.simplex_core.proofs.PoseLemmas.{posed_pair, posed_pair_later, put_sound, put_both, put_frame, put_reduced, put_unpriced, stood_blank, posing}
+use Rattle.simplex_core.proofs.Pairs.{if_err_as}
+use Rattle.simplex_core.proofs.PoseLemmas.{posed_pair, posed_pair_later, posed_plain, put_sound, put_both, put_frame, put_reduced, put_unpriced, stood_blank, posing}
 use Rattle.simplex_core.proofs.StandLemmas.{stand_note}
 use Rattle.simplex_core.proofs.posing.pose.Goals as goal
 
@@ -66,17 +68,27 @@ returns-clause-posed g c =
 pub invariant_of-result : goal.invariant_of-result
 invariant_of-result g c = (returns-clause-posed g c).ready
 
-pub returns-in_err-put_reduced-clause-pair : goal.returns-in_err-put_reduced-clause-pair
-returns-in_err-put_reduced-clause-pair g c =
+pub returns-in_err-put_reduced-clause-fixed : goal.returns-in_err-put_reduced-clause-fixed
+returns-in_err-put_reduced-clause-fixed g c =
     let p = err_from_is_err_and c.from_residual.result c.from_residual.ensures.1 in
     rw (p.1, p.2) (posed_pair g.N.Exact.value c.args.dict c.spent-live.ensures.sound c.args.prices.now c.args.bounds.now c.requires.prices c.put_columns.new.dict c.put_rows.new.dict c.put_columns.ensures c.put_rows.ensures
     c.requires.bounds c.requires.ordered c.requires.live g.N.Exact.bound c.in_err-put_reduced.field-0.0 c.in_err-put_reduced.ensures.pair)
 
-pub returns-in_err-put_basics-clause-pair : goal.returns-in_err-put_basics-clause-pair
-returns-in_err-put_basics-clause-pair g c =
+pub returns-in_err-put_reduced-clause-pair : goal.returns-in_err-put_reduced-clause-pair
+returns-in_err-put_reduced-clause-pair g c =
+    if_err_as (IsFixedPairPosed g.N.Exact.value g.N.Exact.bound c.args.dict c.args.prices.now c.args.bounds.now) (IsPairPosed g.N.Exact.value g.N.Exact.bound c.args.dict c.args.prices.now c.args.bounds.now)
+    c.from_residual.result (posed_plain g.N.Exact.value g.N.Exact.bound c.args.dict c.args.prices.now c.args.bounds.now) (returns-in_err-put_reduced-clause-fixed g c)
+
+pub returns-in_err-put_basics-clause-fixed : goal.returns-in_err-put_basics-clause-fixed
+returns-in_err-put_basics-clause-fixed g c =
     let f : Dictionary = c.put_rows.new.dict in
     let sound = put_both g.N.Exact.value c.args.dict c.spent-live.ensures.sound c.args.prices.now c.args.bounds.now c.requires.prices c.put_columns.new.dict f c.put_columns.ensures c.put_rows.ensures in
     let p = err_from_is_err_and c.from_residual-in_err-put_basics.result c.from_residual-in_err-put_basics.ensures.1 in
     rw (p.1, p.2) (posed_pair_later g.N.Exact.value c.args.dict c.spent-live.ensures.sound c.args.prices.now c.args.bounds.now c.requires.prices c.put_columns.new.dict f c.put_columns.ensures c.put_rows.ensures
     c.requires.bounds c.requires.ordered c.requires.live g.N.Exact.bound c.in_err-put_basics.field-0.0 c.put_others.new.dict
     (stands_asked f sound c.put_reduced.new.dict c.put_others.new.dict c.in_ok-put_reduced.ensures.notes c.put_others.ensures) c.in_err-put_basics.ensures.pair)
+
+pub returns-in_err-put_basics-clause-pair : goal.returns-in_err-put_basics-clause-pair
+returns-in_err-put_basics-clause-pair g c =
+    if_err_as (IsFixedPairPosed g.N.Exact.value g.N.Exact.bound c.args.dict c.args.prices.now c.args.bounds.now) (IsPairPosed g.N.Exact.value g.N.Exact.bound c.args.dict c.args.prices.now c.args.bounds.now)
+    c.from_residual-in_err-put_basics.result (posed_plain g.N.Exact.value g.N.Exact.bound c.args.dict c.args.prices.now c.args.bounds.now) (returns-in_err-put_basics-clause-fixed g c)
