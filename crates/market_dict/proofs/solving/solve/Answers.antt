@@ -10,14 +10,14 @@ use Rattle.market_dict.proofs.solving.solve.Goals as goal
 pub returns-in_ok-best-in-Solved-clause-found : goal.returns-in_ok-best-in-Solved-clause-found
 returns-in_ok-best-in-Solved-clause-found g c = λ ts holds.
     let m = c.args.market.now in
-    c.in_ok-best-in-Solved.ensures ts (subst (HoldsSystem m ts) (sym c.into_dict.ensures) (holds_kept m ts c.args.posed c.in-Solved.solved holds c.in-Solved.ensures.0))
+    c.in_ok-best-in-Solved.ensures ts (subst (HoldsSystem m ts) (sym c.into_dict.ensures) (holds_kept m ts c.args.posed c.in-Solved.solved holds c.in-Solved.ensures.outcome.0))
 
 pub returns-in-Empty-clause-found : goal.returns-in-Empty-clause-found
-returns-in-Empty-clause-found g c = λ ts holds. c.nothing.ensures.found ts (holds_kept c.args.market.now ts c.args.posed c.in-Empty.dict holds c.in-Empty.ensures.0)
+returns-in-Empty-clause-found g c = λ ts holds. c.nothing.ensures.found ts (holds_kept c.args.market.now ts c.args.posed c.in-Empty.dict holds c.in-Empty.ensures.outcome.0)
 
 pub returns-in-Empty-clause-pair : goal.returns-in-Empty-clause-pair
-returns-in-Empty-clause-pair g c = λ ts holds. c.nothing.ensures.pair ts (holds_kept c.args.market.now ts c.args.posed c.in-Empty.dict holds c.in-Empty.ensures.0)
+returns-in-Empty-clause-pair g c = λ ts holds. c.nothing.ensures.pair ts (holds_kept c.args.market.now ts c.args.posed c.in-Empty.dict holds c.in-Empty.ensures.outcome.0)
 
 pub returns-in-Passed-clause-pair : goal.returns-in-Passed-clause-pair
 returns-in-Passed-clause-pair g c = λ ts holds.
-    same_pair (system_in c.args.posed) (system_of c.args.market.now (taken_of ts)) holds.same g.N.Exact.bound _ _ _ c.in-Passed.ensures
+    same_pair (system_in c.args.posed) (system_of c.args.market.now (taken_of ts)) holds.same g.N.Exact.bound _ _ _ c.in-Passed.ensures.outcome

@@ -11,7 +11,7 @@ returns-in-Solved g c =
     rw c.keep.ensures
     (stays g.N.Exact.value c.deref.result.now c.deref-2.result.now c.replace-start.result c.in-Ok.posed c.into_dict.result some
     (subst (λ (o : Option Dictionary). IfSome o (λ d. (d.columns ≡ 1 ∷ 2 ∷ []) × (length d.rows ≡ 1))) (sym c.replace-start.ensures.value) c.requires)
-    c.in-Ok.ensures.posed (subst (λ (e : Dictionary). Keeps c.in-Ok.posed e) (sym c.into_dict.ensures) c.in-Solved.ensures.0))
+    c.in-Ok.ensures.posed (subst (λ (e : Dictionary). Keeps c.in-Ok.posed e) (sym c.into_dict.ensures) c.in-Solved.ensures.outcome.0))
 
 pub returns-in-Empty : goal.returns-in-Empty
 returns-in-Empty g c =
@@ -19,4 +19,4 @@ returns-in-Empty g c =
     rw c.keep-in-Empty.ensures
     (stays g.N.Exact.value c.deref.result.now c.deref-2.result.now c.replace-start.result c.in-Ok.posed c.in-Empty.dict some
     (subst (λ (o : Option Dictionary). IfSome o (λ d. (d.columns ≡ 1 ∷ 2 ∷ []) × (length d.rows ≡ 1))) (sym c.replace-start.ensures.value) c.requires)
-    c.in-Ok.ensures.posed c.in-Empty.ensures.0)
+    c.in-Ok.ensures.posed c.in-Empty.ensures.outcome.0)
