@@ -1,5 +1,5 @@
 -- The best points are those at which each variable that has a price in a solved state stands where it stands there.
-use Rattle.std.specs.Prelude.{◌≡◌, ◌≢◌, ℕ, pos, Bool, [], refl}
+use Rattle.std.specs.Prelude.{◌≡◌, ◌≢◌, ℕ, pos, [], refl}
 use Rattle.std.specs.List.{Contains}
 use Rattle.std.proofs.Common.{arith, ap, sym, ◌∙◌, subst, subst₂, inl, inr}
 use Rattle.fraction_theory.specs.Fraction.{Fraction, whole, ◌*ℚ◌, recip_ℚ}
@@ -17,10 +17,10 @@ use Rattle.simplex_theory.proofs.NameSums.{sum_by-below}
 use Rattle.simplex_theory.proofs.PosedNumbers.{value_other}
 use Rattle.simplex_theory.proofs.Signs.{nonpositive}
 use Rattle.simplex_theory.proofs.Stretches.{by_answer}
-use Rattle.optimal_face.specs.Faces.{Held, Shows, bound_at, held_at, holds, more_held, nothing_held}
+use Rattle.optimal_face.specs.Faces.{Held, Shows, bound_at, held_at, more_held, nothing_held}
 use Rattle.optimal_face.specs.FirstPoints.{IsFirstBest}
 use Rattle.optimal_face.specs.Laws.{LawOfTheFace}
-use Rattle.optimal_face.proofs.HeldLemmas.{bounds_free, bounds_held, held_variables, more_held-free, more_held-priced, pinned, priced_or_not}
+use Rattle.optimal_face.proofs.HeldLemmas.{bounds_free, bounds_held, held_variables, more_held-free, more_held-priced, priced_or_not}
 
 -- products with a number that is the same where the factor is not 0
 pub same_product : (x a b : Fraction) → (x ≢ whole (pos 0) → a ≡ b) → x *ℚ a ≡ x *ℚ b
@@ -35,6 +35,10 @@ product_cancel x a b n e = sym (back a) ∙ ap (λ t. recip_ℚ x *ℚ t) e ∙ 
   where
     back : (c : Fraction) → recip_ℚ x *ℚ (x *ℚ c) ≡ c
     back c = sym (ring_ℚ.times_assoc (recip_ℚ x) x c) ∙ ap (λ t. t *ℚ c) (ring_ℚ.times_comm (recip_ℚ x) x ∙ *ℚ-recip x n) ∙ one_times ring_ℚ c
+
+-- what is held at the best points
+abbrev pub face : State → Held
+face S = more_held nothing_held S
 
 module _ (s : System) (S : State) (system : IsSystem s) (shows : Shows s S) where
   -- the objective by the reduced prices
@@ -81,36 +85,31 @@ module _ (s : System) (S : State) (system : IsSystem s) (shows : Shows s S) wher
           (best.best S.value solved.best.meets solved.best.within))
     ]
 
-    face : Held
-    face = more_held nothing_held S
-
     -- the bounds of the face
-    face_priced : (w : ℕ) → Contains s.variables w → S.reduced w ≢ whole (pos 0) → ((held_at s face s.price).low w ≡ S.value w) × ((held_at s face s.price).high w ≡ S.value w)
-    unfolding face
+    face_priced : (w : ℕ) → Contains s.variables w → S.reduced w ≢ whole (pos 0) → ((held_at s (face S) s.price).low w ≡ S.value w) × ((held_at s (face S) s.price).high w ≡ S.value w)
     face_priced w c n = elim (priced_or_not (S.reduced w)) [
       | inl nil ↦ absurd (n nil.0)
       | inr priced ↦
-          let bounds = bounds_held s face s.price w (S.choice.high w) (more_held-priced nothing_held S w refl priced.1) in
+          let bounds = bounds_held s (face S) s.price w (S.choice.high w) (more_held-priced nothing_held S w refl priced.1) in
           let stands : bound_at s w (S.choice.high w) ≡ S.value w = sym (priced_stands w c n) in
           (bounds.0 ∙ stands, bounds.1 ∙ stands)
     ]
 
-    face_free : (w : ℕ) → S.reduced w ≡ whole (pos 0) → ((held_at s face s.price).low w ≡ s.low w) × ((held_at s face s.price).high w ≡ s.high w)
-    unfolding face
+    face_free : (w : ℕ) → S.reduced w ≡ whole (pos 0) → ((held_at s (face S) s.price).low w ≡ s.low w) × ((held_at s (face S) s.price).high w ≡ s.high w)
     face_free w z = elim (priced_or_not (S.reduced w)) [
-      | inl nil ↦ bounds_free s face s.price w (more_held-free nothing_held S w refl nil.1)
+      | inl nil ↦ bounds_free s (face S) s.price w (more_held-free nothing_held S w refl nil.1)
       | inr priced ↦ absurd (priced.0 z)
     ]
 
     -- a point of the face agrees with the state's wherever there is a price
-    face_agrees : (u : ℕ → Fraction) → InBounds (held_at s face s.price) u → (w : ℕ) → Contains s.variables w → S.reduced w ≢ whole (pos 0) → u w ≡ S.value w
-    unfolding face held_at
+    face_agrees : (u : ℕ → Fraction) → InBounds (held_at s (face S) s.price) u → (w : ℕ) → Contains s.variables w → S.reduced w ≢ whole (pos 0) → u w ≡ S.value w
+    unfolding held_at
     face_agrees u within w c n =
         let bounds = face_priced w c n in
         ≤ℚ_antisym (u w) (S.value w) (subst (λ t. u w ≤ℚ t) bounds.1 (within.high w c)) (subst (λ t. t ≤ℚ u w) bounds.0 (within.low w c))
 
-    face_within : (u : ℕ → Fraction) → InBounds (held_at s face s.price) u → InBounds s u
-    unfolding face held_at
+    face_within : (u : ℕ → Fraction) → InBounds (held_at s (face S) s.price) u → InBounds s u
+    unfolding held_at
     face_within u within = record {
       low = λ w c. elim (priced_or_not (S.reduced w)) [
         | inl nil ↦ subst (λ t. t ≤ℚ u w) (face_free w nil.0).0 (within.low w c)
@@ -122,20 +121,20 @@ module _ (s : System) (S : State) (system : IsSystem s) (shows : Shows s S) wher
       ];
     }
 
-    face_best : (u : ℕ → Fraction) → MeetsRows s u → InBounds (held_at s face s.price) u → IsBest s u
+    pub face_best : (u : ℕ → Fraction) → MeetsRows s u → InBounds (held_at s (face S) s.price) u → IsBest s u
     face_best u meets within = record {
       meets = meets;
       within = face_within u within;
       best = λ v meets_v within_v. subst (λ t. objective s v ≤ℚ t) (sym (same_worth u S.value meets solved.best.meets (face_agrees u within))) (solved.best.best v meets_v within_v);
     }
 
-    best_face : (u : ℕ → Fraction) → IsBest s u → InBounds (held_at s face s.price) u
+    pub best_face : (u : ℕ → Fraction) → IsBest s u → InBounds (held_at s (face S) s.price) u
     best_face u best = record {
-      low = λ w k. let c = held_variables s face s.price w k in elim (priced_or_not (S.reduced w)) [
+      low = λ w k. let c = held_variables s (face S) s.price w k in elim (priced_or_not (S.reduced w)) [
         | inl nil ↦ subst (λ t. t ≤ℚ u w) (sym (face_free w nil.0).0) (best.within.low w c)
         | inr priced ↦ ≤ℚ_of_same _ (u w) ((face_priced w c priced.0).0 ∙ sym (best_agrees u best w c priced.0))
       ];
-      high = λ w k. let c = held_variables s face s.price w k in elim (priced_or_not (S.reduced w)) [
+      high = λ w k. let c = held_variables s (face S) s.price w k in elim (priced_or_not (S.reduced w)) [
         | inl nil ↦ subst (λ t. u w ≤ℚ t) (sym (face_free w nil.0).1) (best.within.high w c)
         | inr priced ↦ ≤ℚ_of_same (u w) _ (best_agrees u best w c priced.0 ∙ sym (face_priced w c priced.0).1)
       ];
@@ -146,7 +145,6 @@ pub first_by_none : (s : System) (u : ℕ → Fraction) → IsBest s u → IsFir
 first_by_none s u best = record { best = best; first = λ v other g. absurd (Prim.omega (arith, g.within)) }
 
 pub law_of_the_face : LawOfTheFace
-unfolding face
 law_of_the_face s S system shows solved u meets = (
   λ within. first_by_none s u (face_best s S system shows solved u meets within),
   λ first. best_face s S system shows solved u first.best,

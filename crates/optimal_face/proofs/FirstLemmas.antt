@@ -1,6 +1,6 @@
 -- Points that go first: by names that they agree on, and by one name more.
 use Rattle.std.specs.Prelude.{◌≡◌, ℕ, ◌<◌, ◌≤◌, ◌⊎◌, List, [], ◌∷◌, ◌++◌, length, slice_index}
-use Rattle.std.proofs.Common.{zero, suc, arith, sym, ◌∙◌, subst, subst₂, inl, inr}
+use Rattle.std.proofs.Common.{zero, suc, arith, sym, ◌∙◌, subst, inl, inr}
 use Rattle.std.proofs.lemmas.Bool.{cases_lt}
 use Rattle.std.proofs.lemmas.List.{get_or_append_left, length-append}
 use Rattle.std.proofs.Math.Seq.{get_or-append_seam}

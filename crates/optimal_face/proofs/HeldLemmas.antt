@@ -2,7 +2,7 @@
 use Rattle.std.specs.Prelude.{◌≡◌, ◌≢◌, ℕ, pos, Bool, true, false, ◌⊎◌, if◌then◌else◌, is_some, Option, Some, None, refl}
 use Rattle.std.specs.List.{Contains}
 use Rattle.std.specs.Option.{option_map_or}
-use Rattle.std.proofs.Common.{ap, ap₂, sym, ◌∙◌, subst, inl, inr}
+use Rattle.std.proofs.Common.{ap, ap₂, sym, subst, inl, inr}
 use Rattle.fraction_theory.specs.Fraction.{Fraction, whole}
 use Rattle.fraction_theory.specs.Order.{◌≤ℚ◌}
 use Rattle.fraction_theory.specs.Signs.{sign_of}
@@ -100,19 +100,20 @@ pub within_by_price : (s : System) (held : Held) (p q : ℕ → Fraction) (u : �
 unfolding held_at
 within_by_price s held p q u within = record { low = λ w c. within.low w c; high = λ w c. within.high w c }
 
+-- how a variable is held, by how it was held before, whether it has a price, and where it stands
+chosen : Bool → Option Bool → Bool → Option Bool
+chosen high o priced = if is_some o then o else if priced then Some high else None
+
 -- which variables are held besides
 module _ (held : Held) (S : State) (w : ℕ) where
-  chosen : Option Bool → Bool → Option Bool
-  chosen o priced = if is_some o then o else if priced then Some (S.choice.high w) else None
-
   pub more_held-held : (high : Bool) → held w ≡ Some high → more_held held S w ≡ Some high
   unfolding more_held chosen
-  more_held-held high e = ap (λ (o : Option Bool). chosen o (holds (sign_of (S.reduced w)))) e
+  more_held-held high e = ap (λ (o : Option Bool). chosen (S.choice.high w) o (holds (sign_of (S.reduced w)))) e
 
   pub more_held-priced : held w ≡ None → holds (sign_of (S.reduced w)) ≡ true → more_held held S w ≡ Some (S.choice.high w)
   unfolding more_held chosen
-  more_held-priced e f = ap₂ chosen e f
+  more_held-priced e f = ap₂ (chosen (S.choice.high w)) e f
 
   pub more_held-free : held w ≡ None → holds (sign_of (S.reduced w)) ≡ false → more_held held S w ≡ None
   unfolding more_held chosen
-  more_held-free e f = ap₂ chosen e f
+  more_held-free e f = ap₂ (chosen (S.choice.high w)) e f

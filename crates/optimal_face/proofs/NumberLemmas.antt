@@ -10,9 +10,9 @@ use Rattle.fraction_theory.specs.Sums.{Term, Product, prefix, total}
 use Rattle.fraction_theory.proofs.Ring.{nil_plus, nil_times, one_times}
 use Rattle.fraction_theory.proofs.FieldLaws.{ring_ℚ}
 use Rattle.fraction_theory.proofs.ListSums.{Contains-cons, Contains-head, Distinct, Distinct-head, Distinct-increasing, Distinct-tail, same_or_not}
-use Rattle.linear_system.specs.Choices.{Choice, IsChoice, OneExchange, at_bound, basics, column_entry, others, reduced_terms, row_entry_terms, value, value_terms}
+use Rattle.linear_system.specs.Choices.{Choice, IsChoice, at_bound, basics, column_entry, others, reduced_terms, row_entry_terms, value, value_terms}
 use Rattle.linear_system.specs.Numbers.{Kind, Factor, Quantity, Price, SystemNumber, is_zero, is_one, is_coefficient, is_entry, is_row_entry, is_low, is_high, is_value, is_price, is_reduced, is_opposite, IsFirst, SolvingNumber, is_number, is_fall, is_rise, is_turned}
-use Rattle.linear_system.specs.Pairs.{AreNear, AtEither, IsCombined, alone, sum, difference, IsPairCase, added, subtracted, scaled_right, scaled_left, IsSummand, plain, scaled, IsSystemPair, OfEither}
+use Rattle.linear_system.specs.Pairs.{AreNear, AtEither, IsCombined, alone, sum, difference, IsPairCase, added, subtracted, scaled_right, scaled_left, IsSummand, plain, scaled, OfEither}
 use Rattle.linear_system.specs.Systems.{System, IsSystem}
 use Rattle.linear_system.proofs.ChoiceLaws.{basics_are, column_entry-basic, column_entry-itself, column_entry-other, is_basic, others_are, same_choice}
 use Rattle.linear_system.proofs.PairLaws.{IsForLarge-each}

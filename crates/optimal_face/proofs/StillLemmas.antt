@@ -1,18 +1,18 @@
 -- What can't move is the same at all points that go first.
-use Rattle.std.specs.Prelude.{◌≡◌, ◌≢◌, ℕ, pos, Bool, List, [], ◌∷◌, ◌++◌, Option, Some, None, refl}
+use Rattle.std.specs.Prelude.{◌≡◌, ℕ, Bool, List, [], ◌∷◌, ◌++◌, Option, Some, None, refl}
 use Rattle.std.specs.List.{Contains}
 use Rattle.std.specs.Option.{option_map_or}
-use Rattle.std.proofs.Common.{ap, sym, ◌∙◌, subst, append_assoc}
+use Rattle.std.proofs.Common.{sym, ◌∙◌, subst, append_assoc}
 use Rattle.std.proofs.lemmas.List.{append-nil}
-use Rattle.fraction_theory.specs.Fraction.{Fraction, whole, ◌*ℚ◌}
+use Rattle.fraction_theory.specs.Fraction.{Fraction, ◌*ℚ◌}
 use Rattle.fraction_theory.proofs.ListSums.{Contains-cons, Contains-head, sum_by-members}
 use Rattle.fraction_theory.proofs.OrderLaws.{≤ℚ_of_same}
 use Rattle.linear_system.specs.Choices.{Choice, IsChoice, others}
 use Rattle.linear_system.specs.Systems.{System, InBounds, IsSystem, MeetsRows}
-use Rattle.linear_system.proofs.ChoiceLaws.{basics_are, is_basic, is_other, others_are}
+use Rattle.linear_system.proofs.ChoiceLaws.{is_basic, is_other, others_are}
 use Rattle.simplex_theory.proofs.Stretches.{by_answer}
 use Rattle.optimal_face.specs.Faces.{Held, IsStill, by_bounds, by_hold, bound_at, held_at}
-use Rattle.optimal_face.specs.FirstPoints.{HoldsFirst, IsFirstBest}
+use Rattle.optimal_face.specs.FirstPoints.{HoldsFirst}
 use Rattle.optimal_face.specs.Laws.{CanNotMove, LawOfTheSettled, LawOfTheStill}
 use Rattle.optimal_face.proofs.FaceLemmas.{same_product}
 use Rattle.optimal_face.proofs.FirstLemmas.{first_of_more, more_by_most}

@@ -8,7 +8,7 @@ use Rattle.fraction_theory.specs.Fraction.{Fraction, whole}
 use Rattle.fraction_theory.specs.Signs.{sign_of}
 use Rattle.fraction_theory.specs.declared.Sign.{Sign}
 use Rattle.fraction_theory.specs.declared.Sign.TheVariants.{Below, Zero, Above}
-use Rattle.linear_system.specs.Choices.{Choice, IsChoice, reduced, value}
+use Rattle.linear_system.specs.Choices.{IsChoice, reduced, value}
 use Rattle.linear_system.specs.Systems.{System}
 use Rattle.simplex_theory.specs.States.{State}
 

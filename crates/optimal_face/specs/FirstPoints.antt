@@ -1,7 +1,6 @@
 -- Of the best points of a system those that have the most of one column, of these those that have the most of the next one, and so on.
 -- Source: lexicographic linear programs (Isermann 1982).
 use Rattle.std.specs.Prelude.{◌≡◌, ◌↔◌, ℕ, ◌<◌, List, length, slice_index}
-use Rattle.std.specs.List.{Contains}
 use Rattle.fraction_theory.specs.Fraction.{Fraction}
 use Rattle.fraction_theory.specs.Order.{◌<ℚ◌}
 use Rattle.linear_system.specs.Systems.{System, InBounds, MeetsRows}

@@ -1,11 +1,11 @@
 -- Laws of the points that go first.
-use Rattle.std.specs.Prelude.{◌≡◌, ◌≢◌, ℕ, pos, ◌<◌, true, false, List, [], ◌∷◌, ◌++◌, length, slice_index, Some, Bool}
+use Rattle.std.specs.Prelude.{◌≡◌, ◌≢◌, ℕ, pos, ◌<◌, false, List, [], ◌∷◌, ◌++◌, length, slice_index, Some, Bool}
 use Rattle.std.specs.List.{Contains}
 use Rattle.exact_fraction.specs.declared.Op.{Op}
 use Rattle.fraction_theory.specs.Fraction.{Fraction, whole}
 use Rattle.linear_system.specs.Choices.{Choice, IsChoice, basics, others, value}
 use Rattle.linear_system.specs.Pairs.{IsSystemPair}
-use Rattle.linear_system.specs.Systems.{System, InBounds, IsSystem, MeetsRows}
+use Rattle.linear_system.specs.Systems.{System, InBounds, IsSystem}
 use Rattle.simplex_theory.specs.States.{IsSolved, State}
 use Rattle.optimal_face.specs.Faces.{Held, IsStill, Shows, held_at, more_held, nothing_held, price_of_one}
 use Rattle.optimal_face.specs.FirstPoints.{HoldsFirst, IsFirstBest}
