@@ -37,7 +37,7 @@ either_way false x = refl
 
 -- the values of a choice, where variables are held
 module _ (s : System) (held : Held) (price : ℕ → Fraction) (h : Choice) where
-  bound_held : (w : ℕ) → at_bound (held_at s held price) h w ≡ at_bound s (at_held held h) w
+  pub bound_held : (w : ℕ) → at_bound (held_at s held price) h w ≡ at_bound s (at_held held h) w
   unfolding at_bound held_at bound_at
   bound_held w = by_hold (held w)
     where
@@ -51,7 +51,7 @@ module _ (s : System) (held : Held) (price : ℕ → Fraction) (h : Choice) wher
       map_same (λ w. Product (h.entry b w) (at_bound (held_at s held price) h w)) (λ w. Product (h.entry b w) (at_bound s (at_held held h) w)) (others s h)
       (λ w. ap (Product (h.entry b w)) (bound_held w))
 
-  value_held : (b : ℕ) → value (held_at s held price) h b ≡ value s (at_held held h) b
+  pub value_held : (b : ℕ) → value (held_at s held price) h b ≡ value s (at_held held h) b
   unfolding value
   value_held b = ap₂ (λ x y. if h.basic b then x else y) (ap total (value_terms_held b)) (bound_held b)
 
@@ -59,7 +59,7 @@ module _ (s : System) (held : Held) (price : ℕ → Fraction) (h : Choice) wher
   unfolding row_entry_terms column_entry held_at
   row_entry_terms_held r w = refl
 
-  choice_held : IsSystem s → IsChoice (held_at s held price) h → IsChoice s (at_held held h)
+  pub choice_held : IsSystem s → IsChoice (held_at s held price) h → IsChoice s (at_held held h)
   choice_held system choice = same_choice s (Distinct-increasing s.variables system.ascending) h (at_held held h) (λ w c. refl) (λ b w c k. refl)
       (same_rows_choice (held_at s held price) s (held_same_rows s held price) h choice)
 
@@ -152,7 +152,7 @@ module _ (s : System) (held : Held) (j : ℕ) (system : IsSystem s) (column : Co
   ]
 
   -- a number of the face is one of the system
-  number_in : (kind : Kind) (x : Fraction) → SystemNumber (held_at s held (price_of_one j)) h kind x → SystemNumber s (at_held held h) (kind_in kind) x
+  pub number_in : (kind : Kind) (x : Fraction) → SystemNumber (held_at s held (price_of_one j)) h kind x → SystemNumber s (at_held held h) (kind_in kind) x
   unfolding held_at basics others
   number_in _ _ is_zero = is_zero
   number_in _ _ is_one = is_one
@@ -167,7 +167,7 @@ module _ (s : System) (held : Held) (j : ℕ) (system : IsSystem s) (column : Co
   number_in _ _ (is_opposite kind x n) = is_opposite (kind_in kind) x (number_in kind x n)
 
   -- and so is one that solving writes down
-  solving_in : KeepsHeld s held h → (x : Fraction) → SolvingNumber (held_at s held (price_of_one j)) h x → SolvingNumber s (at_held held h) x
+  pub solving_in : KeepsHeld s held h → (x : Fraction) → SolvingNumber (held_at s held (price_of_one j)) h x → SolvingNumber s (at_held held h) x
   unfolding basics held_at
   solving_in keeps _ (is_number kind x n) = is_number (kind_in kind) x (number_in kind x n)
   solving_in keeps _ (is_fall b c beyond first) =

@@ -30,14 +30,14 @@ still_bounds s held price w (by_bounds e) = by_either s w e (held w)
 
 module _ (s : System) (held : Held) (price : ℕ → Fraction) (u v : ℕ → Fraction) (within_u : InBounds (held_at s held price) u) (within_v : InBounds (held_at s held price) v) where
   -- two points within the bounds agree where a variable is still
-  still_agrees : (w : ℕ) → Contains s.variables w → IsStill s held w → u w ≡ v w
+  pub still_agrees : (w : ℕ) → Contains s.variables w → IsStill s held w → u w ≡ v w
   unfolding held_at
   still_agrees w c still =
       let e = still_bounds s held price w still in
       pinned _ _ (u w) e (within_u.low w c) (within_u.high w c) ∙ sym (pinned _ _ (v w) e (within_v.low w c) (within_v.high w c))
 
   -- and where it can't move
-  unmoved_agrees : (h : Choice) → IsChoice s h → MeetsRows s u → MeetsRows s v → (j : ℕ) → Contains s.variables j → CanNotMove s held h j → u j ≡ v j
+  pub unmoved_agrees : (h : Choice) → IsChoice s h → MeetsRows s u → MeetsRows s v → (j : ℕ) → Contains s.variables j → CanNotMove s held h j → u j ≡ v j
   unmoved_agrees h choice meets_u meets_v j c can_not = by_answer (h.basic j)
       (λ b. let basic = is_basic s h j c b in
       (choice.to_table u meets_u).basic j basic
