@@ -25,7 +25,7 @@ module _ {N : Type 0} (value : N → Fraction) (bound : ℕ) (fits : (x : N) →
   number_within x = let h = fits x in record { num = h.0; den = h.1 }
 
   each_within : {X Y : Type 0} (P : X → Type 0) (f : Y → X) (ys : List Y) → ((y : Y) → P (f y)) → All P (map f ys)
-  each_within P f ys h = All-map P f ys (λ k y is. h y)
+  each_within P f ys h = All-map P f ys (λ k y is. h _)
 
   pub passed_within : (p : Passed N) → ArePassedWithin bound (passed_at value p)
   passed_within p = (number_within p.left, number_within p.right)

@@ -177,7 +177,7 @@ record IsTold (m : Parts) (o : Outcome Fraction) (t : Telling) : Type 0 where
   told : t ≡ uncertified (status_of report) (rights_report_text m report)
 
 outcome_told : (bound : ℕ) (m : Parts) (rights : List TransmissionRight) (o : Outcome Fraction) (t : Telling) → OutcomeFitsReport m o → TellsOutcome bound m rights o t → IsTold m o t
-outcome_told bound m rights (outcome.Cleared a) t fits (fitted f is flow paid e) = record { report = paid a f (payments_of (total_at (λ x. x) a.prices) rights); fits = fits; outcome = refl; told = e }
+outcome_told bound m rights (outcome.Cleared a) t fits (fitted f is within pays e) = record { report = paid a f (payments_of (total_at (λ x. x) a.prices) rights); fits = fits; outcome = refl; told = e }
 outcome_told bound m rights (outcome.Cleared a) t fits (passed p is within e) = record { report = unpaid a p; fits = fits; outcome = refl; told = e }
 outcome_told bound m rights (outcome.Infeasible f) t fits e = record { report = infeasible f; fits = fits; outcome = refl; told = e }
 outcome_told bound m rights (outcome.Range p) t fits e = record { report = range p; fits = tt; outcome = refl; told = e }

@@ -75,7 +75,7 @@ module _ (less bound : ℕ) (wide : less ≤ bound) where
 
   -- ---- rights
   fit-wider : (m : Parts) (rights : List TransmissionRight) (price : ℕ → Fraction) (report : List ℕ) (t : Telling) → TellsFit less m rights price report t → t.status ≢ status.Range → TellsFit bound m rights price report t
-  fit-wider m rights price report t (fitted f is flow paid told) other = fitted f is (fit-within-wider less bound wide f flow) (payments-wider less bound wide (payments_of price rights) paid) told
+  fit-wider m rights price report t (fitted f is flow pays told) other = fitted f is (fit-within-wider less bound wide f flow) (payments-wider less bound wide (payments_of price rights) pays) told
   fit-wider m rights price report t (passed p stop within told) other = absurd (other (ap (λ (s : Telling). s.status) told))
 
   outcome-within : (m : Parts) (rights : List TransmissionRight) (o : Outcome Fraction) (t : Telling) → TellsOutcome less m rights o t → t.status ≢ status.Range → IsNoRange (step.Clear o) × TellsOutcome bound m rights o t

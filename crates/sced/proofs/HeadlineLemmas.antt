@@ -557,8 +557,8 @@ module _ (words : List (List ℕ)) (files : Files) (text : List ℕ) (s : Status
         range-refused wrong = cc wrong
 
     of-fit : (bound : ℕ) (m : Parts) (rights : List TransmissionRight) (price : ℕ → Fraction) (report : List ℕ) → TellsFit bound m rights price report p.telling → Why
-    of-fit bound m rights price report (fitted fit.Fits is-fit flow paid is) = let wrong : status.Done ≡ status.Refused = sym (ap (λ (t : Telling). t.status) is) ∙ bad in cc wrong
-    of-fit bound m rights price report (fitted (fit.Breaks row flow) is-fit within paid is) = let wrong : status.Refuted ≡ status.Refused = sym (ap (λ (t : Telling). t.status) is) ∙ bad in cc wrong
+    of-fit bound m rights price report (fitted fit.Fits is-fit flow pays is) = let wrong : status.Done ≡ status.Refused = sym (ap (λ (t : Telling). t.status) is) ∙ bad in cc wrong
+    of-fit bound m rights price report (fitted (fit.Breaks row flow) is-fit within pays is) = let wrong : status.Refuted ≡ status.Refused = sym (ap (λ (t : Telling). t.status) is) ∙ bad in cc wrong
     of-fit bound m rights price report (answers.passed q pair within is) = let wrong : status.Range ≡ status.Refused = sym (ap (λ (t : Telling). t.status) is) ∙ bad in cc wrong
 
     of-rights : (bound : ℕ) (r : MarketRights) → TellsRights bound r p.telling → Why

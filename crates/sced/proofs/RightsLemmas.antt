@@ -70,13 +70,13 @@ module _ (bound : ℕ) (m : Parts) (rights : List TransmissionRight) (t : Tellin
         (law_of_payments m a.duals (dispatch_in a) price rights market (record { prices = prices-of m a right; feasible = right.feasible; supported = right.supported }) held is-fit)
 
     of-answer : (a : Answer Fraction) → IsRight m a → IsAnswerWithin bound a → TellsFit bound m rights (total_at (λ x. x) a.prices) (report_text m (outcome.Cleared a)) t → IsEntitled bound m rights text s
-    of-answer a right numbers (fitted fit.Fits is-fit flow paid is) =
+    of-answer a right numbers (fitted fit.Fits is-fit flow pays is) =
         let best = right-best law_of_reserve m a market right in
-        as-told _ is (rights_fit a best.0 best.1 numbers paid ((law_of_the_fit m rights fit.Fits is-fit).0 refl) refl (covered a right is-fit))
-    of-answer a right numbers (fitted (fit.Breaks row flow) is-fit within paid is) =
+        as-told _ is (rights_fit a best.0 best.1 numbers pays ((law_of_the_fit m rights fit.Fits is-fit).0 refl) refl (covered a right is-fit))
+    of-answer a right numbers (fitted (fit.Breaks row flow) is-fit within pays is) =
         let best = right-best law_of_reserve m a market right in
         let law = law_of_the_fit m rights (fit.Breaks row flow) is-fit in
-        as-told _ is (rights_break a row flow best.0 best.1 numbers within paid (λ feasible. other (law.1 feasible)) is-fit refl)
+        as-told _ is (rights_break a row flow best.0 best.1 numbers within pays (λ feasible. other (law.1 feasible)) is-fit refl)
       where
         other : fit.Breaks row flow ≡ fit.Fits → ⊥
         other bad = cc bad

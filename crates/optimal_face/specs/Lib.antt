@@ -1,0 +1,3 @@
+pub mod Faces
+pub mod FirstPoints
+pub mod Laws
