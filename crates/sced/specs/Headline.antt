@@ -42,7 +42,7 @@ use Rattle.factor_text.specs.Texts.{factor_table_text}
 use Rattle.factor_maker.specs.declared.stops.MakeStop.{MakeStop}
 use Rattle.factor_maker.specs.declared.stops.MakeStop.TheVariants as make_stop
 use Rattle.case_maker.specs.Rings.{ring_of}
-use Rattle.cert_format.specs.Certificates.{Fits, cert_of_outcome}
+use Rattle.cert_format.specs.Certificates.{cert_of_outcome}
 use Rattle.cert_format.specs.Grammar.{cert_read}
 use Rattle.cert_format.specs.Written.{cert_text}
 use Rattle.cert_format.specs.declared.certificate.Cert.{Cert}
@@ -73,7 +73,7 @@ use Rattle.market_inputs.specs.declared.checking.Inputs.{Inputs}
 use Rattle.market_inputs.specs.declared.making.FactorInputs.{FactorInputs}
 use Rattle.command_answers.specs.Checking.{AreResiduals, check_status_of}
 use Rattle.command_answers.specs.declared.checking.Residuals.{Residuals}
-use Rattle.command_answers.specs.Bounds.{ArePassedWithin, ArePaymentsWithin, IsAnswerWithin, IsFarkasWithin, IsOutcomeWithin}
+use Rattle.command_answers.specs.Bounds.{ArePassedWithin, ArePaymentsWithin, IsAnswerWithin, IsFarkasWithin, IsFitWithin, IsOutcomeWithin}
 use Rattle.command_answers.specs.Clearing.{status_of}
 use Rattle.command_answers.specs.Factors.{AreMadeTables, IsFactorsStop, tables_text}
 use Rattle.command_answers.specs.declared.factors.MadeTables.{MadeTables}
@@ -313,7 +313,7 @@ pub data IsEntitled (bound : ℕ) (m : Parts) (rights : List TransmissionRight) 
       → ArePaymentsWithin bound (payments_of (total_at (λ x. x) a.prices) rights) → AreFeasibleTogether m rights
       → text ≡ report_text m (Cleared a) ++ rights_lines Fits (payments_of (total_at (λ x. x) a.prices) rights)
       → (payments_of (total_at (λ x. x) a.prices) rights).total ≤ℚ a.money.surplus → IsEntitled bound m rights text status.Done
-  rights_break : (a : Answer Fraction) (r : RowId) (flow : Fraction) → HasGreatestWelfare m (dispatch_in a) → IsPriced m a → IsAnswerWithin bound a → Fits bound flow
+  rights_break : (a : Answer Fraction) (r : RowId) (flow : Fraction) → HasGreatestWelfare m (dispatch_in a) → IsPriced m a → IsAnswerWithin bound a → IsFitWithin bound (Breaks r flow)
       → ArePaymentsWithin bound (payments_of (total_at (λ x. x) a.prices) rights) → ¬ (AreFeasibleTogether m rights)
       → IsFit m rights (Breaks r flow) → text ≡ report_text m (Cleared a) ++ rights_lines (Breaks r flow) (payments_of (total_at (λ x. x) a.prices) rights)
       → IsEntitled bound m rights text status.Refuted
