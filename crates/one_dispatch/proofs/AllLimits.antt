@@ -1,5 +1,5 @@
 -- The dispatch that goes first for some limits and rooms goes first for all, where it keeps the others.
-use Rattle.std.specs.Prelude.{◌≡◌, Bool, true, false, List, [], ◌∷◌, length, filter, Contains, refl}
+use Rattle.std.specs.Prelude.{◌≡◌, Bool, true, false, [], ◌∷◌, length, Contains, refl}
 use Rattle.std.proofs.Common.{ap, sym, ◌∙◌, subst, subst₂}
 use Rattle.fraction_theory.specs.Fraction.{Fraction, neg_ℚ, ◌+ℚ◌, ◌*ℚ◌}
 use Rattle.fraction_theory.specs.Order.{◌≤ℚ◌}
@@ -8,7 +8,7 @@ use Rattle.fraction_theory.specs.Sums.{sum_by}
 use Rattle.fraction_theory.proofs.Ring.{by_ring, at, pnil, pone, pneg, ◌⊕◌, ◌⊗◌}
 use Rattle.fraction_theory.proofs.FieldLaws.{ring_ℚ}
 use Rattle.fraction_theory.proofs.ListSums.{kept, sum_by-filter, sum_by-members}
-use Rattle.fraction_theory.proofs.OrderLaws.{by_le1, +ℚ-≤ℚ, ≤ℚ_of_same, ≤ℚ_refl, ≤ℚ_trans, NonNeg-one, NonNeg_from}
+use Rattle.fraction_theory.proofs.OrderLaws.{by_le1, +ℚ-≤ℚ, ≤ℚ_refl, ≤ℚ_trans, NonNeg-one, NonNeg_from}
 use Rattle.fraction_theory.proofs.SignLaws.{abs_within, part_at_most, part_least}
 use Rattle.fraction_theory.proofs.SumLaws.{sum_by-≤}
 use Rattle.market_model.specs.declared.limits.Row.{Row}
@@ -24,10 +24,9 @@ use Rattle.market_model.proofs.RowLaws.{along}
 use Rattle.market_system.specs.MarketSystem.{is_in, in_order}
 use Rattle.market_system.specs.SolvedLaws.{AreRows, AreTaken}
 use Rattle.market_system.proofs.MarketPoints.{welfare-in_order}
-use Rattle.market_system.proofs.RowOrder.{RowsApart, is_in-in, is_in-from, in_order-filter}
+use Rattle.market_system.proofs.RowOrder.{RowsApart, is_in-in, in_order-filter}
 use Rattle.market_system.proofs.SoftRows.{kept_nil}
 use Rattle.one_dispatch.specs.Laws.{LawOfAllLimits}
-use Rattle.one_dispatch.specs.Ties.{IsFirstFor}
 use Rattle.one_dispatch.proofs.DistinctRows.{rows_distinct}
 
 -- ---- one row

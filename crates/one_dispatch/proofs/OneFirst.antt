@@ -1,12 +1,12 @@
 -- At most one dispatch goes first.
-use Rattle.std.specs.Prelude.{◌≡◌, ℕ, ◌<◌, ◌≤◌, List, length}
+use Rattle.std.specs.Prelude.{◌≡◌, ℕ, ◌<◌, ◌≤◌, length}
 use Rattle.std.proofs.Common.{zero, suc, arith, ap₂, sym, ◌∙◌, subst, inl, inr}
 use Rattle.std.proofs.lemmas.Bool.{cases_lt}
 use Rattle.std.proofs.lemmas.List.{ext_get_or}
 use Rattle.fraction_theory.specs.Fraction.{Fraction}
 use Rattle.fraction_theory.specs.Order.{◌<ℚ◌}
 use Rattle.fraction_theory.proofs.OrderLaws.{three_ways}
-use Rattle.market_model.specs.Dispatch.{Dispatch, IsDispatch, zero as nil, accepted, reserved, dispatch_with}
+use Rattle.market_model.specs.Dispatch.{IsDispatch, zero as nil, accepted, reserved, dispatch_with}
 use Rattle.one_dispatch.specs.Laws.{LawOfOneDispatch}
 use Rattle.one_dispatch.specs.Ties.{by_block, by_offer}
 

@@ -1,6 +1,6 @@
 -- The dispatch of the point that goes first goes first.
-use Rattle.std.specs.Prelude.{◌≡◌, ℕ, ◌+◌, ◌-◌, ◌<◌, List, ◌++◌, length, map, slice_index}
-use Rattle.std.proofs.Common.{arith, ap, sym, ◌∙◌, subst, subst₂, inl, inr, get_or}
+use Rattle.std.specs.Prelude.{◌≡◌, ℕ, ◌+◌, ◌-◌, ◌<◌, length, map, slice_index}
+use Rattle.std.proofs.Common.{arith, ap, sym, ◌∙◌, subst, subst₂, inl, inr}
 use Rattle.std.proofs.lemmas.Bool.{cases_lt}
 use Rattle.std.proofs.lemmas.List.{get_or_append_left, get_or-append-add, length-append}
 use Rattle.std.proofs.lemmas.List.FromFn.{length-range_with_len, length-map-range_with_len, get_or-map-range_with_len}
@@ -21,7 +21,7 @@ use Rattle.market_system.specs.SolvedLaws.{AreTaken, PointsAreDispatches}
 use Rattle.market_system.proofs.LawsOfSolving.{law_of_the_points}
 use Rattle.optimal_face.specs.FirstPoints.{GoesBefore as PointGoesBefore, IsFirstBest}
 use Rattle.one_dispatch.specs.Laws.{LawOfThePoint}
-use Rattle.one_dispatch.specs.Ties.{GoesBefore, IsFirstFor, by_block, by_offer, dispatch_names}
+use Rattle.one_dispatch.specs.Ties.{GoesBefore, by_block, by_offer, dispatch_names}
 
 -- ---- the names in the market's order
 names_long : (m : Parts) → length (dispatch_names m) ≡ length m.blocks + length m.reserve.offers
@@ -51,14 +51,14 @@ at_block m x v p j h = ap v (name_of_block m j h) ∙ p.blocks j h
 at_offer : (m : Parts) (x : Dispatch) (v : ℕ → Fraction) → IsPointOf m x v → (n : ℕ) → n < length m.reserve.offers → v (slice_index (dispatch_names m) (length m.blocks + n)) ≡ reserved x n
 at_offer m x v p n h = ap v (name_of_offer m n h) ∙ p.offers n h
 
--- as it has what its own dispatch accepts
+-- any point is one of its own dispatch
 own_point : (m : Parts) (v : ℕ → Fraction) → IsPointOf m (point_dispatch m v) v
 own_point m v = record {
   blocks = λ j h. sym (get_or-map-range_with_len v 0 (length m.blocks) j j nil h (Prim.omega arith));
   offers = λ n h. sym (get_or-map-range_with_len (λ k. v (offer_name m k)) 0 (length m.reserve.offers) n n nil h (Prim.omega arith));
 }
 
--- points go before each other as their dispatches do
+-- of two points one goes before the other where its dispatch does
 pub goes_before : (m : Parts) (y x : Dispatch) (u v : ℕ → Fraction) → IsPointOf m y u → IsPointOf m x v → GoesBefore m y x → PointGoesBefore (dispatch_names m) u v
 goes_before m y x u v p q (by_block j h same more) = record {
   place = j;
