@@ -1,0 +1,4 @@
+pub mod AllLimits
+pub mod DistinctRows
+pub mod OneFirst
+pub mod PointOrder
