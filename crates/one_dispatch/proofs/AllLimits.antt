@@ -24,10 +24,11 @@ use Rattle.market_model.proofs.RowLaws.{along}
 use Rattle.market_system.specs.MarketSystem.{is_in, in_order}
 use Rattle.market_system.specs.SolvedLaws.{AreRows, AreTaken}
 use Rattle.market_system.proofs.MarketPoints.{welfare-in_order}
+use Rattle.limit_rows.proofs.ApartLemmas.{names_apart}
+use Rattle.market_system.proofs.DualLists.{rows_apart}
 use Rattle.market_system.proofs.RowOrder.{RowsApart, is_in-in, in_order-filter}
 use Rattle.market_system.proofs.SoftRows.{kept_nil}
 use Rattle.one_dispatch.specs.Laws.{LawOfAllLimits}
-use Rattle.one_dispatch.proofs.DistinctRows.{rows_distinct}
 
 -- ---- one row
 -- a flow that keeps the limit exceeds it by nothing
@@ -56,7 +57,7 @@ penalized-none m x r w = kept_nil (is_soft m r) (λ _. ap (λ e. neg_ℚ (penalt
 -- ---- some rows and all
 module _ (m : Parts) (market : IsMarket m) where
   apart : RowsApart m
-  apart = rows_distinct m market
+  apart = rows_apart m (names_apart m market)
 
   all_rows : AreRows m (rows m)
   all_rows = record { rows = λ r c. c; distinct = apart }

@@ -1,4 +1,3 @@
 pub mod AllLimits
-pub mod DistinctRows
 pub mod OneFirst
 pub mod PointOrder
