@@ -185,10 +185,9 @@ fn clears_within_limits(rt: HostRuntime) -> Result<(), Fail> {
     for (line, rows, status, text) in &CLEARS {
         let case = case(&rt, rows.0, rows.1, rows.2)?;
         let wide = format!(in rt.alloc(); "{line} --number-bits 1023")?;
-        for words in [*line, wide.as_str()] {
-            let want = told(*status, *text);
-            expect_clear(&rt, words, case.as_str(), all, want)?;
-        }
+        let want = told(*status, *text);
+        expect_clear(&rt, line, case.as_str(), all, want)?;
+        expect_clear(&rt, wide.as_str(), case.as_str(), all, want)?;
     }
     Ok(())
 }
