@@ -15,19 +15,22 @@ use Rattle.market_model.specs.Valued.{duals_at}
 use Rattle.market_system.specs.MarketNumbers.{IsFarkasOf}
 use Rattle.market_system.specs.MarketSystem.{system_of, choice_dispatch, choice_duals}
 use Rattle.market_system.specs.SolvedLaws.{AnswersBy, HasMargin}
+use Rattle.market_system.specs.Ties.{IsFirstFor}
 use Rattle.market_dict.specs.Holding.{HoldsMarket, HoldsSystem}
 use Rattle.market_dict.specs.Takings.{taken_of}
 use Rattle.market_dict.specs.declared.solving.Found.{Found}
 use Rattle.market_dict.specs.declared.solving.Found.TheVariants.{Best, Nothing}
 use Rattle.market_dict.specs.declared.taking.Taking.{Taking}
 
--- the dispatch and the duals are those of a choice of basic variables that solves the market over these limits and rooms
+-- The dispatch and the duals are those of a choice of basic variables that solves the market over these limits and rooms, and of the best
+-- dispatches for these it is the one that goes first.
 pub record IsSolvedBy (m : Parts) (ts : List Taking) (x : Dispatch) (d : Duals Fraction) : Type 0 where
   pub choice : Choice
   pub is_choice : IsChoice (system_of m (taken_of ts)) choice
   pub dispatch : x ≡ choice_dispatch m (taken_of ts) choice
   pub duals : d ≡ choice_duals m (taken_of ts) choice
   pub answers : AnswersBy m (taken_of ts) choice
+  pub first : IsFirstFor m (taken_of ts) x
 
 -- The duals are those of a variable that is stuck at a choice: they show that no dispatch of the market is feasible. The margin is what the
 -- variable leaves of the bound that it violates.

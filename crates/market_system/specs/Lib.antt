@@ -7,4 +7,5 @@ pub mod ModestMarkets
 pub mod Outcomes
 pub mod PairLaw
 pub mod SolvedLaws
+pub mod Ties
 pub mod WorkingPairs

@@ -6,15 +6,20 @@ use Rattle.market_model.specs.declared.answered.Outcome.{Outcome}
 use Rattle.market_model.specs.declared.answered.Outcome.TheVariants as outcome
 use Rattle.market_model.specs.Dispatch.{Dispatch}
 use Rattle.market_model.specs.declared.limits.Row.{Row}
-use Rattle.market_model.specs.Optimality.{Feasible}
-use Rattle.market_model.specs.RightAnswers.{IsRightBy}
+use Rattle.market_model.specs.Infeasibility.{IsFarkas}
+use Rattle.market_model.specs.Optimality.{Feasible, all_of}
+use Rattle.market_model.specs.RightAnswers.{IsRight, dispatch_in}
 use Rattle.market_system.specs.Growth.{Growth, PricesOnly}
 use Rattle.market_system.specs.SolvedLaws.{AreRows}
+use Rattle.market_system.specs.Ties.{IsFirstFor}
 use Rattle.market_system.specs.WorkingPairs.{IsRangeOf}
 
--- an outcome is right for its market, and where numbers of a type with this bound became too large, the two are a working pair of it
+-- An outcome is right for its market, and a dispatch is of all the best the one that goes first. Where numbers of a type with this bound became
+-- too large, the two are a working pair of it.
 abbrev pub IsRightOutcome : ℕ → Parts → List Row → Outcome Fraction → Type 0
-IsRightOutcome bound m taken o = IsRightBy (IsRangeOf m taken bound) m o
+IsRightOutcome bound m taken (outcome.Cleared a) = IsRight m a × IsFirstFor m (all_of m) (dispatch_in a)
+IsRightOutcome bound m taken (outcome.Infeasible f) = IsFarkas m f
+IsRightOutcome bound m taken (outcome.Range p) = IsRangeOf m taken bound p
 
 abbrev pub IsCleared : Outcome Fraction → Type 0
 IsCleared (outcome.Cleared a) = Unit {0}

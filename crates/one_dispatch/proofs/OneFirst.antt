@@ -8,7 +8,7 @@ use Rattle.fraction_theory.specs.Order.{◌<ℚ◌}
 use Rattle.fraction_theory.proofs.OrderLaws.{three_ways}
 use Rattle.market_model.specs.Dispatch.{IsDispatch, zero as nil, accepted, reserved, dispatch_with}
 use Rattle.one_dispatch.specs.Laws.{LawOfOneDispatch}
-use Rattle.one_dispatch.specs.Ties.{by_block, by_offer}
+use Rattle.market_system.specs.Ties.{by_block, by_offer}
 
 -- numbers by place are the same, where neither has more at the first place at which they differ
 pub same_below : (f g : ℕ → Fraction) (n : ℕ)

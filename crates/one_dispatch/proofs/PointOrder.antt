@@ -21,7 +21,7 @@ use Rattle.market_system.specs.SolvedLaws.{AreTaken, PointsAreDispatches}
 use Rattle.market_system.proofs.LawsOfSolving.{law_of_the_points}
 use Rattle.optimal_face.specs.FirstPoints.{GoesBefore as PointGoesBefore, IsFirstBest}
 use Rattle.one_dispatch.specs.Laws.{LawOfThePoint}
-use Rattle.one_dispatch.specs.Ties.{GoesBefore, by_block, by_offer, dispatch_names}
+use Rattle.market_system.specs.Ties.{GoesBefore, by_block, by_offer, dispatch_names}
 
 -- ---- the names in the market's order
 names_long : (m : Parts) → length (dispatch_names m) ≡ length m.blocks + length m.reserve.offers

@@ -12,7 +12,7 @@ use Rattle.market_model.specs.Overrun.{Within}
 use Rattle.market_system.specs.MarketSystem.{point_dispatch, system_of}
 use Rattle.market_system.specs.SolvedLaws.{AreTaken}
 use Rattle.optimal_face.specs.FirstPoints.{IsFirstBest}
-use Rattle.one_dispatch.specs.Ties.{IsFirstFor, dispatch_names}
+use Rattle.market_system.specs.Ties.{IsFirstFor, dispatch_names}
 
 abbrev pub LawOfOneDispatch : Type 0
 LawOfOneDispatch = (m : Parts) (t : Taken) (x y : Dispatch) → IsFirstFor m t x → IsFirstFor m t y → x ≡ y

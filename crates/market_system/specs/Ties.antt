@@ -1,4 +1,5 @@
--- Which of the best dispatches is taken.
+-- Which of the best dispatches is taken: blocks of one price are served in the order of their records.
+-- Source: lexicographic linear programs (Isermann 1982); the order is own, a market's rules name it.
 use Rattle.std.specs.Prelude.{◌≡◌, ℕ, ◌<◌, List, ◌++◌, length, map}
 use Rattle.fraction_theory.specs.Order.{◌<ℚ◌}
 use Rattle.market_model.specs.declared.participants.Parts.{Parts}

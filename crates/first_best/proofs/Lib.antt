@@ -1,0 +1,5 @@
+mod BackLemmas
+mod HoldLemmas
+mod PairLemmas
+mod PosedLemmas
+mod StartLemmas

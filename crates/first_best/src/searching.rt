@@ -1,0 +1,41 @@
+// The search: column after column.
+ghost use Rattle.std.specs.Prelude.{ℕ, IfErr, IfOk};
+ghost use Rattle.std.specs.List.{Contains};
+ghost use Rattle.linear_dict.specs.Dictionaries.{system_in};
+ghost use Rattle.simplex_core.specs.Outcomes.{ShowsChoice};
+ghost use Rattle.simplex_core.specs.States.{state_of};
+ghost use Rattle.simplex_theory.specs.States.{IsSolved};
+ghost use Rattle.first_best.specs.Outcomes.{GoesFirst, IsPairOn};
+
+use crate::holding::{can_not_move, held_besides};
+use crate::moving::{Face, moved_first};
+use crate::stop::FirstStop;
+use exact_fraction::Exact;
+use linear_dict::Dict;
+use simplex_core::Solved;
+use std::alloc::Global;
+
+/// Of the best values of a solved system those that go first in this order of columns: that have more of the first one in which two of
+/// them differ. Prices, bounds and reduced prices stay, and each variable that has a reduced price stands where it stood.
+pub fn first_of_best<N: Exact>(
+    alloc: Global,
+    solved: Solved<N>,
+    order: &[u32],
+) -> Result<Dict<N>, FirstStop<N>>
+    requires shows { ShowsChoice solved }
+    requires solved { IsSolved (system_in solved) (state_of solved) }
+    requires columns { (j : ℕ) → Contains order.now j → Contains solved.columns j }
+    ensures first { IfOk result (GoesFirst solved order.now) }
+    ensures pair { IfErr result (IsPairOn N.value N.bound solved) }
+{
+    let dict = solved.into_dict();
+    let held = held_besides(alloc, &dict, &[])?;
+    let mut face = Face { dict, held };
+    for place in 0..order.len() {
+        let name = order[place];
+        if !can_not_move(&face.dict, &face.held, name) {
+            face = moved_first(alloc, face, name)?;
+        }
+    }
+    Ok(face.dict)
+}
