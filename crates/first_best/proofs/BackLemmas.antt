@@ -10,7 +10,7 @@ use Rattle.fraction_theory.specs.Order.{◌≤ℚ◌}
 use Rattle.fraction_theory.specs.Signs.{sign_of}
 use Rattle.fraction_theory.specs.Sums.{total}
 use Rattle.fraction_theory.proofs.ListSums.{Contains-filter}
-use Rattle.fraction_theory.proofs.OrderLaws.{≤ℚ_of_same}
+use Rattle.fraction_theory.proofs.OrderLaws.{≤ℚ_of_same, ≤ℚ_trans}
 use Rattle.linear_dict.specs.Dictionaries.{Dictionary, IsDictionary, choice_of, entry_of, note_of, system_in}
 use Rattle.linear_dict.specs.Notes.{Noted, blank}
 use Rattle.linear_dict.specs.Places.{is_among, place_in}
@@ -69,6 +69,38 @@ flag_same (Some f) x priced = refl
 flag_same None x true = refl
 flag_same None x false = refl
 
+pub named_variable : (d : Dictionary) (w : ℕ) → Contains d.names w → Contains (system_in d).variables w
+named_variable d w c = subst (λ (ws : List ℕ). Contains ws w) (sym (names_are d)) c
+
+pub variable_named : (d : Dictionary) (w : ℕ) → Contains (system_in d).variables w → Contains d.names w
+variable_named d w c = subst (λ (ws : List ℕ). Contains ws w) (names_are d) c
+
+module _ (d : Dictionary) (names : List ℕ) (held : Held) (j : ℕ) (face : IsFace d names held) where
+  -- the point in hand keeps the bounds at which variables are held
+  pub stays_within : InBounds (held_at (system_in d) held (price_of_one j)) (state_of d).value
+  unfolding held_at
+  stays_within = record { low = λ w c. (both w (variable_named d w (of_face w c)) (held w) refl).0; high = λ w c. (both w (variable_named d w (of_face w c)) (held w) refl).1 }
+    where
+      of_face : (w : ℕ) → Contains (held_at (system_in d) held (price_of_one j)).variables w → Contains (system_in d).variables w
+      of_face w c = c
+
+      both : (w : ℕ) → Contains d.names w → (o : Option Bool) → held w ≡ o
+          → ((held_at (system_in d) held (price_of_one j)).low w ≤ℚ (state_of d).value w) × ((state_of d).value w ≤ℚ (held_at (system_in d) held (price_of_one j)).high w)
+      both w c None e =
+          let free = bounds_free (system_in d) held (price_of_one j) w e in
+          let at = face.solved.best.within in
+          (subst (λ x. x ≤ℚ (state_of d).value w) (sym free.0) (at.low w (named_variable d w c)), subst (λ x. (state_of d).value w ≤ℚ x) (sym free.1) (at.high w (named_variable d w c)))
+      both w c (Some high) e =
+          let stands = face.stands w high c e in
+          let at = bounds_held (system_in d) held (price_of_one j) w high e in
+          let is : (state_of d).value w ≡ bound_at (system_in d) w high = face.shows.values w c ∙ value_at (system_in d) (choice_of d) w high stands.0 stands.1 in
+          (≤ℚ_of_same _ _ (at.0 ∙ sym is), ≤ℚ_of_same _ _ (is ∙ sym at.1))
+
+  -- so none of its low bounds is above the high one
+  pub held_in_order : (w : ℕ) → Contains d.names w → (held_at (system_in d) held (price_of_one j)).low w ≤ℚ (held_at (system_in d) held (price_of_one j)).high w
+  unfolding held_at
+  held_in_order w c = ≤ℚ_trans _ ((state_of d).value w) _ (stays_within.low w (named_variable d w c)) (stays_within.high w (named_variable d w c))
+
 module _ (d p : Dictionary) (names : List ℕ) (held : Held) (j : ℕ) (face : IsFace d names held) (absent : (w : ℕ) → ¬ (Contains d.names w) → held w ≡ None)
     (column : Contains d.columns j) (put : IsPut d p) (same : SameSystem (system_in p) (held_at (system_in d) held (price_of_one j))) where
   system : IsSystem (system_in d)
@@ -87,32 +119,12 @@ module _ (d p : Dictionary) (names : List ℕ) (held : Held) (j : ℕ) (face : I
   unfolding system_in
   column_here = Contains-filter (is_among d.columns) d.names j (face.sound.put_in.second_named j column) (among-tells d.columns j column)
 
-  -- the point in hand keeps the bounds at which variables are held
-  stays_within : InBounds (held_at (system_in d) held (price_of_one j)) (state_of d).value
-  unfolding held_at
-  stays_within = record { low = λ w c. (both w (known_back w (of_face w c)) (held w) refl).0; high = λ w c. (both w (known_back w (of_face w c)) (held w) refl).1 }
-    where
-      of_face : (w : ℕ) → Contains (held_at (system_in d) held (price_of_one j)).variables w → Contains (system_in d).variables w
-      of_face w c = c
-
-      both : (w : ℕ) → Contains d.names w → (o : Option Bool) → held w ≡ o
-          → ((held_at (system_in d) held (price_of_one j)).low w ≤ℚ (state_of d).value w) × ((state_of d).value w ≤ℚ (held_at (system_in d) held (price_of_one j)).high w)
-      both w c None e =
-          let free = bounds_free (system_in d) held (price_of_one j) w e in
-          let at = face.solved.best.within in
-          (subst (λ x. x ≤ℚ (state_of d).value w) (sym free.0) (at.low w (known w c)), subst (λ x. (state_of d).value w ≤ℚ x) (sym free.1) (at.high w (known w c)))
-      both w c (Some high) e =
-          let stands = face.stands w high c e in
-          let at = bounds_held (system_in d) held (price_of_one j) w high e in
-          let is : (state_of d).value w ≡ bound_at (system_in d) w high = face.shows.values w c ∙ value_at (system_in d) (choice_of d) w high stands.0 stands.1 in
-          (≤ℚ_of_same _ _ (at.0 ∙ sym is), ≤ℚ_of_same _ _ (is ∙ sym at.1))
-
   -- so the posed system has a point
   pub not_empty : ¬ (HasNoPoint (system_in p))
   not_empty none = none.none (state_of d).value
       (same_rows_met (held_at (system_in d) held (price_of_one j)) (system_in p) (turned_round (system_in p) (held_at (system_in d) held (price_of_one j)) same) (state_of d).value
       (meets_held (system_in d) held (price_of_one j) (state_of d).value face.solved.best.meets))
-      (same_within (held_at (system_in d) held (price_of_one j)) (system_in p) (turned_round (system_in p) (held_at (system_in d) held (price_of_one j)) same) (state_of d).value stays_within)
+      (same_within (held_at (system_in d) held (price_of_one j)) (system_in p) (turned_round (system_in p) (held_at (system_in d) held (price_of_one j)) same) (state_of d).value (stays_within d names held j face))
 
   -- a choice that keeps what is fixed has what is held among its others
   pub fixed_held : (h : Choice) → KeepsFixed p h → (w : ℕ) (high : Bool) → Contains d.names w → held w ≡ Some high → h.basic w ≡ false
@@ -331,8 +343,7 @@ module _ (d p : Dictionary) (names : List ℕ) (held : Held) (j : ℕ) (face : I
         high = λ w c. subst (λ x. x ≤ℚ (system_in d).high w) (sym (value_after w (known_back w c))) (within_end.high w c);
       };
       stays = λ w c n.
-          let is = face.priced w (known_back w c) n in
-          (
+          let is = face.priced w (known_back w c) n in (
             basic_after w ∙ fixed_held (choice_of e) kept w ((choice_of d).high w) (known_back w c) is,
             flag_after w ∙ ap (λ (o : Option Bool). option_map_or (λ (x : Bool). x) o ((choice_of e).high w)) is,
           );

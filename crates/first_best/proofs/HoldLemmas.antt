@@ -1,10 +1,10 @@
 -- Variables held by rank.
-use Rattle.std.specs.Prelude.{◌≡◌, ◌≢◌, ◌⊎◌, ℕ, ◌<◌, ◌+◌, ◌++◌, ◌∷◌, pos, Bool, true, false, if◌then◌else◌, is_some, List, [], Option, Some, None, length, map, slice_index, slice_index_or, refl}
+use Rattle.std.specs.Prelude.{◌≡◌, ◌≢◌, ◌⊎◌, ℕ, ◌<◌, ◌+◌, ◌++◌, ◌∷◌, pos, Bool, true, false, if◌then◌else◌, is_some, List, [], Option, Some, None, length, map, take, slice_index, slice_index_or, refl}
 use Rattle.std.specs.List.{Contains}
 use Rattle.std.specs.Option.{option_map_or}
 use Rattle.std.proofs.Common.{arith, ap, ap₂, sym, ◌∙◌, inl, inr}
 use Rattle.std.proofs.lemmas.Bool.{cases_lt}
-use Rattle.std.proofs.lemmas.List.{get_or-append-add, get_or_append_left, get_or_past, length-append, map-append}
+use Rattle.std.proofs.lemmas.List.{get_or-append-add, get_or-map, get_or_append_left, get_or_past, length-append, map-append, take_more}
 use Rattle.fraction_theory.specs.Fraction.{Fraction, whole}
 use Rattle.fraction_theory.specs.Signs.{sign_of}
 use Rattle.linear_dict.specs.Dictionaries.{Dictionary, IsDictionary, choice_of, note_of, system_in}
@@ -19,7 +19,7 @@ use Rattle.simplex_core.specs.States.{state_of}
 use Rattle.simplex_core.specs.declared.bounds.Bounds.{Bounds}
 use Rattle.simplex_core.proofs.NoteLaws.{funext, named_or_not, note_unnamed}
 use Rattle.simplex_core.proofs.Ranks.{at_rank, rank_of, ranked_named}
-use Rattle.first_best.specs.Holding.{held_by}
+use Rattle.first_best.specs.Holding.{back_note, held_by}
 
 module _ (names : List ℕ) (held : List (Option Bool)) (w : ℕ) where
   pub held-named : Contains names w → held_by names held w ≡ slice_index_or held (place_in names w) None
@@ -54,11 +54,10 @@ pub note_absent : (d : Dictionary) → IsDictionary d → (w : ℕ) → ¬ (Cont
 note_absent d h w n = note_unnamed d w h.note_count (elim (named_or_not d.names w) [ inl c ↦ absurd (n c) | inr past ↦ past ])
 
 -- how a variable is held besides
-pub besides : Option Bool → Noted → Option Bool
+abbrev pub besides : Option Bool → Noted → Option Bool
 besides hold n = if is_some hold then hold else if holds (sign_of n.reduced) then Some n.at_high else None
 
 besides-nothing : besides None blank ≡ None
-unfolding besides
 besides-nothing = elim (priced_or_not (whole (pos 0))) [
   | inl nil ↦ ap (λ (b : Bool). if b then Some false else None) nil.1
   | inr priced ↦ absurd (priced.0 refl)
@@ -66,7 +65,7 @@ besides-nothing = elim (priced_or_not (whole (pos 0))) [
 
 module _ (d : Dictionary) (h : IsDictionary d) (held : List (Option Bool)) where
   more_is : (w : ℕ) → more_held (held_by d.names held) (state_of d) w ≡ besides (held_by d.names held w) (note_of d w)
-  unfolding more_held state_of choice_of besides
+  unfolding more_held state_of choice_of
   more_is w = refl
 
   -- a list that says so by rank
@@ -171,3 +170,30 @@ bounds_more {N} value d held names bounds w b are low high = record {
   lows = λ price. map-append (λ (x : Bounds N). value x.low) bounds (b ∷ []) ∙ ap₂ (λ xs x. xs ++ x ∷ []) (are.lows price) (low price) ∙ sym (map-append (held_at (system_in d) (held_by d.names held) price).low names (w ∷ []));
   highs = λ price. map-append (λ (x : Bounds N). value x.high) bounds (b ∷ []) ∙ ap₂ (λ xs x. xs ++ x ∷ []) (are.highs price) (high price) ∙ sym (map-append (held_at (system_in d) (held_by d.names held) price).high names (w ∷ []));
 }
+
+-- a mapped list grows with it
+pub grown : {X Y : Type 0} (f : X → Y) (xs : List X) (x : X) (ys : List Y) (k : ℕ) (y : Y) → k < length ys → map f xs ≡ take k ys → f x ≡ slice_index_or ys k y → map f (xs ++ x ∷ []) ≡ take (k + 1) ys
+grown f xs x ys k y l so is = map-append f xs (x ∷ []) ∙ ap₂ (λ zs z. zs ++ z ∷ []) so is ∙ sym (take_more ys k y l)
+
+pub grown_by : {X Y Z : Type 0} (f : X → Y) (h : Z → Y) (xs : List X) (x : X) (ys : List Z) (k : ℕ) (z : Z) → k < length ys → map f xs ≡ map h (take k ys) → f x ≡ h (slice_index_or ys k z)
+    → map f (xs ++ x ∷ []) ≡ map h (take (k + 1) ys)
+grown_by f h xs x ys k z l so is = map-append f xs (x ∷ []) ∙ ap₂ (λ us u. us ++ u ∷ []) so is ∙ sym (ap (map h) (take_more ys k z l) ∙ map-append h (take k ys) (slice_index_or ys k z ∷ []))
+
+-- the note of a rank in a list of notes
+pub note_at : (d : Dictionary) (h : IsDictionary d) (notes : List Noted) (k : ℕ) → k < length d.names → note_of (record d { notes = notes }) (slice_index d.names k) ≡ slice_index_or notes k blank
+unfolding note_of
+note_at d h notes k l = ap (λ (i : ℕ). slice_index_or notes i blank) (rank_of d h k l)
+
+-- what is read at a place
+pub read_of : {X Y : Type 0} (f : X → Y) (xs : List X) (k : ℕ) (x : X) (z : Y) → k < length xs → x ≡ slice_index_or xs k x → f x ≡ slice_index_or (map f xs) k z
+read_of f xs k x z l is = ap f is ∙ sym (get_or-map f xs k x z l)
+
+-- a note that is brought back
+pub back_is : (b e : Dictionary) (held : Held) (w : ℕ) (kept note : Noted) (hold : Option Bool) → kept ≡ note_of b w → note ≡ note_of e w → hold ≡ held w
+    → ◌≡◌ {A = Noted} (record kept { value = note.value; at_high = option_map_or (λ high. high) hold note.at_high }) (back_note b held e w)
+unfolding back_note
+back_is b e held w kept note hold is_kept is_note is_hold =
+    ap (λ (n : Noted). back n note hold) is_kept ∙ ap₂ (back (note_of b w)) is_note is_hold
+  where
+    back : Noted → Noted → Option Bool → Noted
+    back n x o = record n { value = x.value; at_high = option_map_or (λ high. high) o x.at_high }

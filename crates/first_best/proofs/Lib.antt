@@ -1,5 +1,6 @@
 mod BackLemmas
 mod HoldLemmas
+mod MovedLemmas
 mod PairLemmas
 mod PosedLemmas
 mod StartLemmas

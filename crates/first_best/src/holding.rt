@@ -122,7 +122,18 @@ pub(crate) fn all_bounds<N: Exact>(
     Ok(bounds)
 }
 
-/// A price of 1 for the column of a name, and 0 for the others, in the order in which they were put in.
+/// A price of 1 for the column of a name, and 0 for another one.
+fn price_for<N: Exact>(name: u32, column: u32) -> N
+    ensures { N.value result ≡ price_of_one name column }
+{
+    if column == name {
+        N::of_parts(1, 1)
+    } else {
+        N::of_parts(0, 1)
+    }
+}
+
+/// These prices of all columns, in the order in which they were put in.
 pub(crate) fn prices_of_one<N: Exact>(
     alloc: Global,
     dict: &Dict<N>,
@@ -134,12 +145,7 @@ pub(crate) fn prices_of_one<N: Exact>(
 {
     let mut prices = Vec::new(alloc);
     for place in 0..dict.column_count() {
-        let price = if dict.column_name(place) == name {
-            N::of_parts(1, 1)
-        } else {
-            N::of_parts(0, 1)
-        };
-        match prices.push(price) {
+        match prices.push(price_for(name, dict.column_name(place))) {
             Ok(()) => {}
             Err(_) => return Err(Memory),
         }

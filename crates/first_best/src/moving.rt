@@ -1,6 +1,7 @@
 // One column of a face has the most that it can.
 ghost use Rattle.std.specs.Prelude.{◌≡◌, ◌≢◌, ◌<◌, ◌++◌, ◌∷◌, [], List, ℕ, IfErr, IfOk, false, length, map, slice_index};
 ghost use Rattle.std.specs.List.{Contains};
+ghost use Rattle.std.specs.Option.{option_map_or};
 ghost use Rattle.linear_dict.specs.Dictionaries.{IsDictionary};
 ghost use Rattle.linear_dict.specs.Notes.{noted};
 ghost use Rattle.simplex_core.specs.Turns.{noted_anew};
@@ -38,6 +39,21 @@ fn all_notes<N: Exact>(alloc: Global, dict: &Dict<N>) -> Result<Vec<Note<N>>, Me
     Ok(notes)
 }
 
+/// The note of a variable brought back: the one that is kept, with the value of another one, at the bound at which it is held.
+fn note_back<N: Exact>(kept: &Note<N>, note: &Note<N>, hold: Option<bool>) -> Note<N>
+    ensures { noted N.value result ≡ record (noted N.value kept.now) { value = N.value note.now.value; at_high = option_map_or (λ high. high) hold note.now.at_high } }
+{
+    let at_high = match hold {
+        Some(high) => high,
+        None => note.at_high,
+    };
+    Note {
+        value: note.value,
+        at_high,
+        ..*kept
+    }
+}
+
 /// Brings the notes back: prices, bounds and reduced prices as they were, and each variable that is held at its bound. The values stay.
 fn bring_back<N: Exact>(dict: &mut Dict<N>, notes: &[Note<N>], held: &[Option<bool>])
     requires live { dict.old.spent ≡ false }
@@ -47,16 +63,7 @@ fn bring_back<N: Exact>(dict: &mut Dict<N>, notes: &[Note<N>], held: &[Option<bo
         (back_note (record dict.old { notes = map (noted N.value) notes.now }) (held_by dict.old.names held.now) dict.old) }
 {
     for rank in 0..dict.name_count() {
-        let Note { value, at_high, .. } = dict.note_at(rank);
-        let at_high = match hold_at(held, rank) {
-            Some(high) => high,
-            None => at_high,
-        };
-        let note = Note {
-            value,
-            at_high,
-            ..notes[rank]
-        };
+        let note = note_back(&notes[rank], &dict.note_at(rank), hold_at(held, rank));
         dict.set_note_at(rank, note);
     }
 }

@@ -1,11 +1,12 @@
 // The search: column after column.
-ghost use Rattle.std.specs.Prelude.{ℕ, IfErr, IfOk};
+ghost use Rattle.std.specs.Prelude.{◌++◌, ◌∷◌, [], List, ℕ, IfErr, IfOk};
 ghost use Rattle.std.specs.List.{Contains};
 ghost use Rattle.linear_dict.specs.Dictionaries.{system_in};
 ghost use Rattle.simplex_core.specs.Outcomes.{ShowsChoice};
 ghost use Rattle.simplex_core.specs.States.{state_of};
 ghost use Rattle.simplex_theory.specs.States.{IsSolved};
-ghost use Rattle.first_best.specs.Outcomes.{GoesFirst, IsPairOn};
+ghost use Rattle.first_best.specs.Holding.{held_by};
+ghost use Rattle.first_best.specs.Outcomes.{GoesFirst, HasSystem, IsFace, IsPairOn};
 
 use crate::holding::{can_not_move, held_besides};
 use crate::moving::{Face, moved_first};
@@ -14,6 +15,22 @@ use exact_fraction::Exact;
 use linear_dict::Dict;
 use simplex_core::Solved;
 use std::alloc::Global;
+
+/// A face of one column more: as it is, where the column can't move.
+fn further<N: Exact>(alloc: Global, face: Face<N>, name: u32) -> Result<Face<N>, FirstStop<N>>
+    requires face { (names : List ℕ) × IsFace face.dict names (held_by face.dict.names face.held.items) }
+    requires column { Contains face.dict.columns name }
+    ensures same { IfOk result (λ next. HasSystem face.dict next.dict) }
+    ensures face { (names : List ℕ) → IsFace face.dict names (held_by face.dict.names face.held.items)
+        → IfOk result (λ next. IsFace next.dict (names ++ name ∷ []) (held_by next.dict.names next.held.items)) }
+    ensures pair { IfErr result (IsPairOn N.value N.bound face.dict) }
+{
+    if can_not_move(&face.dict, &face.held, name) {
+        Ok(face)
+    } else {
+        moved_first(alloc, face, name)
+    }
+}
 
 /// Of the best values of a solved system those that go first in this order of columns: that have more of the first one in which two of
 /// them differ. Prices, bounds and reduced prices stay, and each variable that has a reduced price stands where it stood.
@@ -32,10 +49,7 @@ pub fn first_of_best<N: Exact>(
     let held = held_besides(alloc, &dict, &[])?;
     let mut face = Face { dict, held };
     for place in 0..order.len() {
-        let name = order[place];
-        if !can_not_move(&face.dict, &face.held, name) {
-            face = moved_first(alloc, face, name)?;
-        }
+        face = further(alloc, face, order[place])?;
     }
     Ok(face.dict)
 }
