@@ -572,7 +572,7 @@ module _ (m : Parts) (ts : List Taking) (e : Dictionary) (holds : HoldsSystem m 
   named_here w c = subst (λ (ws : List ℕ). Contains ws w) (sym holds.same.same_rows.variables ∙ names_are e holds.holds.sound) c
 
   module _ (market : IsMarket m) where
-    solved_at : IsSolved (system_in e) (state_of e) → IsSolved (system_of m (taken_of ts)) (state_at (system_of m (taken_of ts)) (choice_of e))
+    pub solved_at : IsSolved (system_in e) (state_of e) → IsSolved (system_of m (taken_of ts)) (state_at (system_of m (taken_of ts)) (choice_of e))
     unfolding state_of
     solved_at solved = alike_solved (system_of m (taken_of ts)) (system m market ts) (state_of e) (state_at (system_of m (taken_of ts)) (choice_of e)) refl
         (λ w c. shown_value w (named_here w c)) (λ w c. shown_reduced w (named_here w c))

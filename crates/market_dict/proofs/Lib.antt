@@ -1,5 +1,6 @@
 pub mod ColumnLists
 pub mod EntryLemmas
+pub mod FirstLemmas
 pub mod FlowLemmas
 pub mod HoldingLaws
 pub mod PosingLemmas

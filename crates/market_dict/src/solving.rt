@@ -1,7 +1,12 @@
 //! From a posed dictionary of a market to a best dispatch for the limits and rooms taken, or to duals that show that none is feasible.
 
 ghost use Rattle.std.specs.Prelude.{List, IfOk, IfErr};
+ghost use Rattle.linear_dict.specs.Causes.{IsPairOf};
 ghost use Rattle.linear_dict.specs.Dictionaries.{system_in};
+ghost use Rattle.first_best.specs.Outcomes.{GoesFirst};
+ghost use Rattle.market_model.specs.Stops.{OnPassed};
+ghost use Rattle.market_system.specs.Ties.{dispatch_names};
+ghost use Rattle.optimal_face.specs.FirstPoints.{IsFirstBest};
 ghost use Rattle.simplex_core.specs.Outcomes.{IsEmptyAt, ShowsChoice};
 ghost use Rattle.simplex_core.specs.States.{state_of};
 ghost use Rattle.simplex_theory.specs.States.{IsSolved};
@@ -9,19 +14,21 @@ ghost use Rattle.market_dict.specs.Findings.{IsFound, IsPairOver};
 ghost use Rattle.market_dict.specs.Holding.{HoldsSystem};
 ghost use Rattle.market_dict.specs.declared.taking.Taking.{Taking};
 
+use crate::names::first_names;
 use crate::reading::{dispatch, margin, reserved, stuck_duals};
 use exact_fraction::Exact;
+use first_best::{FirstStop, first_of_best};
 use linear_dict::Dict;
 use market_model::{Duals, Market, Stop};
 use plain_list::{List, Memory};
-use simplex_core::{Posed, Run};
+use simplex_core::{Posed, Run, Solved};
 use std::alloc::Global;
 
 /// What a market comes to over the limits and rooms taken, with the dictionary as it can be posed again.
 #[derive(Drop)]
 pub enum Found<N: Exact> {
-    /// The accepted MW of each block and of each offer of reserve, in 10^-9, of a best dispatch for these limits and rooms. The duals that
-    /// the dictionary has support it.
+    /// The accepted MW of each block and of each offer of reserve, in 10^-9, of the dispatch that goes first of the best ones for these
+    /// limits and rooms. The duals that the dictionary has support it.
     Best {
         dict: Dict<N>,
         dispatch: List<N>,
@@ -36,11 +43,29 @@ pub enum Found<N: Exact> {
     },
 }
 
+/// Of the best points of a solved dictionary the one that goes first in the market's order: of its blocks, and then of its offers of reserve.
+fn first<N: Exact>(alloc: Global, market: &Market, solved: Solved<N>) -> Result<Dict<N>, Stop<N>>
+    requires holds { (ts : List Taking) × HoldsSystem market.now ts solved }
+    requires shows { ShowsChoice solved }
+    requires solved { IsSolved (system_in solved) (state_of solved) }
+    ensures first { IfOk result (GoesFirst solved (dispatch_names market.now)) }
+    ensures pair { IfErr result (λ stop. OnPassed stop (IsPairOf N.value N.bound (system_in solved))) }
+{
+    let _lines = market.lines();
+    let order = first_names(alloc, market)?;
+    match first_of_best(alloc, solved, order.slice()) {
+        Ok(dict) => Ok(dict),
+        Err(FirstStop::Passed(passed)) => Err(Stop::Passed(passed)),
+        Err(FirstStop::Memory) => Err(Stop::Memory),
+    }
+}
+
 /// The best dispatch that a solved dictionary shows.
 fn best<N: Exact>(alloc: Global, market: &Market, dict: Dict<N>) -> Result<Found<N>, Memory>
     requires holds { (ts : List Taking) × HoldsSystem market.now ts dict }
     requires shows { ShowsChoice dict }
     requires solved { IsSolved (system_in dict) (state_of dict) }
+    requires first { IsFirstBest (system_in dict) (dispatch_names market.now) (state_of dict).value }
     ensures { (ts : List Taking) → HoldsSystem market.now ts dict → IfOk result (IsFound N.value market.now ts) }
 {
     let _lines = market.lines();
@@ -84,7 +109,10 @@ pub fn solve<N: Exact>(alloc: Global, market: &Market, posed: Posed<N>) -> Resul
     ensures pair { (ts : List Taking) → HoldsSystem market.now ts posed → IfErr result (IsPairOver N.value N.bound market.now ts) }
 {
     match posed.run() {
-        Run::Solved(solved) => Ok(best(alloc, market, solved.into_dict())?),
+        Run::Solved(solved) => {
+            let dict = first(alloc, market, solved)?;
+            Ok(best(alloc, market, dict)?)
+        }
         Run::Empty { dict, row, above } => nothing(alloc, market, dict, row, above),
         Run::Passed(passed) => Err(Stop::Passed(passed)),
     }

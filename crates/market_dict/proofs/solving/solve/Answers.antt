@@ -7,10 +7,11 @@ use Rattle.market_dict.specs.Takings.{taken_of}
 use Rattle.market_dict.proofs.HoldingLaws.{holds_kept}
 use Rattle.market_dict.proofs.solving.solve.Goals as goal
 
-pub returns-in_ok-best-in-Solved-clause-found : goal.returns-in_ok-best-in-Solved-clause-found
-returns-in_ok-best-in-Solved-clause-found g c = λ ts holds.
-    let m = c.args.market.now in
-    c.in_ok-best-in-Solved.ensures ts (subst (HoldsSystem m ts) (sym c.into_dict.ensures) (holds_kept m ts c.args.posed c.in-Solved.solved holds c.in-Solved.ensures.outcome.0))
+pub first-requires-clause-holds : goal.first-requires-clause-holds
+first-requires-clause-holds g c = ?
+
+pub best-requires-clause-holds : goal.best-requires-clause-holds
+best-requires-clause-holds g c = ?
 
 pub returns-in-Empty-clause-found : goal.returns-in-Empty-clause-found
 returns-in-Empty-clause-found g c = λ ts holds. c.nothing.ensures.found ts (holds_kept c.args.market.now ts c.args.posed c.in-Empty.dict holds c.in-Empty.ensures.outcome.0)
