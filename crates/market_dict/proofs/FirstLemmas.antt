@@ -3,12 +3,13 @@ use Rattle.std.specs.Prelude.{◌≡◌, ℕ, List, [], ◌++◌, map, slice_ind
 use Rattle.std.proofs.Common.{ap₂, sym, ◌∙◌, subst}
 use Rattle.std.proofs.lemmas.List.Elements.{Contains-append_left}
 use Rattle.fraction_theory.specs.Fraction.{Fraction}
+use Rattle.linear_dict.specs.Causes.{IsPairOf}
 use Rattle.linear_dict.specs.Dictionaries.{Dictionary, choice_of, system_in}
 use Rattle.linear_dict.proofs.SplitLemmas.{Contains-at}
 use Rattle.linear_system.specs.Choices.{value}
 use Rattle.linear_system.specs.SameSystems.{SameSystem}
 use Rattle.linear_system.specs.Systems.{System}
-use Rattle.linear_system.proofs.SameSystems.{turned_round}
+use Rattle.linear_system.proofs.SameSystems.{same_pair, turned_round}
 use Rattle.optimal_face.specs.FirstPoints.{IsFirstBest}
 use Rattle.optimal_face.proofs.FirstLemmas.{first_by_agreement}
 use Rattle.simplex_theory.specs.States.{IsSolved}
@@ -17,13 +18,17 @@ use Rattle.simplex_core.specs.Outcomes.{ShowsChoice}
 use Rattle.simplex_core.specs.States.{state_of}
 use Rattle.first_best.specs.Outcomes.{GoesFirst}
 use Rattle.market_model.specs.declared.participants.Parts.{Parts}
+use Rattle.market_model.specs.declared.stops.Stop.{Stop}
+use Rattle.market_model.specs.declared.stops.Stop.TheVariants.{Passed as StoppedBy, Memory as NoMemory}
 use Rattle.market_model.specs.Market.{IsMarket}
+use Rattle.market_model.specs.Stops.{OnPassed}
 use Rattle.market_system.specs.declared.variables.Variable.{Variable}
 use Rattle.market_system.specs.MarketSystem.{block_columns, choice_dispatch, excess_columns, name, offer_columns, system_of}
 use Rattle.market_system.proofs.VariableLaws.{block_names, in_mapped, mapped, offer_names}
 use Rattle.market_system.specs.Ties.{IsFirstFor, dispatch_names}
 use Rattle.one_dispatch.proofs.PointOrder.{law_of_the_point}
 use Rattle.market_dict.specs.declared.taking.Taking.{Taking}
+use Rattle.market_dict.specs.Findings.{IsPairOver}
 use Rattle.market_dict.specs.Holding.{HoldsSystem}
 use Rattle.market_dict.specs.Takings.{columns_put, limits_of, taken_of}
 use Rattle.market_dict.proofs.ColumnLists.{columns_none, mapped_none}
@@ -73,3 +78,9 @@ module _ (m : Parts) (ts : List Taking) (e : Dictionary) (market : IsMarket m) (
       let c : Contains (dispatch_names m) (slice_index (dispatch_names m) k) = Contains-at (dispatch_names m) k l in
       let column = order_columns m ts e holds (slice_index (dispatch_names m) k) (subst (λ (ws : List ℕ). Contains ws (slice_index (dispatch_names m) k)) (sym (order_is m)) c) in
       value_at (slice_index (dispatch_names m) k) (holds.holds.sound.put_in.second_named (slice_index (dispatch_names m) k) column)))
+
+-- a working pair of its system is one of the market's
+pub pair_over : {N : Type 0} (value_of : N → Fraction) (bound : ℕ) (m : Parts) (ts : List Taking) (d : Dictionary) (stop : Stop N) → HoldsSystem m ts d
+    → OnPassed stop (IsPairOf value_of bound (system_in d)) → IsPairOver value_of bound m ts stop
+pair_over value_of bound m ts d (StoppedBy p) holds pair = same_pair (system_in d) (system_of m (taken_of ts)) holds.same bound p.op (value_of p.left) (value_of p.right) pair
+pair_over value_of bound m ts d NoMemory holds pair = pair
