@@ -16,18 +16,20 @@ use Rattle.market_model.specs.Market.{IsMarket}
 use Rattle.market_model.specs.NamedSums.{IsRefusedIn}
 use Rattle.market_model.proofs.SumParts.{flow_carried}
 use Rattle.market_model.specs.SumTables.{IsFlowRefusal, IsRefusedAmong, factor_of_pickup, flow_of_row, limited_row, FlowSum, flow_in_limits, PriceSum, reserve_in_room, RoomSum, IsRefusedInPrices, left_of_all, paid_by_load, paid_for_reserve, paid_to_unit, rent_of_row, SettledSum, own_price_of_unit, paid_output, paid_price, demand_of_bus, payment, paid_row, WelfareSum}
-use Rattle.market_model.specs.Optimality.{names_row, Feasible, Supports, ProperDuals, bus_price, own_terms, ArePricesOf, BestFor}
+use Rattle.market_model.specs.Optimality.{all_of, names_row, Feasible, Supports, ProperDuals, bus_price, own_terms, ArePricesOf, BestFor}
 use Rattle.market_model.specs.Settlement.{load_terms, rent_terms, reserve_term, surplus_terms, unit_terms}
 use Rattle.market_system.specs.Growth.{PricesOnly}
 use Rattle.market_system.specs.MarketNumbers.{IsRightChoice, IsInjecting, factor_of, of_flow, of_price, of_reserve, of_welfare, of_settlement}
 use Rattle.market_system.specs.MarketSystem.{system_of, choice_dispatch}
 use Rattle.market_system.specs.PairLaw.{RefusalsArePairs}
-use Rattle.market_system.specs.SolvedLaws.{SupportsFor}
+use Rattle.market_system.specs.SolvedLaws.{AreTaken, SupportsFor}
+use Rattle.market_system.specs.Ties.{IsFirstFor}
 use Rattle.market_system.specs.WorkingPairs.{IsRangeOf}
 use Rattle.market_system.proofs.DualLists.{prices_only-made}
 use Rattle.market_system.proofs.GrowthLaws.{growth_none}
 use Rattle.market_system.proofs.PairCases.{law_of_the_pairs}
 use Rattle.market_system.proofs.SolvedMarkets.{supports_by}
+use Rattle.one_dispatch.proofs.AllLimits.{law_of_all_limits}
 use Rattle.limit_rows.proofs.ApartLemmas.{names_apart}
 use Rattle.limit_screen.proofs.ScreenLemmas.{flow_refusal_same, row_terms}
 use Rattle.limit_screen.specs.Flows.{carried_at, flows_at, IsFlowsRefusal}
@@ -48,6 +50,10 @@ module _ (m : Parts) (ts : List Taking) (x : Dispatch) (d : Duals Fraction) (mar
   pub supports : KeepsAll m (limits_of ts) x → Supports m x d
   supports kept =
       supports_by m (limits_of ts) x d (subst₂ (SupportsFor m (limits_of ts)) (sym solved.dispatch) (sym solved.duals) solved.answers.supported) (λ r c new. (kept.limits r c).limit new)
+
+  -- where all limits and rooms are kept, it goes first not only of the best for what is taken, but of the best for all
+  pub first_of_all : AreTaken m (taken_of ts) → KeepsAll m (limits_of ts) x → IsFirstFor m (all_of m) x
+  first_of_all are kept = law_of_all_limits m (taken_of ts) x market are solved.first (kept_feasible m market ts x best_for kept) (λ r c new. (kept.limits r c).limit new)
 
   pub proper : ProperDuals m d
   proper = subst (ProperDuals m) (sym solved.duals) solved.answers.proper

@@ -108,7 +108,7 @@ module _ {N : Type 0} (worth : N → Fraction) (bound : ℕ) (m : Parts) (before
     pub answered_clear : (a : Answer N) → e.answer ≡ Ok a → ClearComesTo worth bound m before (Ok a) after
     answered_clear a is =
         let end : IsEnd worth m (limits_of e.taken.takings) (Ok a) = subst (λ (r : Result (Answer N) (Farkas N)). IsEnd worth m (limits_of e.taken.takings) r) is ended.end in
-        record { rows = are; right = end.1; taken = subst (Growth m before) (sym same) grown; priced = subst (λ g. PricesOnly m g (duals_at worth a.duals)) (sym same) end.2 }
+        record { rows = are; right = (end.1, end.2); taken = subst (Growth m before) (sym same) grown; priced = subst (λ g. PricesOnly m g (duals_at worth a.duals)) (sym same) end.3 }
 
     pub infeasible_clear : (f : Farkas N) → e.answer ≡ Err f → ClearComesTo worth bound m before (Err (why.Infeasible f)) after
     infeasible_clear f is =

@@ -12,10 +12,12 @@ use Rattle.market_model.specs.Fitting.{FitsMarket}
 use Rattle.market_model.specs.Infeasibility.{IsFarkas}
 use Rattle.market_model.specs.declared.limits.Row.{Row}
 use Rattle.market_model.specs.LimitRows.{carried}
-use Rattle.market_model.specs.RightAnswers.{IsRight}
+use Rattle.market_model.specs.Optimality.{all_of}
+use Rattle.market_model.specs.RightAnswers.{IsRight, dispatch_in}
 use Rattle.market_model.specs.SumTables.{IsRefusedAmong, RoomSum}
 use Rattle.market_model.specs.Valued.{answer_at, duals_at, farkas_at}
 use Rattle.market_system.specs.Growth.{PricesOnly}
+use Rattle.market_system.specs.Ties.{IsFirstFor}
 use Rattle.market_system.specs.WorkingPairs.{IsRangeOf}
 use Rattle.limit_screen.specs.Flows.{carried_at, flows_at, IsFlowsRefusal}
 use Rattle.limit_screen.specs.Rooms.{AllKeepRooms, IsWorstRoom}
@@ -69,9 +71,10 @@ IsScreened value m taken x (screened.Within flows) = KeepsAll m taken x × (map 
 abbrev pub IsLookRefusal : Parts → Dispatch → ℕ → Passed Fraction → Type 0
 IsLookRefusal m x bound p = IsFlowsRefusal m x bound p ⊎ IsAnyFlowRefusal m (carried_at m (flows_at m x)) bound p ⊎ IsRefusedAmong (RoomSum m x) bound p
 
--- a right answer, or duals that show that nothing is feasible, with prices of no other rows
+-- a right answer, whose dispatch is of all the best the one that goes first, or duals that show that nothing is feasible, with prices of no
+-- other rows
 abbrev pub IsEnd : {N : Type 0} → (N → Fraction) → Parts → List Row → Result (Answer N) (Farkas N) → Type 0
-IsEnd value m g (Ok a) = FitsMarket m a × IsRight m (answer_at value a) × PricesOnly m g (duals_at value a.duals)
+IsEnd value m g (Ok a) = FitsMarket m a × IsRight m (answer_at value a) × IsFirstFor m (all_of m) (dispatch_in (answer_at value a)) × PricesOnly m g (duals_at value a.duals)
 IsEnd value m g (Err f) = IsFarkas m (farkas_at value f) × PricesOnly m g (duals_at value f.duals)
 
 -- the clear ends so, with a dictionary that holds the market over what is taken

@@ -4,7 +4,7 @@ ghost use Rattle.std.specs.Prelude.{◌≡◌, List, map, IfOk, IfErr};
 ghost use Rattle.market_model.specs.Dispatch.{dispatch_with};
 ghost use Rattle.market_model.specs.Fitting.{FitsMarket};
 ghost use Rattle.market_model.specs.Optimality.{ProperDuals};
-ghost use Rattle.market_model.specs.RightAnswers.{IsRight, prices_made};
+ghost use Rattle.market_model.specs.RightAnswers.{IsRight, dispatch_in, prices_made};
 ghost use Rattle.market_model.specs.Stops.{StopsBy};
 ghost use Rattle.market_model.specs.SumTables.{IsRefusedInPrices};
 ghost use Rattle.market_model.specs.Valued.{answer_at, duals_at, price_at};
@@ -58,6 +58,7 @@ pub(crate) fn answer_of<N: Exact>(
     requires flows { map N.value flows.now ≡ flows_at market.now (dispatch_with (map N.value dispatch) (map N.value reserve)) }
     ensures fits { IfOk result (FitsMarket market.now) }
     ensures right { IfOk result (λ answer. IsRight market.now (answer_at N.value answer)) }
+    ensures dispatch { IfOk result (λ answer. dispatch_in (answer_at N.value answer) ≡ dispatch_with (map N.value dispatch) (map N.value reserve)) }
     ensures duals { IfOk result (λ answer. answer.duals ≡ duals) }
     ensures stops { (ts : List Taking) → IsSolution market.now ts (dispatch_with (map N.value dispatch) (map N.value reserve)) (duals_at N.value duals) → IfErr result (StopsInRange N.value N.bound market.now (limits_of ts)) }
 {

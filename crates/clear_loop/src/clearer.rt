@@ -129,11 +129,11 @@ impl<N: Exact> Clearer<N> {
         }
     }
 
-    /// Clears a market: a best dispatch over all its limits and rooms with prices that support it, duals that show that no dispatch is
-    /// feasible, or two numbers that together are too large. Each round takes a limit or a room that is new, so it ends; and only one that
-    /// a best dispatch for those in hand passes. After an answer and after `Infeasible` the dictionary with what is taken is kept; after
-    /// `Range` and `Memory` nothing is, so that the next clear starts without limits and rooms. A clearer that keeps nothing fits every
-    /// market; what is kept has to be of the market's frame, and edits keep it so (`laws::start_is_of_the_frame`).
+    /// Clears a market: of the best dispatches over all its limits and rooms the one that goes first, with prices that support it, duals that
+    /// show that no dispatch is feasible, or two numbers that together are too large. Each round takes a limit or a room that is new, so it
+    /// ends; and only one that a best dispatch for those in hand passes. After an answer and after `Infeasible` the dictionary with what is
+    /// taken is kept; after `Range` and `Memory` nothing is, so that the next clear starts without limits and rooms. A clearer that keeps
+    /// nothing fits every market; what is kept has to be of the market's frame, and edits keep it so (`laws::start_is_of_the_frame`).
     pub fn clear(&mut self, alloc: Global, market: &Market) -> Result<Answer<N>, ClearFault<N>>
         requires frame { FitsFrame market.now self.old }
         ensures fits { IfOk result (FitsMarket market.now) }

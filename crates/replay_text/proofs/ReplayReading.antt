@@ -4,6 +4,7 @@ use Rattle.std.proofs.Common.{arith, ap, sym, ◌∙◌, append_assoc}
 use Rattle.std.proofs.lemmas.List.{append_cancel_left}
 use Rattle.fraction_theory.specs.Fraction.{Fraction}
 use Rattle.market_model.specs.declared.participants.Parts.{Parts}
+use Rattle.market_system.proofs.Completeness.{right_by}
 use Rattle.market_dict.specs.declared.taking.Taking.{Taking}
 use Rattle.offer_book.specs.declared.edit_parts.EditFault.{EditFault}
 use Rattle.edit_table.specs.declared.Step.{Step}
@@ -87,7 +88,7 @@ reply_fits bound m before after (step.Edit e) (reply.Refused f) is = tt
 reply_fits bound m before after (step.Edit e) (reply.Clear o) none = absurd none
 reply_fits bound m before after step.Clear reply.Accepted none = absurd none
 reply_fits bound m before after step.Clear (reply.Refused f) none = absurd none
-reply_fits bound m before after step.Clear (reply.Clear o) is = outcome_fits _ m o is.0.right
+reply_fits bound m before after step.Clear (reply.Clear o) is = outcome_fits _ m o (right_by bound m _ o is.0.right)
 
 pub replay_fits : (bound : ℕ) (m : Parts) (before after : List Taking) (steps : List Step) (os : List (StepOutcome Fraction)) → IsReplay bound m before steps os after → OutcomesFit m steps os
 replay_fits bound m before after [] [] replay = tt
