@@ -137,7 +137,9 @@ law_of_cleared law_of_reserve words files text s m a place prints reports =
 
 -- ---- which dispatch
 pub law_of_first_dispatch : LawOfFirstDispatch
-law_of_first_dispatch words files text s m a place prints reports = (reported words files text s m (outcome.Cleared a) place _ (printed words files text s prints) reports).right.1
+law_of_first_dispatch words files text s m a place prints reports =
+    let is = reported words files text s m (outcome.Cleared a) place _ (printed words files text s prints) reports in
+    is.right.1
 
 -- right answers of one dispatch
 tell-same : (m : Parts) (a b : Answer Fraction) → IsRight m a → IsRight m b → dispatch_in a ≡ dispatch_in b → TellSame m a b
@@ -159,7 +161,9 @@ pub law_of_surplus : LawOfItsSign → LawOfSurplus
 unfolding surplus
 law_of_surplus law_of_its_sign words files text s m a place prints reports within =
     let is = reported words files text s m (outcome.Cleared a) place _ (printed words files text s prints) reports in
-    subst (λ (x : Fraction). zero ≤ℚ x) (sym (ap (λ (b : Answer Fraction). b.money.surplus) is.right.0.made)) (law_of_its_sign m a.duals (dispatch_in a) is.market is.right.0.feasible is.right.0.supported within)
+    let right : IsRight m a = is.right.0 in
+    subst (λ (x : Fraction). zero ≤ℚ x) (sym (ap (λ (b : Answer Fraction). b.money.surplus) right.made))
+    (law_of_its_sign m a.duals (dispatch_in a) is.market right.feasible right.supported within)
 
 pub law_of_infeasible : LawOfInfeasible
 law_of_infeasible words files text s m f place prints reports =
@@ -404,7 +408,8 @@ law_of_certificate words files later text s names file m o clear now asked marke
     let p = printed words files text s clear in
     let bound = most_of names.bits in
     let tells = subst (λ b. TellsClear b m p.telling) (clear-bits files words names (Some file) m asked market) (clear-told files words p.telling p.written (Ok m) p.answers market) in
-    let same : tells.1.outcome ≡ o = reports_apart m tells.1.outcome o (outcome_fits _ m tells.1.outcome (right_by bound m [] tells.1.outcome tells.1.right)) fits (sym tells.1.told.text_is ∙ p.text_is ∙ is) in
+    let fit = outcome_fits _ m tells.1.outcome (right_by bound m [] tells.1.outcome tells.1.right) in
+    let same : tells.1.outcome ≡ o = reports_apart m tells.1.outcome o fit fits (sym tells.1.told.text_is ∙ p.text_is ∙ is) in
     let put : p.telling.outputs.certificate ≡ certificate_of m.factor_places m.reserve.listed o = ap (λ (x : Outputs (List ℕ)). x.certificate) tells.1.told.certificate_is ∙ ap (certificate_of m.factor_places m.reserve.listed) same in
     let written = clear-written files words p.telling p.written names (Some file) asked p.answers ∙ ap (λ c. named_bytes (Some file) c []) put in
     certificate-kept (Certifies bound m) (cert_of_outcome m.factor_places m.reserve.listed o) (files file) (later file) (kept-as files later file (certificate_of m.factor_places m.reserve.listed o) p.written clear.after.files written now p.kept)

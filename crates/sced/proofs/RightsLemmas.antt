@@ -70,7 +70,8 @@ module _ (bound : ℕ) (m : Parts) (rights : List TransmissionRight) (t : Tellin
         subst (λ z. (payments_of price rights).total ≤ℚ z) (sym (ap (λ (b : Answer Fraction). b.money.surplus) right.made))
         (law_of_payments m a.duals (dispatch_in a) price rights market (record { prices = prices-of m a right; feasible = right.feasible; supported = right.supported }) held is-fit)
 
-    of-answer : (a : Answer Fraction) → IsRight m a → IsFirstFor m (all_of m) (dispatch_in a) → IsAnswerWithin bound a → TellsFit bound m rights (total_at (λ x. x) a.prices) (report_text m (outcome.Cleared a)) t → IsEntitled bound m rights text s
+    of-answer : (a : Answer Fraction) → IsRight m a → IsFirstFor m (all_of m) (dispatch_in a) → IsAnswerWithin bound a
+        → TellsFit bound m rights (total_at (λ x. x) a.prices) (report_text m (outcome.Cleared a)) t → IsEntitled bound m rights text s
     of-answer a right first numbers (fitted fit.Fits is-fit flow pays is) =
         let best = right-best law_of_reserve m a market right in
         as-told _ is (rights_fit a best.0 first best.1 numbers pays ((law_of_the_fit m rights fit.Fits is-fit).0 refl) refl (covered a right is-fit))

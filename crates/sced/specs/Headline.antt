@@ -326,8 +326,9 @@ LawOfRoundTrip = (words again : List (List ℕ)) (files later : Files) (text ans
     → ((t ≡ status.Done) × (answer ≡ codes "yes\n")) ⊎ (t ≡ status.Range)
 
 -- ---- rights
--- Each number that is told is within the bound. The market is cleared, best, first and priced as above, and behind the report stand whether limits could carry the rights together and what each is
--- paid by the bus prices that are printed. Where they could, the rights are paid no more than the surplus; where not, the first limit that is broken is told.
+-- Each number that is told is within the bound. The market is cleared, best, first and priced as above, and behind the report stand whether limits
+-- could carry the rights together and what each is paid by the bus prices that are printed. Where they could, the rights are paid no more than the
+-- surplus; where not, the first limit that is broken is told.
 -- Or the report stands alone: that nothing qualifies, or two numbers that are a working pair of the market and pass the bound; where no
 -- working pair passes, this never comes. Or in place of the lines on rights stand two numbers of a sum of these.
 pub data IsEntitled (bound : ℕ) (m : Parts) (rights : List TransmissionRight) (text : List ℕ) : Status → Type 0 where
