@@ -15,6 +15,7 @@ use Rattle.market_model.specs.declared.participants.Parts.{Parts}
 use Rattle.market_model.specs.declared.participants.TransmissionRight.{TransmissionRight}
 use Rattle.market_model.specs.Dispatch.{zero}
 use Rattle.market_model.specs.Valued.{total_at}
+use Rattle.market_system.proofs.Completeness.{right_by}
 use Rattle.report_text.specs.ReportLaws.{OutcomeFitsReport}
 use Rattle.report_text.specs.Reports.{cleared_text, head_text, infeasible_text, range_text, row_text}
 use Rattle.report_text.proofs.Amounts.{head_of, named_apart, one_apart}
@@ -184,8 +185,8 @@ outcome_told bound m rights (outcome.Range p) t fits e = record { report = range
 
 pub law_of_the_rights_telling : LawOfTheRightsTelling
 law_of_the_rights_telling bound m rights others t u x y e =
-    let first = outcome_told bound m rights x.outcome t (outcome_fits _ m x.outcome x.right) x.told in
-    let second = outcome_told bound m others y.outcome u (outcome_fits _ m y.outcome y.right) y.told in
+    let first = outcome_told bound m rights x.outcome t (outcome_fits _ m x.outcome (right_by bound m [] x.outcome x.right)) x.told in
+    let second = outcome_told bound m others y.outcome u (outcome_fits _ m y.outcome (right_by bound m [] y.outcome y.right)) y.told in
     let same : first.report ≡ second.report = law_of_the_rights_text m first.report second.report first.fits second.fits
     (sym (ap (λ (z : Telling). z.text) first.told) ∙ e ∙ ap (λ (z : Telling). z.text) second.told) in
     (sym first.outcome ∙ ap outcome_in same ∙ second.outcome, first.told ∙ ap (λ (r : RightsReport). uncertified (status_of r) (rights_report_text m r)) same ∙ sym second.told)

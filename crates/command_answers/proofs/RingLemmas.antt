@@ -8,10 +8,12 @@ use Rattle.market_model.specs.declared.answered.Farkas.{Farkas}
 use Rattle.market_model.specs.declared.answered.Outcome.{Outcome}
 use Rattle.market_model.specs.declared.answered.Outcome.TheVariants as outcome
 use Rattle.market_model.specs.Market.{IsMarket}
-use Rattle.market_model.specs.Optimality.{Feasible}
+use Rattle.market_model.specs.Optimality.{Feasible, all_of}
+use Rattle.market_model.specs.RightAnswers.{dispatch_in}
 use Rattle.market_model.specs.Valued.{answer_at, farkas_at, outcome_at, passed_at}
 use Rattle.market_model.proofs.FarkasLaw.{law_of_infeasibility}
 use Rattle.market_system.specs.Outcomes.{IsRightOutcome}
+use Rattle.market_system.specs.Ties.{IsFirstFor}
 use Rattle.report_text.specs.Reports.{report_text}
 use Rattle.case_maker.specs.Rings.{ring_of}
 use Rattle.case_maker.proofs.Serving.{is-feasible, serving}
@@ -25,7 +27,9 @@ module _ {N : Type 0} (value : N → Fraction) (bound : ℕ) (buses seed : ℕ) 
   ring_cleared a t market is within told =
       let here = subst (λ (x : Outcome N). IsRightOutcome bound m [] (outcome_at value x)) is right in
       let numbers : IsAnswerWithin bound (answer_at value a) = subst (λ (x : Outcome N). IsOutcomeWithin bound (outcome_at value x)) is within in
-      cleared (answer_at value a) (subst IsMarket ring market) (rw ring at here) numbers (rw ring at told)
+      let right_here = here.0 in
+      let first = subst (λ (x : Parts). IsFirstFor x (all_of x) (dispatch_in (answer_at value a))) ring here.1 in
+      cleared (answer_at value a) (subst IsMarket ring market) (rw ring at right_here) first numbers (rw ring at told)
 
   pub ring_passed : (p : Passed N) (t : Telling) → o ≡ outcome.Range p → IsOutcomeWithin bound (outcome_at value o)
       → t ≡ uncertified status.Range ((title buses seed ++ counts m) ++ report_text m (outcome_at value o)) → MakesTo bound buses seed t

@@ -68,7 +68,7 @@ module _ (bound : ℕ) where
       → IfSome (cert_of_outcome m.factor_places m.reserve.listed o) (NumbersFit bound) → certificate_of m.factor_places m.reserve.listed o ≡ Some text
       → (c : Cert Fraction) × (cert_of_outcome m.factor_places m.reserve.listed o ≡ Some c) × Certifies bound m text c
   of_outcome m taken (outcome.Cleared a) text market right fits is =
-      let c = cert_of m.factor_places m.reserve.listed a in (c, refl, certified m c text (law_of_right_answers m a market right) fits is)
+      let c = cert_of m.factor_places m.reserve.listed a in (c, refl, certified m c text (law_of_right_answers m a market right.0) fits is)
   of_outcome m taken (outcome.Infeasible f) text market right fits is =
       let c = cert_against m.factor_places m.reserve.listed f in (c, refl, certified m c text (law_of_farkas_duals m f market right) fits is)
   of_outcome m taken (outcome.Range p) text market right fits is = cc is

@@ -16,16 +16,20 @@ use Rattle.market_model.specs.declared.answered.ReservePay.{ReservePay}
 use Rattle.market_model.specs.declared.participants.Parts.{Parts}
 use Rattle.market_model.specs.declared.participants.TransmissionRight.{TransmissionRight}
 use Rattle.rights_test.specs.declared.right_parts.Fit.TheVariants as fit
-use Rattle.market_model.specs.Dispatch.{zero}
+use Rattle.market_model.specs.Dispatch.{Dispatch, zero}
+use Rattle.market_model.specs.LimitRows.{flow}
 use Rattle.market_model.specs.Laws.{LawOfItsSign, LawOfTheReserve}
 use Rattle.market_model.specs.Market.{IsMarket}
+use Rattle.market_model.specs.Optimality.{all_of, welfare}
 use Rattle.market_model.specs.Reserves.{offer_places}
 use Rattle.market_model.specs.RightAnswers.{IsRight, dispatch_in}
 use Rattle.market_model.specs.Settlement.{pay_of_reserve, surplus}
 use Rattle.market_model.proofs.FarkasLaw.{law_of_infeasibility}
 use Rattle.market_model.proofs.Optimum.{law_of_the_optimum, law_of_the_surplus}
+use Rattle.market_system.specs.Ties.{IsFirstFor}
 use Rattle.market_system.specs.WorkingPairs.{IsRangeOf}
-use Rattle.market_system.proofs.Completeness.{law_of_completeness, law_of_the_numbers}
+use Rattle.market_system.proofs.Completeness.{law_of_completeness, law_of_the_numbers, right_by}
+use Rattle.one_dispatch.specs.Laws as dispatches
 use Rattle.market_data.specs.declared.scales.FactorPlaces.{FactorPlaces}
 use Rattle.net_case.specs.declared.live_parts.PostRating.{PostRating}
 use Rattle.case_maker.specs.Rings.{ring_of}
@@ -85,7 +89,7 @@ use Rattle.command_answers.specs.Verifying.{TellsVerdict, VerifiesTo, judged, pa
 use Rattle.command_answers.specs.declared.status.Status.{Status}
 use Rattle.command_answers.specs.declared.status.Status.TheVariants as status
 use Rattle.sced.specs.Asked.{AsksForFactors, AsksMarket, AsksSteps, AsksVerdict, as_clear, as_pool, clear_bound}
-use Rattle.sced.specs.Headline.{HasCertificate, IsAsked, HasGreatestWelfare, IsFirstRefusal, IsRingText, IsPriced, IsReplayText, IsReported, IsVerdict, IsWithinBound, LawOfAsked, LawOfBounds, LawOfCertificate, LawOfCheck, LawOfCleared, LawOfComplete, LawOfFaults, LawOfInfeasible, LawOfLastCertificate, LawOfMake, LawOfOutside, LawOfRange, LawOfReplay, LawOfRoundTrip, LawOfSurplus, LawOfVerify, RefusesEdit, RefusesFactors, cleared_ring, for_check, for_clear, for_factors, for_holders, for_migration, for_nothing, for_rights, for_ring, for_steps, for_tables, for_verdict, no, passes, range_ring, to_check, to_clear, to_migrate, to_replay, to_verify, with_fault, yes}
+use Rattle.sced.specs.Headline.{HasCertificate, IsAsked, HasGreatestWelfare, IsFirstRefusal, IsRingText, IsPriced, IsReplayText, IsReported, IsVerdict, IsWithinBound, LawOfAsked, LawOfBounds, LawOfCertificate, LawOfCheck, LawOfCleared, LawOfComplete, LawOfFaults, LawOfFirstDispatch, LawOfInfeasible, LawOfLastCertificate, LawOfMake, LawOfOneDispatch, LawOfOutside, LawOfRange, LawOfReplay, LawOfRoundTrip, LawOfSurplus, LawOfVerify, RefusesEdit, RefusesFactors, TellSame, cleared_ring, for_check, for_clear, for_factors, for_holders, for_migration, for_nothing, for_rights, for_ring, for_steps, for_tables, for_verdict, no, passes, range_ring, to_check, to_clear, to_migrate, to_replay, to_verify, with_fault, yes}
 use Rattle.sced.specs.Runs.{KeepsWrites, Outside}
 use Rattle.sced.specs.Runs as ending
 use Rattle.sced.specs.Told.{Answers, AnswersTo, checked, cleared, entitled, factored, made, migrated, named_bytes, named_outputs, pooled, refused, replayed, verified}
@@ -129,13 +133,37 @@ right-best law_of_reserve m a market right = (
 pub law_of_cleared : LawOfTheReserve → LawOfCleared
 law_of_cleared law_of_reserve words files text s m a place prints reports =
     let is = reported words files text s m (outcome.Cleared a) place _ (printed words files text s prints) reports in
-    right-best law_of_reserve m a is.market is.right
+    right-best law_of_reserve m a is.market is.right.0
 
+-- ---- which dispatch
+pub law_of_first_dispatch : LawOfFirstDispatch
+law_of_first_dispatch words files text s m a place prints reports =
+    let is = reported words files text s m (outcome.Cleared a) place _ (printed words files text s prints) reports in
+    is.right.1
+
+-- right answers of one dispatch
+tell-same : (m : Parts) (a b : Answer Fraction) → IsRight m a → IsRight m b → dispatch_in a ≡ dispatch_in b → TellSame m a b
+tell-same m a b right other same = record {
+  dispatch = ap (λ (x : Dispatch). x.blocks) same;
+  reserve = ap (λ (x : Dispatch). x.reserve) same;
+  flows = λ r. ap (λ (x : Dispatch). flow m x r) same;
+  welfare = ap (λ (c : Answer Fraction). c.welfare) right.made ∙ ap (welfare m) same ∙ sym (ap (λ (c : Answer Fraction). c.welfare) other.made);
+}
+
+pub law_of_one_dispatch : dispatches.LawOfOneDispatch → LawOfOneDispatch
+law_of_one_dispatch law words others files beside text told s t m a b place at prints reports prints_too reports_too =
+    let is = reported words files text s m (outcome.Cleared a) place _ (printed words files text s prints) reports in
+    let too = reported others beside told t m (outcome.Cleared b) at _ (printed others beside told t prints_too) reports_too in
+    tell-same m a b is.right.0 too.right.0 (law m (all_of m) (dispatch_in a) (dispatch_in b) is.right.1 too.right.1)
+
+-- ---- surplus
 pub law_of_surplus : LawOfItsSign → LawOfSurplus
 unfolding surplus
 law_of_surplus law_of_its_sign words files text s m a place prints reports within =
     let is = reported words files text s m (outcome.Cleared a) place _ (printed words files text s prints) reports in
-    subst (λ (x : Fraction). zero ≤ℚ x) (sym (ap (λ (b : Answer Fraction). b.money.surplus) is.right.made)) (law_of_its_sign m a.duals (dispatch_in a) is.market is.right.feasible is.right.supported within)
+    let right : IsRight m a = is.right.0 in
+    subst (λ (x : Fraction). zero ≤ℚ x) (sym (ap (λ (b : Answer Fraction). b.money.surplus) right.made))
+    (law_of_its_sign m a.duals (dispatch_in a) is.market right.feasible right.supported within)
 
 pub law_of_infeasible : LawOfInfeasible
 law_of_infeasible words files text s m f place prints reports =
@@ -158,7 +186,7 @@ law_of_range words files text s m p place prints reports =
 market-reported : (bound : ℕ) (m : Parts) (t : Telling) (text : List ℕ) (s : Status) → t.text ≡ text → t.status ≡ s → TellsClear bound m t → IsReported m text s
 market-reported bound m t text s words ends (market, clears) = record {
   outcome = clears.outcome;
-  fits = outcome_fits _ m clears.outcome clears.right;
+  fits = outcome_fits _ m clears.outcome (right_by bound m [] clears.outcome clears.right);
   text_is = sym words ∙ clears.told.text_is;
   status_is = sym ends ∙ clears.told.status_is;
 }
@@ -380,7 +408,8 @@ law_of_certificate words files later text s names file m o clear now asked marke
     let p = printed words files text s clear in
     let bound = most_of names.bits in
     let tells = subst (λ b. TellsClear b m p.telling) (clear-bits files words names (Some file) m asked market) (clear-told files words p.telling p.written (Ok m) p.answers market) in
-    let same : tells.1.outcome ≡ o = reports_apart m tells.1.outcome o (outcome_fits _ m tells.1.outcome tells.1.right) fits (sym tells.1.told.text_is ∙ p.text_is ∙ is) in
+    let fit = outcome_fits _ m tells.1.outcome (right_by bound m [] tells.1.outcome tells.1.right) in
+    let same : tells.1.outcome ≡ o = reports_apart m tells.1.outcome o fit fits (sym tells.1.told.text_is ∙ p.text_is ∙ is) in
     let put : p.telling.outputs.certificate ≡ certificate_of m.factor_places m.reserve.listed o = ap (λ (x : Outputs (List ℕ)). x.certificate) tells.1.told.certificate_is ∙ ap (certificate_of m.factor_places m.reserve.listed) same in
     let written = clear-written files words p.telling p.written names (Some file) asked p.answers ∙ ap (λ c. named_bytes (Some file) c []) put in
     certificate-kept (Certifies bound m) (cert_of_outcome m.factor_places m.reserve.listed o) (files file) (later file) (kept-as files later file (certificate_of m.factor_places m.reserve.listed o) p.written clear.after.files written now p.kept)
@@ -596,7 +625,7 @@ module _ (words : List (List ℕ)) (files : Files) (text : List ℕ) (s : Status
         by (making_factors.stopped why stops tells) = none why stops tells
 
     of-ring : (buses seed : ℕ) → MakesTo (most_of Bits127) buses seed p.telling → Why
-    of-ring buses seed (making.cleared a market right within is) = let wrong : status.Done ≡ status.Refused = sym (ap (λ (t : Telling). t.status) is) ∙ bad in cc wrong
+    of-ring buses seed (making.cleared a market right first within is) = let wrong : status.Done ≡ status.Refused = sym (ap (λ (t : Telling). t.status) is) ∙ bad in cc wrong
     of-ring buses seed (making.passed q pair within is) = let wrong : status.Range ≡ status.Refused = sym (ap (λ (t : Telling). t.status) is) ∙ bad in cc wrong
 
     why-refused : (w : List (List ℕ × List ℕ)) → AnswersTo (Some files) words p.telling w → Why
@@ -624,18 +653,22 @@ law_of_faults words files text s prints =
     (fault-told words files text s _ p, λ is. why-refused words files text s _ p (p.status_is ∙ is) p.written p.answers)
 
 -- ---- make
+-- a right answer whose dispatch goes first
+abbrev IsRightFirst : Parts → Answer Fraction → Type 0
+IsRightFirst m a = IsRight m a × IsFirstFor m (all_of m) (dispatch_in a)
+
 ring-answer : (bound buses seed : ℕ) (t : Telling) → MakesTo bound buses seed t
-    → ((a : Answer Fraction) × IsMarket (ring_of buses seed) × IsRight (ring_of buses seed) a × IsAnswerWithin bound a × (t ≡ uncertified status.Done (making.ring_line buses seed ++ making.summary a)))
+    → ((a : Answer Fraction) × IsMarket (ring_of buses seed) × IsRightFirst (ring_of buses seed) a × IsAnswerWithin bound a × (t ≡ uncertified status.Done (making.ring_line buses seed ++ making.summary a)))
     ⊎ ((p : Passed Fraction) × IsRangeOf (ring_of buses seed) [] bound p × ArePassedWithin bound p × (t ≡ uncertified status.Range (making.ring_line buses seed ++ range_text p)))
-ring-answer bound buses seed t (making.cleared a market right within is) = inl (a, market, right, within, is)
+ring-answer bound buses seed t (making.cleared a market right first within is) = inl (a, market, (right, first), within, is)
 ring-answer bound buses seed t (making.passed q pair within is) = inr (q, pair, within, is)
 
 ring-made : LawOfTheReserve → (buses seed : ℕ) (t : Telling) (text : List ℕ) (s : Status) → t.text ≡ text → t.status ≡ s
-    → ((a : Answer Fraction) × IsMarket (ring_of buses seed) × IsRight (ring_of buses seed) a × IsAnswerWithin (most_of Bits127) a × (t ≡ uncertified status.Done (making.ring_line buses seed ++ making.summary a)))
+    → ((a : Answer Fraction) × IsMarket (ring_of buses seed) × IsRightFirst (ring_of buses seed) a × IsAnswerWithin (most_of Bits127) a × (t ≡ uncertified status.Done (making.ring_line buses seed ++ making.summary a)))
     ⊎ ((p : Passed Fraction) × IsRangeOf (ring_of buses seed) [] (most_of Bits127) p × ArePassedWithin (most_of Bits127) p × (t ≡ uncertified status.Range (making.ring_line buses seed ++ range_text p))) → IsRingText buses seed text s
 ring-made law_of_reserve buses seed t text s words ends (inl (a, market, right, within, is)) =
-    let best = right-best law_of_reserve (ring_of buses seed) a market right in
-    subst (IsRingText buses seed text) (sym (ap (λ (x : Telling). x.status) is) ∙ ends) (cleared_ring a best.0 best.1 within (sym words ∙ ap (λ (x : Telling). x.text) is))
+    let best = right-best law_of_reserve (ring_of buses seed) a market right.0 in
+    subst (IsRingText buses seed text) (sym (ap (λ (x : Telling). x.status) is) ∙ ends) (cleared_ring a best.0 right.1 best.1 within (sym words ∙ ap (λ (x : Telling). x.text) is))
 ring-made law_of_reserve buses seed t text s words ends (inr (p, pair, within, is)) =
     subst (IsRingText buses seed text) (sym (ap (λ (x : Telling). x.status) is) ∙ ends) (range_ring p pair within (sym words ∙ ap (λ (x : Telling). x.text) is))
 

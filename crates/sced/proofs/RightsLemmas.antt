@@ -13,7 +13,7 @@ use Rattle.market_model.specs.declared.participants.TransmissionRight.{Transmiss
 use Rattle.market_model.specs.Dispatch.{places, zero}
 use Rattle.market_model.specs.Laws.{LawOfTheReserve}
 use Rattle.market_model.specs.Market.{IsMarket}
-use Rattle.market_model.specs.Optimality.{bus_price, price_by, ArePricesOf}
+use Rattle.market_model.specs.Optimality.{all_of, bus_price, price_by, ArePricesOf}
 use Rattle.market_model.specs.RightAnswers.{IsRight, dispatch_in, price_made}
 use Rattle.market_model.specs.Rights.{IsTransmissionRight}
 use Rattle.market_model.specs.Settlement.{surplus}
@@ -22,6 +22,7 @@ use Rattle.market_model.proofs.FarkasLaw.{law_of_infeasibility}
 use Rattle.market_model.proofs.ListSteps.{map-map}
 use Rattle.market_model.proofs.PlaceLists.{filled_at}
 use Rattle.market_system.specs.Outcomes.{IsRightOutcome}
+use Rattle.market_system.specs.Ties.{IsFirstFor}
 use Rattle.rights_test.specs.declared.right_parts.Fit.TheVariants as fit
 use Rattle.rights_test.specs.Fits.{IsFit}
 use Rattle.rights_test.specs.Paid.{payments_of}
@@ -69,23 +70,24 @@ module _ (bound : ℕ) (m : Parts) (rights : List TransmissionRight) (t : Tellin
         subst (λ z. (payments_of price rights).total ≤ℚ z) (sym (ap (λ (b : Answer Fraction). b.money.surplus) right.made))
         (law_of_payments m a.duals (dispatch_in a) price rights market (record { prices = prices-of m a right; feasible = right.feasible; supported = right.supported }) held is-fit)
 
-    of-answer : (a : Answer Fraction) → IsRight m a → IsAnswerWithin bound a → TellsFit bound m rights (total_at (λ x. x) a.prices) (report_text m (outcome.Cleared a)) t → IsEntitled bound m rights text s
-    of-answer a right numbers (fitted fit.Fits is-fit flow pays is) =
+    of-answer : (a : Answer Fraction) → IsRight m a → IsFirstFor m (all_of m) (dispatch_in a) → IsAnswerWithin bound a
+        → TellsFit bound m rights (total_at (λ x. x) a.prices) (report_text m (outcome.Cleared a)) t → IsEntitled bound m rights text s
+    of-answer a right first numbers (fitted fit.Fits is-fit flow pays is) =
         let best = right-best law_of_reserve m a market right in
-        as-told _ is (rights_fit a best.0 best.1 numbers pays ((law_of_the_fit m rights fit.Fits is-fit).0 refl) refl (covered a right is-fit))
-    of-answer a right numbers (fitted (fit.Breaks row flow) is-fit within pays is) =
+        as-told _ is (rights_fit a best.0 first best.1 numbers pays ((law_of_the_fit m rights fit.Fits is-fit).0 refl) refl (covered a right is-fit))
+    of-answer a right first numbers (fitted (fit.Breaks row flow) is-fit within pays is) =
         let best = right-best law_of_reserve m a market right in
         let law = law_of_the_fit m rights (fit.Breaks row flow) is-fit in
-        as-told _ is (rights_break a row flow best.0 best.1 numbers within pays (λ feasible. other (law.1 feasible)) is-fit refl)
+        as-told _ is (rights_break a row flow best.0 first best.1 numbers within pays (λ feasible. other (law.1 feasible)) is-fit refl)
       where
         other : fit.Breaks row flow ≡ fit.Fits → ⊥
         other bad = cc bad
-    of-answer a right numbers (passed p pair within is) =
+    of-answer a right first numbers (passed p pair within is) =
         let best = right-best law_of_reserve m a market right in
-        as-told _ is (rights_pass a p best.0 best.1 numbers pair within refl)
+        as-told _ is (rights_pass a p best.0 first best.1 numbers pair within refl)
 
     of-outcome : (o : Outcome Fraction) → IsRightOutcome bound m [] o → IsOutcomeWithin bound o → TellsOutcome bound m rights o t → IsEntitled bound m rights text s
-    of-outcome (outcome.Cleared a) right within told = of-answer a right within told
+    of-outcome (outcome.Cleared a) right within told = of-answer a right.0 right.1 within told
     of-outcome (outcome.Infeasible f) right within is = as-told _ is (nothing_qualifies f (λ x. law_of_infeasibility m f.duals x market right.shows) right within refl)
     of-outcome (outcome.Range p) right within is = as-told _ is (clear_passes p right within refl)
 

@@ -12,6 +12,7 @@ use Rattle.market_model.specs.declared.limits.Row.{Row}
 use Rattle.market_model.specs.declared.participants.Parts.{Parts}
 use Rattle.market_model.specs.Market.{IsMarket}
 use Rattle.market_system.specs.Outcomes.{IsClear, IsRightOutcome}
+use Rattle.market_system.proofs.Completeness.{right_by}
 use Rattle.market_dict.specs.Takings.{limits_of}
 use Rattle.market_dict.specs.declared.taking.Taking.{Taking}
 use Rattle.offer_book.specs.Edits.{judge, answer}
@@ -199,7 +200,7 @@ pub record IsOutcomeOf (words : List (List ℕ)) (files : Files) (text : List �
 module _ (words : List (List ℕ)) (files : Files) (text : List ℕ) (m : Parts) (o : Outcome Fraction) (t : Telling) where
   clear-outcome : (asks : AsksMarket files words m) → OutcomeFitsReport m o → t.text ≡ report_text m o → TellsClear (clear_bound asks) m t → IsOutcomeOf words files text m o 0
   clear-outcome asks fits is (market, clears) =
-      let same : clears.outcome ≡ o = reports_apart m clears.outcome o (outcome_fits _ m clears.outcome clears.right) fits (sym clears.told.text_is ∙ is) in
+      let same : clears.outcome ≡ o = reports_apart m clears.outcome o (outcome_fits _ m clears.outcome (right_by (clear_bound asks) m [] clears.outcome clears.right)) fits (sym clears.told.text_is ∙ is) in
       record {
         market = market;
         taken = [];

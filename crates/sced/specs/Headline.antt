@@ -24,13 +24,14 @@ use Rattle.market_model.specs.Dispatch.{Dispatch, IsDispatch, balance, zero}
 use Rattle.market_model.specs.Infeasibility.{IsFarkas}
 use Rattle.market_model.specs.Laws.{HasOffsetsWithin}
 use Rattle.market_model.specs.LimitRows.{flow, most_flow, rows}
-use Rattle.market_model.specs.Optimality.{AreWithin, Feasible, ProperDuals, Supports, bus_price, welfare}
+use Rattle.market_model.specs.Optimality.{AreWithin, Feasible, ProperDuals, Supports, all_of, bus_price, welfare}
 use Rattle.market_model.specs.Reserves.{reserve, reserve_need, reserve_units, KeepRooms}
 use Rattle.market_model.specs.RightAnswers.{dispatch_in, settlement_at, prices_made}
 use Rattle.market_model.specs.Rights.{AreFeasibleTogether}
 use Rattle.market_model.specs.Settlement.{rent}
 use Rattle.market_model.specs.Valued.{total_at}
 use Rattle.market_system.specs.Outcomes.{IsDecided}
+use Rattle.market_system.specs.Ties.{IsFirstFor}
 use Rattle.market_system.specs.WorkingPairs.{AllNumbersFit, IsRangeOf, NoPairPasses}
 use Rattle.market_dict.specs.Takings.{limits_of}
 use Rattle.market_dict.specs.declared.taking.Taking.{Taking}
@@ -178,6 +179,27 @@ abbrev pub LawOfCleared : Type 0
 LawOfCleared = (words : List (List ℕ)) (files : Files) (text : List ℕ) (s : Status) (m : Parts) (a : Answer Fraction) (place : ℕ)
     → Prints words files text s → Reports words files text m (Cleared a) place → HasGreatestWelfare m (dispatch_in a) × IsPriced m a
 
+-- ---- which dispatch
+-- What is printed as cleared is of the market's best dispatches the one that goes first: none that is worth as much accepts more of the first
+-- block at which the two differ, or, where they accept the same of each block, of the first offer of reserve.
+abbrev pub LawOfFirstDispatch : Type 0
+LawOfFirstDispatch = (words : List (List ℕ)) (files : Files) (text : List ℕ) (s : Status) (m : Parts) (a : Answer Fraction) (place : ℕ)
+    → Prints words files text s → Reports words files text m (Cleared a) place → IsFirstFor m (all_of m) (dispatch_in a)
+
+-- two answers tell one dispatch of energy and of reserve, with one flow in each row, and one welfare; of duals and prices nothing is said
+pub record TellSame (m : Parts) (a b : Answer Fraction) : Type 0 where
+  pub dispatch : a.dispatch ≡ b.dispatch
+  pub reserve : a.reserve ≡ b.reserve
+  pub flows : (r : Row) → flow m (dispatch_in a) r ≡ flow m (dispatch_in b) r
+  pub welfare : a.welfare ≡ b.welfare
+
+-- what two runs print of one market as cleared tells the same, whatever else the words ask for and the files hold: whether it is one clear or one
+-- of a replay, what was cleared before, and by how many bits
+abbrev pub LawOfOneDispatch : Type 0
+LawOfOneDispatch = (words others : List (List ℕ)) (files beside : Files) (text told : List ℕ) (s t : Status) (m : Parts) (a b : Answer Fraction)
+    (place at : ℕ) → Prints words files text s → Reports words files text m (Cleared a) place
+    → Prints others beside told t → Reports others beside told m (Cleared b) at → TellSame m a b
+
 -- ---- surplus
 -- Where the fixed offset of each row that has a printed price above 0, of its upper or its lower limit, is within these limits, loads pay no less than
 -- units are paid for energy: the surplus that a pool, a clear or a replay prints is not negative.
@@ -304,16 +326,18 @@ LawOfRoundTrip = (words again : List (List ℕ)) (files later : Files) (text ans
     → ((t ≡ status.Done) × (answer ≡ codes "yes\n")) ⊎ (t ≡ status.Range)
 
 -- ---- rights
--- Each number that is told is within the bound. The market is cleared, best and priced as above, and behind the report stand whether limits could carry the rights together and what each is
--- paid by the bus prices that are printed. Where they could, the rights are paid no more than the surplus; where not, the first limit that is broken is told.
+-- Each number that is told is within the bound. The market is cleared, best, first and priced as above, and behind the report stand whether limits
+-- could carry the rights together and what each is paid by the bus prices that are printed. Where they could, the rights are paid no more than the
+-- surplus; where not, the first limit that is broken is told.
 -- Or the report stands alone: that nothing qualifies, or two numbers that are a working pair of the market and pass the bound; where no
 -- working pair passes, this never comes. Or in place of the lines on rights stand two numbers of a sum of these.
 pub data IsEntitled (bound : ℕ) (m : Parts) (rights : List TransmissionRight) (text : List ℕ) : Status → Type 0 where
-  rights_fit : (a : Answer Fraction) → HasGreatestWelfare m (dispatch_in a) → IsPriced m a → IsAnswerWithin bound a
+  rights_fit : (a : Answer Fraction) → HasGreatestWelfare m (dispatch_in a) → IsFirstFor m (all_of m) (dispatch_in a) → IsPriced m a → IsAnswerWithin bound a
       → ArePaymentsWithin bound (payments_of (total_at (λ x. x) a.prices) rights) → AreFeasibleTogether m rights
       → text ≡ report_text m (Cleared a) ++ rights_lines Fits (payments_of (total_at (λ x. x) a.prices) rights)
       → (payments_of (total_at (λ x. x) a.prices) rights).total ≤ℚ a.money.surplus → IsEntitled bound m rights text status.Done
-  rights_break : (a : Answer Fraction) (r : RowId) (flow : Fraction) → HasGreatestWelfare m (dispatch_in a) → IsPriced m a → IsAnswerWithin bound a → IsFitWithin bound (Breaks r flow)
+  rights_break : (a : Answer Fraction) (r : RowId) (flow : Fraction) → HasGreatestWelfare m (dispatch_in a) → IsFirstFor m (all_of m) (dispatch_in a) → IsPriced m a
+      → IsAnswerWithin bound a → IsFitWithin bound (Breaks r flow)
       → ArePaymentsWithin bound (payments_of (total_at (λ x. x) a.prices) rights) → ¬ (AreFeasibleTogether m rights)
       → IsFit m rights (Breaks r flow) → text ≡ report_text m (Cleared a) ++ rights_lines (Breaks r flow) (payments_of (total_at (λ x. x) a.prices) rights)
       → IsEntitled bound m rights text status.Refuted
@@ -321,7 +345,7 @@ pub data IsEntitled (bound : ℕ) (m : Parts) (rights : List TransmissionRight) 
       → IsEntitled bound m rights text status.Infeasible
   clear_passes : (p : Passed Fraction) → IsRangeOf m [] bound p → ArePassedWithin bound p → text ≡ report_text m (Range p)
       → IsEntitled bound m rights text status.Range
-  rights_pass : (a : Answer Fraction) (p : Passed Fraction) → HasGreatestWelfare m (dispatch_in a) → IsPriced m a → IsAnswerWithin bound a
+  rights_pass : (a : Answer Fraction) (p : Passed Fraction) → HasGreatestWelfare m (dispatch_in a) → IsFirstFor m (all_of m) (dispatch_in a) → IsPriced m a → IsAnswerWithin bound a
       → IsRightsRefusal m rights (total_at (λ x. x) a.prices) bound p → ArePassedWithin bound p → text ≡ report_text m (Cleared a) ++ range_text p
       → IsEntitled bound m rights text status.Range
 
@@ -427,10 +451,11 @@ LawOfFaults = (words : List (List ℕ)) (files : Files) (text : List ℕ) (s : S
     × (s ≡ status.Refused → ((r : Refusal) × IsFirstRefusal words files r × (text ≡ refusal_line r)) ⊎ RefusesEdit words files ⊎ RefusesFactors words files text)
 
 -- ---- make
--- the worth and the surplus of an answer that is best and priced, its numbers within 127 bits, or two numbers of the ring as above; where no
+-- the worth and the surplus of an answer that is best, first and priced, its numbers within 127 bits, or two numbers of the ring as above; where no
 -- pair passes it is cleared
 pub data IsRingText (buses seed : ℕ) (text : List ℕ) : Status → Type 0 where
-  cleared_ring : (a : Answer Fraction) → HasGreatestWelfare (ring_of buses seed) (dispatch_in a) → IsPriced (ring_of buses seed) a → IsAnswerWithin (most_of Bits127) a
+  cleared_ring : (a : Answer Fraction) → HasGreatestWelfare (ring_of buses seed) (dispatch_in a)
+      → IsFirstFor (ring_of buses seed) (all_of (ring_of buses seed)) (dispatch_in a) → IsPriced (ring_of buses seed) a → IsAnswerWithin (most_of Bits127) a
       → text ≡ ring_line buses seed ++ summary a → IsRingText buses seed text status.Done
   range_ring : (p : Passed Fraction) → IsRangeOf (ring_of buses seed) [] (most_of Bits127) p → ArePassedWithin (most_of Bits127) p → text ≡ ring_line buses seed ++ range_text p
       → IsRingText buses seed text status.Range

@@ -1,13 +1,14 @@
 //! What every run of the program means for those who read what it prints: laws that follow from what `run` promises, each the contract of a
 //! function that does nothing.
 
-ghost use Rattle.sced.specs.Headline.{LawOfAnswered, LawOfAsked, LawOfBounds, LawOfCauses, LawOfCertificate, LawOfCheck, LawOfCleared, LawOfComplete, LawOfCutShort, LawOfFactorCheck, LawOfFactors, LawOfFaults, LawOfInfeasible, LawOfLastCertificate, LawOfMake, LawOfMigrate, LawOfMissing, LawOfOutside, LawOfRange, LawOfReplay, LawOfRights, LawOfRoundTrip, LawOfSurplus, LawOfVerify};
+ghost use Rattle.sced.specs.Headline.{LawOfAnswered, LawOfAsked, LawOfBounds, LawOfCauses, LawOfCertificate, LawOfCheck, LawOfCleared, LawOfComplete, LawOfCutShort, LawOfFactorCheck, LawOfFactors, LawOfFaults, LawOfFirstDispatch, LawOfInfeasible, LawOfLastCertificate, LawOfMake, LawOfMigrate, LawOfMissing, LawOfOneDispatch, LawOfOutside, LawOfRange, LawOfReplay, LawOfRights, LawOfRoundTrip, LawOfSurplus, LawOfVerify};
 
 use factor_laws::laws::{
     loss_tables_are_explained, loss_tables_are_read_back, loss_tables_are_short,
     shift_tables_are_explained, shift_tables_are_read_back, shift_tables_are_short,
 };
 use market_model::laws::{reserve_is_paid_for_the_need, surplus_is_not_negative};
+use one_dispatch::laws::one_goes_first;
 use rights_test::laws::payments_are_covered;
 
 /// A run that puts a text was asked for nothing that the program does, for work on what the files stand for, for a ring, or on files with
@@ -24,6 +25,20 @@ pub fn cleared()
     ensures { LawOfCleared }
 {
     reserve_is_paid_for_the_need();
+}
+
+/// What is printed as cleared is of the best dispatches the one that goes first: none that is worth as much accepts more of the first block,
+/// or of the first offer of reserve, at which the two differ.
+pub fn first_dispatch()
+    ensures { LawOfFirstDispatch }
+{}
+
+/// What two runs print of one market as cleared is one dispatch, with one reserve, one flow of each row and one welfare, by whichever bits each
+/// counts, and whatever was cleared before.
+pub fn one_dispatch()
+    ensures { LawOfOneDispatch }
+{
+    one_goes_first();
 }
 
 /// The surplus that a pool, a clear or a replay prints is not negative, where the fixed offset of each row that has a printed price above 0 is within its limits.
@@ -82,7 +97,7 @@ pub fn round_trip()
     ensures { LawOfRoundTrip }
 {}
 
-/// Behind the report of a cleared market come whether limits could carry the rights together, with the first limit that they could not, and
+/// Behind the report of a cleared market, whose dispatch goes first, come whether limits could carry the rights together, with the first limit that they could not, and
 /// what each right is paid by the printed bus prices; where they fit, they are paid no more than the surplus.
 pub fn rights()
     ensures { LawOfRights }
@@ -129,7 +144,7 @@ pub fn faults()
     ensures { LawOfFaults }
 {}
 
-/// A ring has the worth and the surplus of an answer that is best and priced, or two of its numbers that pass 127 bits.
+/// A ring has the worth and the surplus of an answer that is best, first and priced, or two of its numbers that pass 127 bits.
 pub fn make()
     ensures { LawOfMake }
 {
