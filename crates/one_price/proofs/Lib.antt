@@ -1,0 +1,4 @@
+pub mod EnergyLemmas
+pub mod ListLemmas
+pub mod NamedLemmas
+pub mod OneFirst

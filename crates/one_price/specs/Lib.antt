@@ -1,0 +1,2 @@
+pub mod FirstPrices
+pub mod Laws

@@ -1,0 +1,17 @@
+//! What is known of the first of the prices that support a dispatch.
+ghost use Rattle.one_price.specs.Laws.{LawOfEnergyBetween, LawOfOnePrice, LawOfOtherPrices};
+
+/// Proper duals with the same prices but energy's are the same but for that.
+pub fn prices_tell_the_duals()
+    ensures { LawOfOtherPrices }
+{}
+
+/// There is at most one set of first prices.
+pub fn first_prices_are_one()
+    ensures { LawOfOnePrice }
+{}
+
+/// Between two prices that energy may have it may have each.
+pub fn energy_costs_between()
+    ensures { LawOfEnergyBetween }
+{}
