@@ -1,5 +1,5 @@
 //! Tests of `command_answers`: each command on a case of three buses, the texts of the five-bus system, limits that give way at a
-//! penalty, there and on the six-bus system, outages of units, factors of nine places, and transmission rights.
+//! penalty, there and on the six-bus system, outages of units, factors of nine places, transmission rights, and which of several best dispatches is told.
 #![tactic(auto)]
 
 #[cfg(test)]
@@ -16,5 +16,7 @@ mod soft_tests;
 mod tells;
 #[cfg(test)]
 mod tests;
+#[cfg(test)]
+mod tie_tests;
 #[cfg(test)]
 mod unit_tests;
