@@ -5,4 +5,5 @@ pub mod DualLemmas
 pub mod NameLemmas
 pub mod PointLaws
 pub mod SumLemmas
+pub mod SystemLemmas
 pub mod WorthLemmas

@@ -101,11 +101,14 @@ module _ (m : Parts) (apart : RowsApart m) where
   length-offers : length offers ≡ length m.reserve.offers
   length-offers = length-map Offer (offer_places m) ∙ length-range_with_len 0 (length m.reserve.offers)
 
+  pub length-worths : length (worths m) ≡ length m.blocks + length m.reserve.offers
+  length-worths = length-append blocks offers ∙ Prim.omega (arith, length-blocks, length-offers)
+
   -- a variable of a part, by its place there
-  price_place : (k : ℕ) → k < length (prices m) → variable_of m k ≡ get_or (prices m) k Energy
+  pub price_place : (k : ℕ) → k < length (prices m) → variable_of m k ≡ get_or (prices m) k Energy
   price_place k h = get_or_append_left (prices m) (worths m) Energy k h
 
-  worth_place : (k : ℕ) → variable_of m (2 + 2 * length (rows m) + length (reserve_units m) + k) ≡ get_or (worths m) k Energy
+  pub worth_place : (k : ℕ) → variable_of m (2 + 2 * length (rows m) + length (reserve_units m) + k) ≡ get_or (worths m) k Energy
   worth_place k = ap (λ (n : ℕ). variable_of m (n + k)) (sym length-prices) ∙ get_or-append-add (prices m) (worths m) k Energy
 
   side_place : (k : ℕ) → k < 2 * length (rows m) → variable_of m (2 + k) ≡ get_or (sides (rows m)) k Energy
@@ -114,14 +117,14 @@ module _ (m : Parts) (apart : RowsApart m) where
       ∙ get_or-append-add front behind k Energy
       ∙ get_or_append_left (sides (rows m)) rooms Energy k (Prim.omega (arith, h, length-sides (rows m)))
 
-  room_at : (k : ℕ) → k < length (reserve_units m) → variable_of m (2 + 2 * length (rows m) + k) ≡ get_or rooms k Energy
+  pub room_at : (k : ℕ) → k < length (reserve_units m) → variable_of m (2 + 2 * length (rows m) + k) ≡ get_or rooms k Energy
   room_at k h =
       price_place (2 + 2 * length (rows m) + k) (Prim.omega (arith, h, length-prices))
       ∙ ap (λ (n : ℕ). get_or (prices m) n Energy) (let more : 2 + 2 * length (rows m) + k ≡ 2 + (length (sides (rows m)) + k) = Prim.omega (arith, length-sides (rows m)) in more)
       ∙ get_or-append-add front behind (length (sides (rows m)) + k) Energy
       ∙ get_or-append-add (sides (rows m)) rooms k Energy
 
-  up_at : (k : ℕ) (e : Row) → k < length (rows m) → (variable_of m (2 + 2 * k) ≡ Up (get_or (rows m) k e)) × (variable_of m (2 + 2 * k + 1) ≡ Down (get_or (rows m) k e))
+  pub up_at : (k : ℕ) (e : Row) → k < length (rows m) → (variable_of m (2 + 2 * k) ≡ Up (get_or (rows m) k e)) × (variable_of m (2 + 2 * k + 1) ≡ Down (get_or (rows m) k e))
   up_at k e h =
       let both = sides_at (rows m) k (2 * k) Energy e h refl in
       (
@@ -129,12 +132,12 @@ module _ (m : Parts) (apart : RowsApart m) where
         ap (variable_of m) (let more : 2 + 2 * k + 1 ≡ 2 + suc (2 * k) = Prim.omega arith in more) ∙ side_place (suc (2 * k)) (Prim.omega (arith, h)) ∙ both.1,
       )
 
-  block_at_place : (j : ℕ) → j < length m.blocks → variable_of m (name m (Block j)) ≡ Block j
+  pub block_at_place : (j : ℕ) → j < length m.blocks → variable_of m (name m (Block j)) ≡ Block j
   block_at_place j h =
       worth_place j ∙ get_or_append_left blocks offers Energy j (Prim.omega (arith, h, length-blocks))
       ∙ get_or-map-range_with_len Block 0 (length m.blocks) j j Energy h (Prim.omega arith)
 
-  offer_at_place : (n : ℕ) → n < length m.reserve.offers → variable_of m (name m (Offer n)) ≡ Offer n
+  pub offer_at_place : (n : ℕ) → n < length m.reserve.offers → variable_of m (name m (Offer n)) ≡ Offer n
   offer_at_place n h =
       ap (variable_of m)
       (let more : name m (Offer n) ≡ 2 + 2 * length (rows m) + length (reserve_units m) + (length blocks + n) = Prim.omega (arith, length-blocks) in more)
