@@ -126,8 +126,7 @@ module _ (m : Parts) (apart : RowsApart m) where
 
   pub up_at : (k : ℕ) (e : Row) → k < length (rows m) → (variable_of m (2 + 2 * k) ≡ Up (get_or (rows m) k e)) × (variable_of m (2 + 2 * k + 1) ≡ Down (get_or (rows m) k e))
   up_at k e h =
-      let both = sides_at (rows m) k (2 * k) Energy e h refl in
-      (
+      let both = sides_at (rows m) k (2 * k) Energy e h refl in (
         side_place (2 * k) (Prim.omega (arith, h)) ∙ both.0,
         ap (variable_of m) (let more : 2 + 2 * k + 1 ≡ 2 + suc (2 * k) = Prim.omega arith in more) ∙ side_place (suc (2 * k)) (Prim.omega (arith, h)) ∙ both.1,
       )

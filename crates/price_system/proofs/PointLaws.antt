@@ -121,9 +121,11 @@ module _ (m : Parts) (x : Dispatch) (c : Caps) (market : IsMarket m) where
     point_agrees = record { energy = refl; reserve = refl; up = λ r k. value_at (Up r) k; down = λ r k. value_at (Down r) k; room = λ u k. value_at (Room u) k }
 
     pub point_meets : MeetsRows s (point_of m d)
-    point_meets = record { row = by_row (λ w. point_of m d w ≡ activity s (point_of m d) w)
-        (λ j h. value_at (Block j) h ∙ sym (activity-block m x c market (point_of m d) d point_agrees j h))
-        (λ n h. value_at (Offer n) h ∙ sym (activity-offer m x c market (point_of m d) d point_agrees n h)) }
+    point_meets = record {
+      row = by_row (λ w. point_of m d w ≡ activity s (point_of m d) w)
+          (λ j h. value_at (Block j) h ∙ sym (activity-block m x c market (point_of m d) d point_agrees j h))
+          (λ n h. value_at (Offer n) h ∙ sym (activity-offer m x c market (point_of m d) d point_agrees n h));
+    }
 
     module _ (proper : ProperDuals m d) (holds : Supports m x d) (keeps : KeepsCaps m c d) where
       reserve_most : d.reserve ≤ℚ most_reserve_price m x c
