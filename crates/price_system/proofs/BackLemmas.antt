@@ -1,5 +1,5 @@
 -- The duals of the point of proper duals are these.
-use Rattle.std.specs.Prelude.{◌≡◌, ◌⊎◌, ℕ, ◌||◌, Bool, true, false, List, [], ◌∷◌, ◌++◌, map, reverse, if◌then◌else◌, All, Contains, refl}
+use Rattle.std.specs.Prelude.{◌≡◌, ◌⊎◌, ℕ, Bool, true, false, List, [], ◌∷◌, ◌++◌, map, reverse, if◌then◌else◌, All, Contains, refl}
 use Rattle.std.specs.List.{flat_map}
 use Rattle.std.proofs.Common.{suc, arith, ap, ap₂, sym, ◌∙◌, subst, inl, inr}
 use Rattle.std.proofs.lemmas.List.{reverse-reverse}
@@ -22,8 +22,8 @@ use Rattle.market_model.proofs.Excesses.{nil_or_above}
 use Rattle.one_price.specs.FirstPrices.{limit_prices, other_prices, room_prices, two_prices, with_energy}
 use Rattle.one_price.proofs.ListLemmas.{Contains-reverse}
 use Rattle.one_price.proofs.NamedLemmas.{law_of_other_prices}
-use Rattle.price_system.specs.Laws.{IsPointOf, LawOfDuals, LawOfPoints}
-use Rattle.price_system.specs.PriceSystem.{Caps, KeepsCaps, down_name, duals_of, point_of, room_name, up_name}
+use Rattle.price_system.specs.Laws.{LawOfDuals, LawOfPoints}
+use Rattle.price_system.specs.PriceSystem.{Caps, down_name, duals_of, point_of, room_name, up_name}
 use Rattle.price_system.proofs.DualLemmas.{agrees-made, down-made, proper-made, room-made, up-made}
 use Rattle.price_system.proofs.PointLaws.{point_agrees, point_bounds, point_meets, supported}
 

@@ -1,14 +1,14 @@
 -- What the bounds of the system of prices say: just what it takes that prices support the dispatch, within the caps.
-use Rattle.std.specs.Prelude.{◌≡◌, ◌≢◌, ◌⊎◌, ℕ, ◌&&◌, Bool, true, false, [], ◌∷◌, if◌then◌else◌, Contains, refl}
-use Rattle.std.proofs.Common.{ap, ap₂, sym, ◌∙◌, subst, subst₂, inl, inr}
-use Rattle.fraction_theory.specs.Fraction.{Fraction, whole, neg_ℚ, ◌+ℚ◌, ◌-ℚ◌, ◌*ℚ◌}
+use Rattle.std.specs.Prelude.{◌≡◌, ◌≢◌, ◌⊎◌, Bool, true, false, [], ◌∷◌, if◌then◌else◌, refl}
+use Rattle.std.proofs.Common.{ap, sym, ◌∙◌, subst, subst₂, inl, inr}
+use Rattle.fraction_theory.specs.Fraction.{Fraction, neg_ℚ, ◌-ℚ◌}
 use Rattle.fraction_theory.specs.Order.{◌<ℚ◌, ◌≤ℚ◌}
-use Rattle.fraction_theory.specs.Signs.{abs_ℚ, sign_of}
+use Rattle.fraction_theory.specs.Signs.{sign_of}
 use Rattle.fraction_theory.specs.declared.Sign.{Sign}
 use Rattle.fraction_theory.specs.declared.Sign.TheVariants.{Below, Zero, Above}
 use Rattle.fraction_theory.proofs.FieldLaws.{ring_ℚ}
-use Rattle.fraction_theory.proofs.OrderLaws.{<ℚ-not-≤ℚ, <ℚ-≤ℚ, <ℚ_irrefl, <ℚ-≤ℚ_trans, NonNeg-one, by_le1, not-≤ℚ, ≤ℚ-or-<ℚ, ≤ℚ-<ℚ_trans, ≤ℚ_of_same, ≤ℚ_refl, ≤ℚ_trans}
-use Rattle.fraction_theory.proofs.Ring.{by_ring, by_ring1, at, pnil, pone, pneg, ◌⊕◌, ◌⊗◌}
+use Rattle.fraction_theory.proofs.OrderLaws.{<ℚ-not-≤ℚ, <ℚ-≤ℚ, <ℚ_irrefl, NonNeg-one, by_le1, not-≤ℚ, ≤ℚ-or-<ℚ, ≤ℚ_of_same, ≤ℚ_trans}
+use Rattle.fraction_theory.proofs.Ring.{by_ring, by_ring1, at, pnil, pone, pneg, ◌⊕◌}
 use Rattle.fraction_theory.proofs.SignLaws.{sign_of_is}
 use Rattle.market_model.specs.declared.limits.Row.{Row}
 use Rattle.market_model.specs.declared.participants.Parts.{Parts}
@@ -76,7 +76,10 @@ module _ (m : Parts) (c : Caps) (r : Row) (p f : Fraction) where
 
     side_used : penalty m r <ℚ p → f ≡ most_flow m r
     side_used above = elim (below_tells f (limit m r)) [
-      | inl t ↦ absurd (<ℚ-not-≤ℚ (penalty m r) p above (≤ℚ_trans p zero (penalty m r) (subst (λ (b : Bool). p ≤ℚ (if b then zero else if are_same f (most_flow m r) then c.most else penalty m r)) t.0 high) (penalty_least m market r)))
+      | inl t ↦ absurd (<ℚ-not-≤ℚ (penalty m r) p above
+          (≤ℚ_trans p zero (penalty m r)
+          (subst (λ (b : Bool). p ≤ℚ (if b then zero else if are_same f (most_flow m r) then c.most else penalty m r)) t.0 high)
+          (penalty_least m market r)))
       | inr t ↦ elim (same_tells f (most_flow m r)) [
         | inl k ↦ k.1
         | inr k ↦ absurd (<ℚ-not-≤ℚ (penalty m r) p above (subst₂ (λ (a b : Bool). p ≤ℚ (if a then zero else if b then c.most else penalty m r)) t.0 k.0 high))

@@ -1,7 +1,7 @@
 -- What a MW of a unit may be worth at prices within the caps.
-use Rattle.std.specs.Prelude.{◌≡◌, ℕ, pos, Bool, true, false, [], ◌∷◌, if◌then◌else◌, Contains, refl}
-use Rattle.std.proofs.Common.{ap, sym, ◌∙◌, subst, subst₂, inl, inr}
-use Rattle.fraction_theory.specs.Fraction.{Fraction, whole, neg_ℚ, ◌+ℚ◌, ◌-ℚ◌, ◌*ℚ◌}
+use Rattle.std.specs.Prelude.{◌≡◌, ℕ, Bool, true, false, [], ◌∷◌, if◌then◌else◌, Contains, refl}
+use Rattle.std.proofs.Common.{ap, sym, ◌∙◌, subst, inl, inr}
+use Rattle.fraction_theory.specs.Fraction.{Fraction, neg_ℚ, ◌+ℚ◌, ◌-ℚ◌, ◌*ℚ◌}
 use Rattle.fraction_theory.specs.Order.{◌≤ℚ◌, NonNeg}
 use Rattle.fraction_theory.specs.Signs.{abs_ℚ}
 use Rattle.fraction_theory.specs.Sums.{sum_by}
@@ -16,9 +16,9 @@ use Rattle.market_model.specs.declared.participants.Parts.{Parts}
 use Rattle.market_model.specs.Dispatch.{Dispatch, zero, unit_at}
 use Rattle.market_model.specs.LimitRows.{rows, unit_factor}
 use Rattle.market_model.specs.Market.{IsMarket}
-use Rattle.market_model.specs.Optimality.{Supports, congestion_by, energy_worth, net_shadow_price, price_by, reserve_worth, room_price, room_price_in, unit_price}
+use Rattle.market_model.specs.Optimality.{Supports, congestion_by, energy_worth, net_shadow_price, price_by, reserve_worth, room_price, room_price_in}
 use Rattle.market_model.specs.Overrun.{Within}
-use Rattle.market_model.specs.Reserves.{offers_reserve, reserve_units}
+use Rattle.market_model.specs.Reserves.{offers_reserve}
 use Rattle.market_model.proofs.RoomLemmas.{offers-listed}
 use Rattle.market_model.proofs.RowLaws.{along, unit_price-by_factors}
 use Rattle.market_system.proofs.DualLists.{reserve_unit-below}

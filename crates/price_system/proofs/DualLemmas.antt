@@ -1,11 +1,11 @@
 -- The duals of a point: its prices are theirs, and where they are one-sided the duals are proper.
 use Rattle.std.specs.Prelude.{◌≡◌, ◌≢◌, ◌⊎◌, ℕ, ◌<◌, ◌==◌, ◌&&◌, ◌||◌, Bool, true, false, not, List, [], ◌∷◌, ◌++◌, length, map, filter, if◌then◌else◌, cond, All, Contains, refl}
 use Rattle.std.specs.List.{flat_map}
-use Rattle.std.proofs.Common.{suc, arith, ap, ap₂, sym, ◌∙◌, subst, inl, inr}
+use Rattle.std.proofs.Common.{ap, ap₂, sym, ◌∙◌, subst, inl, inr}
 use Rattle.std.proofs.lemmas.Bool.Decides.{eqb_tells}
 use Rattle.std.proofs.lemmas.List.Elements.{All-append, All-cons, All-nil}
 use Rattle.fraction_theory.specs.Fraction.{Fraction, neg_ℚ}
-use Rattle.fraction_theory.specs.Order.{◌<ℚ◌, ◌≤ℚ◌}
+use Rattle.fraction_theory.specs.Order.{◌<ℚ◌}
 use Rattle.fraction_theory.proofs.FieldLaws.{ring_ℚ}
 use Rattle.fraction_theory.proofs.ListSums.{kept, Contains-cons, Contains-head, filter-members}
 use Rattle.fraction_theory.proofs.Ring.{by_ring, at, pneg}
@@ -18,8 +18,8 @@ use Rattle.market_model.specs.declared.participants.Parts.{Parts}
 use Rattle.market_model.specs.Dispatch.{unit_at, zero as nil}
 use Rattle.market_model.specs.LimitRows.{row_id, rows}
 use Rattle.market_model.specs.Market.{IsMarket}
-use Rattle.market_model.specs.Optimality.{IsOneSided, ProperDuals, down_in, down_of, named_rows, named_rooms, names_room, names_row, room_price, room_price_in, same_id, up_in, up_of}
-use Rattle.market_model.specs.Reserves.{offers_reserve, reserve_units}
+use Rattle.market_model.specs.Optimality.{IsOneSided, ProperDuals, down_in, down_of, names_room, names_row, room_price, room_price_in, same_id, up_in, up_of}
+use Rattle.market_model.specs.Reserves.{reserve_units}
 use Rattle.market_model.proofs.RoomLemmas.{listed-inside, listed-offers}
 use Rattle.limit_rows.proofs.ApartLemmas.{names_apart, unit_of_row}
 use Rattle.limit_rows.proofs.PlaceLemmas.{same_name}
@@ -203,7 +203,8 @@ module _ (m : Parts) (market : IsMarket m) (price : ℕ → Fraction) where
   rows_differ : (w u : ℕ) → w < length m.units → u < length m.units → w ≢ u → (row_of w == row_of u) ≡ false
   rows_differ w u p q n = elim (eqb_tells (row_of w) (row_of u)) [ inl t ↦ absurd (n (unit_of_row m market w u p q t.1)) | inr t ↦ t.0 ]
 
-  room_told_in : (us : List ℕ) → ((w : ℕ) → Contains us w → w < length m.units) → (u : ℕ) → u < length m.units → RoomTold (rooms_of us) (row_of u) (kept (is_among us u) (price u)) (is_among us u && priced u)
+  room_told_in : (us : List ℕ) → ((w : ℕ) → Contains us w → w < length m.units) → (u : ℕ) → u < length m.units
+      → RoomTold (rooms_of us) (row_of u) (kept (is_among us u) (price u)) (is_among us u && priced u)
   room_told_in [] all u lt = record { price_is = refl; named_is = refl }
   room_told_in (w ∷ us) all u lt = by (eqb_tells w u) (room_told_in us (λ v k. all v (Contains-cons w us v k)) u lt)
     where
@@ -231,7 +232,10 @@ module _ (m : Parts) (market : IsMarket m) (price : ℕ → Fraction) where
       by false more = ap (λ (ids : List ℕ). row_of u ∷ ids) more
 
   pub rooms_named : map (λ (f : RoomDual Fraction). f.unit) (rooms_of (reserve_units m)) ≡ map row_of (filter (λ u. names_room (rooms_of (reserve_units m)) (row_of u)) (reserve_units m))
-  rooms_named = room_ids (reserve_units m) ∙ ap (map row_of) (filter-members priced (λ u. names_room (rooms_of (reserve_units m)) (row_of u)) (reserve_units m) (λ u c. let t = room_told u c in sym t.named_is))
+  rooms_named =
+      room_ids (reserve_units m)
+      ∙ ap (map row_of)
+      (filter-members priced (λ u. names_room (rooms_of (reserve_units m)) (row_of u)) (reserve_units m) (λ u c. let t = room_told u c in sym t.named_is))
 
   abbrev IsPriced : RoomDual Fraction → Type 0
   IsPriced e = nil <ℚ e.price

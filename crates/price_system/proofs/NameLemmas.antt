@@ -1,5 +1,5 @@
 -- The variables of the system of prices: each is the one at the place that its name is.
-use Rattle.std.specs.Prelude.{◌≡◌, ◌≢◌, ℕ, ◌+◌, ◌*◌, ◌<◌, ◌≤◌, ◌==◌, Bool, true, false, List, [], ◌∷◌, ◌++◌, length, map, AllPairs, Contains, refl}
+use Rattle.std.specs.Prelude.{◌≡◌, ◌≢◌, ℕ, ◌+◌, ◌*◌, ◌<◌, ◌==◌, true, false, List, [], ◌∷◌, ◌++◌, length, map, Contains, refl}
 use Rattle.std.specs.List.{flat_map}
 use Rattle.std.proofs.Common.{zero, suc, arith, ap, sym, ◌∙◌, subst, inl, inr, get_or}
 use Rattle.std.proofs.lemmas.Bool.Decides.{eqb_tells}
@@ -18,7 +18,7 @@ use Rattle.market_model.proofs.RowMembers.{Contains-flat, Contains-from_flat, Co
 use Rattle.market_system.specs.MarketSystem.{row_place}
 use Rattle.market_system.proofs.RowOrder.{RowsApart, row_name-at}
 use Rattle.market_system.proofs.VariableLaws.{units_ascend}
-use Rattle.price_system.specs.PriceSystem.{Variable, Energy, Reserve, Up, Down, Room, Block, Offer, name, prices, room_name, room_place, two_sides, up_name, variable_of, variables, worths}
+use Rattle.price_system.specs.PriceSystem.{Variable, Energy, Reserve, Up, Down, Room, Block, Offer, name, prices, room_place, two_sides, variable_of, variables, worths}
 
 -- what makes a variable one of the system
 abbrev pub IsVariable : Parts → Variable → Type 0

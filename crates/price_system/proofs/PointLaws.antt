@@ -1,6 +1,6 @@
 -- The points of the system of prices are the duals that support the dispatch.
-use Rattle.std.specs.Prelude.{◌≡◌, ◌⊎◌, ℕ, ◌<◌, ◌&&◌, Bool, true, false, length, if◌then◌else◌, Contains, refl}
-use Rattle.std.proofs.Common.{ap, sym, ◌∙◌, subst, subst₂, inl, inr}
+use Rattle.std.specs.Prelude.{◌≡◌, ℕ, ◌<◌, ◌&&◌, Bool, true, false, length, if◌then◌else◌, Contains, refl}
+use Rattle.std.proofs.Common.{ap, sym, ◌∙◌, subst, subst₂}
 use Rattle.fraction_theory.specs.Fraction.{Fraction, neg_ℚ}
 use Rattle.fraction_theory.specs.Order.{◌<ℚ◌, ◌≤ℚ◌}
 use Rattle.fraction_theory.proofs.OrderLaws.{<ℚ-not-≤ℚ, opposite_most, ≤ℚ_of_same}
@@ -15,7 +15,7 @@ use Rattle.market_model.specs.Market.{IsMarket}
 use Rattle.market_model.specs.Optimality.{BlockSupported, NeedSupported, OfferSupported, ProperDuals, RoomSupported, RowSupported, Supports, down_of, energy_worth, price, reserve_worth, room_price, up_of}
 use Rattle.market_model.specs.Reserves.{offer_price, reserve, reserve_need, reserve_units, room, room_used}
 use Rattle.market_model.proofs.RowMembers.{Contains-from_map, Contains-map}
-use Rattle.price_system.specs.PriceSystem.{Caps, KeepsCaps, Variable, Energy, Reserve, Up, Down, Room, Block, Offer, are_same, high, low, least_price, most_price, most_reserve_price, most_room_price, most_worth, name, point_of, price_system, value_of, variable_of, variables, worths}
+use Rattle.price_system.specs.PriceSystem.{Caps, KeepsCaps, Variable, Energy, Reserve, Up, Down, Room, Block, Offer, are_same, high, low, least_price, most_price, most_reserve_price, most_room_price, most_worth, name, point_of, price_system, value_of, variables, worths}
 use Rattle.price_system.proofs.BoundLemmas.{gains_in, loses_in, side_in, side_least, side_most, used_in, used_most, worth_greatest, worth_least}
 use Rattle.price_system.proofs.CapLemmas.{opposite, opposite_back, opposite_nil, reserve_within, worth_within}
 use Rattle.price_system.proofs.NameLemmas.{IsVariable, block_listed, by_worth, listed, offer_listed, variable_at, variable_is}

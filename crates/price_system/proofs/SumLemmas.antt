@@ -1,5 +1,5 @@
 -- What a point is worth, and the order of its columns.
-use Rattle.std.specs.Prelude.{◌≡◌, ℕ, pos, List, [], ◌∷◌, ◌++◌, map, reverse, Contains, refl}
+use Rattle.std.specs.Prelude.{◌≡◌, ℕ, pos, List, [], ◌∷◌, ◌++◌, map, reverse, refl}
 use Rattle.std.specs.List.{flat_map}
 use Rattle.std.proofs.Common.{ap, ap₂, sym, ◌∙◌, append_assoc}
 use Rattle.std.proofs.lemmas.List.{map-append, reverse-append}
@@ -13,15 +13,13 @@ use Rattle.linear_system.specs.Systems.{System, objective}
 use Rattle.market_model.specs.declared.answered.Duals.{Duals}
 use Rattle.market_model.specs.declared.limits.Row.{Row}
 use Rattle.market_model.specs.declared.participants.Parts.{Parts}
-use Rattle.market_model.specs.Dispatch.{Dispatch}
 use Rattle.market_model.specs.LimitRows.{rows}
-use Rattle.market_model.specs.Market.{IsMarket}
 use Rattle.market_model.specs.Optimality.{down_of, room_price, up_of}
 use Rattle.market_model.specs.Reserves.{reserve_units}
 use Rattle.market_model.proofs.ListSteps.{map-map}
-use Rattle.one_price.specs.FirstPrices.{limit_prices, other_prices, room_prices, two_prices}
+use Rattle.one_price.specs.FirstPrices.{limit_prices, room_prices, two_prices}
 use Rattle.price_system.specs.Laws.{LawOfTheOrder, LawOfTheSum}
-use Rattle.price_system.specs.PriceSystem.{Caps, Variable, Energy, Reserve, Up, Down, Room, down_name, duals_of, name, price_order, price_system, prices, room_name, two_sides, up_name}
+use Rattle.price_system.specs.PriceSystem.{Variable, Energy, Reserve, Up, Down, Room, down_name, duals_of, name, price_order, price_system, prices, room_name, up_name}
 use Rattle.price_system.proofs.BackLemmas.{Contains-from_reverse, flat-members, map-members}
 use Rattle.price_system.proofs.DualLemmas.{agrees-made, down-made, room-made, up-made}
 use Rattle.price_system.proofs.NameLemmas.{sides}

@@ -1,24 +1,23 @@
 -- The system of prices is a system: a name is the place of its variable, so names ascend.
-use Rattle.std.specs.Prelude.{◌≡◌, ◌≢◌, ◌⊎◌, ℕ, ◌+◌, ◌-◌, ◌*◌, ◌/◌, ◌%◌, ◌<◌, ◌≤◌, List, ◌++◌, length, map, Contains, refl}
+use Rattle.std.specs.Prelude.{◌≡◌, ℕ, ◌+◌, ◌-◌, ◌*◌, ◌/◌, ◌%◌, ◌<◌, ◌≤◌, List, length, map, Contains, refl}
 use Rattle.std.specs.List.Sorted.{IsStrictlyIncreasing}
 use Rattle.std.proofs.Common.{zero, suc, arith, ap, sym, ◌∙◌, subst, inl, inr, get_or}
 use Rattle.std.proofs.lemmas.Bool.{cases_lt}
 use Rattle.std.proofs.lemmas.List.{get_or-map, length-append}
 use Rattle.std.proofs.lemmas.List.Elements.{Contains-append_cases, Contains-append_left, Contains-append_right}
 use Rattle.limit_rows.proofs.GroupLemmas.{length-map}
-use Rattle.linear_system.specs.Systems.{IsSystem, System}
+use Rattle.linear_system.specs.Systems.{IsSystem}
 use Rattle.market_model.specs.declared.limits.Cause.TheVariants.{Base}
 use Rattle.market_model.specs.declared.limits.Row.{Row}
 use Rattle.market_model.specs.declared.participants.Parts.{Parts}
 use Rattle.market_model.specs.Dispatch.{Dispatch}
 use Rattle.market_model.specs.LimitRows.{rows}
-use Rattle.market_model.specs.Market.{IsMarket}
 use Rattle.market_model.specs.Reserves.{reserve_units}
 use Rattle.market_model.proofs.ChangeLemmas.{same_default}
 use Rattle.market_model.proofs.RowMembers.{Contains-from_map, Contains-map}
 use Rattle.market_system.proofs.RowOrder.{RowsApart}
 use Rattle.price_system.specs.Laws.{LawOfTheSystem}
-use Rattle.price_system.specs.PriceSystem.{Caps, Variable, Energy, Up, Down, Room, Block, Offer, name, price_system, prices, variable_of, variables, worths}
+use Rattle.price_system.specs.PriceSystem.{Caps, Variable, Energy, Room, name, price_system, prices, variable_of, variables, worths}
 use Rattle.price_system.proofs.NameLemmas.{block_at_place, length-prices, length-worths, offer_at_place, price_place, room_at, row_at, unit_at_place, up_at, worth_place}
 use Rattle.price_system.proofs.WorthLemmas.{apart}
 

@@ -1,23 +1,22 @@
 -- What the rows of the system of prices make of a point: what MW are worth at the prices of which its columns are the opposites.
-use Rattle.std.specs.Prelude.{◌≡◌, ◌≢◌, ℕ, ◌+◌, ◌<◌, ◌==◌, pos, Bool, true, false, List, [], ◌∷◌, ◌++◌, length, map, if◌then◌else◌, AllPairs, Contains, refl}
-use Rattle.std.specs.List.{flat_map}
-use Rattle.std.proofs.Common.{arith, ap, ap₂, sym, ◌∙◌, subst, inl, inr}
+use Rattle.std.specs.Prelude.{◌≡◌, ◌≢◌, ℕ, ◌+◌, ◌<◌, pos, Bool, true, false, List, [], ◌∷◌, length, map, if◌then◌else◌, Contains, refl}
+use Rattle.std.proofs.Common.{arith, ap, ap₂, sym, ◌∙◌, inl, inr}
 use Rattle.std.proofs.lemmas.Bool.Decides.{eqb_tells}
 use Rattle.std.proofs.lemmas.List.{map-append}
 use Rattle.fraction_theory.specs.Fraction.{Fraction, whole, neg_ℚ, ◌+ℚ◌, ◌-ℚ◌, ◌*ℚ◌}
-use Rattle.fraction_theory.specs.Sums.{sum_by, total}
+use Rattle.fraction_theory.specs.Sums.{sum_by}
 use Rattle.fraction_theory.proofs.FieldLaws.{ring_ℚ}
 use Rattle.fraction_theory.proofs.ListSums.{sum_by-members}
-use Rattle.fraction_theory.proofs.Ring.{by_ring, by_ring2, at, pnil, pone, pneg, ◌⊕◌, ◌⊗◌}
-use Rattle.fraction_theory.proofs.SumLaws.{sum_by-append, sum_by-nil, sum_by-same, total-Product}
-use Rattle.linear_system.specs.Systems.{System, activity, objective}
+use Rattle.fraction_theory.proofs.Ring.{by_ring, at, pnil, pone, pneg, ◌⊕◌, ◌⊗◌}
+use Rattle.fraction_theory.proofs.SumLaws.{sum_by-append, sum_by-nil, total-Product}
+use Rattle.linear_system.specs.Systems.{System, activity}
 use Rattle.market_model.specs.declared.answered.Duals.{Duals}
 use Rattle.market_model.specs.declared.limits.Row.{Row}
 use Rattle.market_model.specs.declared.participants.Parts.{Parts}
-use Rattle.market_model.specs.Dispatch.{Dispatch, block_at, offer_at, places, unit_at, zero}
+use Rattle.market_model.specs.Dispatch.{Dispatch, block_at, offer_at, zero}
 use Rattle.market_model.specs.LimitRows.{rows, unit_factor}
 use Rattle.market_model.specs.Market.{IsMarket}
-use Rattle.market_model.specs.Optimality.{congestion_by, down_of, energy_worth, net_shadow_price, price_by, reserve_worth, room_price, unit_price, up_of}
+use Rattle.market_model.specs.Optimality.{congestion_by, down_of, energy_worth, net_shadow_price, price_by, reserve_worth, room_price, up_of}
 use Rattle.market_model.specs.Reserves.{offers_reserve, reserve_units}
 use Rattle.market_model.proofs.ListSteps.{map-map}
 use Rattle.market_model.proofs.RoomLemmas.{listed-offers, offers-listed}
@@ -28,7 +27,7 @@ use Rattle.market_system.proofs.DualLists.{reserve_unit-below, rows_apart}
 use Rattle.market_system.proofs.RowOrder.{RowsApart}
 use Rattle.market_system.proofs.RowSums.{sum_by-alone}
 use Rattle.market_system.proofs.VariableLaws.{units_ascend}
-use Rattle.price_system.specs.PriceSystem.{Caps, Variable, Energy, Reserve, Up, Down, Room, Block, Offer, block_name, coefficient, column_price, down_name, high, low, name, offer_name, price_system, prices, room_name, up_name, variables}
+use Rattle.price_system.specs.PriceSystem.{Caps, Variable, Energy, Reserve, Up, Down, Room, Block, Offer, block_name, coefficient, column_price, down_name, high, low, name, offer_name, price_system, room_name, up_name}
 use Rattle.price_system.proofs.NameLemmas.{IsVariable, sides, variable_at}
 
 -- the columns of a point are the opposites of the prices of duals

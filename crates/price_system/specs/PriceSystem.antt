@@ -3,7 +3,7 @@
 -- worth at them, and a MW of the reserve of each offer.
 -- Sources: Schweppe, Caramanis, Tabors and Bohn, Spot Pricing of Electricity, for the prices; Chvátal, Linear Programming, for complementary
 -- slackness, which the bounds say. The form is own.
-use Rattle.std.specs.Prelude.{ℕ, ◌+◌, ◌*◌, ◌<◌, pos, Bool, true, false, List, [], ◌∷◌, ◌++◌, ◌==◌, ◌&&◌, if◌then◌else◌, length, map, reverse, Contains, slice_index_or}
+use Rattle.std.specs.Prelude.{ℕ, ◌+◌, ◌*◌, pos, Bool, true, false, List, [], ◌∷◌, ◌++◌, ◌==◌, ◌&&◌, if◌then◌else◌, length, map, reverse, Contains, slice_index_or}
 use Rattle.std.specs.List.{flat_map, position_or_len}
 use Rattle.fraction_theory.specs.Fraction.{Fraction, whole, neg_ℚ, ◌+ℚ◌, ◌-ℚ◌, ◌*ℚ◌}
 use Rattle.fraction_theory.specs.Order.{◌≤ℚ◌}
