@@ -39,7 +39,7 @@ nil_less x y e = ap (λ t. t -ℚ y) e ∙ by_ring ring_ℚ (y ∷ []) (at 0 ⊕
 pub same_tells : (x y : Fraction) → ((are_same x y ≡ true) × (x ≡ y)) ⊎ ((are_same x y ≡ false) × (x ≢ y))
 same_tells x y = elim (nil_tells (x -ℚ y)) [ inl t ↦ inl (t.0, less_nil x y t.1) | inr t ↦ inr (t.0, λ e. t.1 (nil_less x y e)) ]
 
-below_tells : (x y : Fraction) → ((is_below x y ≡ true) × (x <ℚ y)) ⊎ ((is_below x y ≡ false) × (y ≤ℚ x))
+pub below_tells : (x y : Fraction) → ((is_below x y ≡ true) × (x <ℚ y)) ⊎ ((is_below x y ≡ false) × (y ≤ℚ x))
 below_tells x y = by (sign_of (x -ℚ y)) refl
   where
     not_less : zero ≤ℚ (x -ℚ y) → y ≤ℚ x

@@ -65,6 +65,17 @@ module _ (most n f : Fraction) (within : Within most n) where
         (by_le1 (n ∷ f ∷ most ∷ []) (pneg (at 2) ⊗ pneg (at 1)) (pneg (at 0) ⊗ at 1) (pneg (at 1)) (pneg (at 2)) (at 0) (neg_least h) within.above refl)
   ]
 
+-- ---- what a MW of a unit is worth, by its parts
+module _ (m : Parts) (d : Duals Fraction) where
+  -- what limits take
+  abbrev pub taken : ℕ → Fraction
+  taken u = sum_by (λ r. neg_ℚ (net_shadow_price m d r) *ℚ unit_factor m r u) (rows m)
+
+  pub by_parts : (u : ℕ) → energy_worth m d u ≡ (d.energy +ℚ taken u) -ℚ room_price m d u
+  unfolding price_by congestion_by
+  by_parts u = ap (λ t. t -ℚ room_price m d u)
+      (unit_price-by_factors m d u ∙ ap (λ t. d.energy +ℚ t) (total-Product (λ r. neg_ℚ (net_shadow_price m d r)) (λ r. unit_factor m r u) (rows m)))
+
 -- ---- at prices within the caps that support a dispatch
 module _ (m : Parts) (x : Dispatch) (c : Caps) (d : Duals Fraction) (market : IsMarket m) (supported : Supports m x d) (keeps : KeepsCaps m c d) where
   most_above : zero ≤ℚ c.most
@@ -97,39 +108,31 @@ module _ (m : Parts) (x : Dispatch) (c : Caps) (d : Duals Fraction) (market : Is
   pub reserve_within : (u : ℕ) → Within c.most (reserve_worth m d u)
   reserve_within u = between c.most d.reserve (room_price m d u) supported.need.sign keeps.reserve (room_least u) (room_most u)
 
-  -- what limits take
+  -- the size of all factors of a unit
   abbrev factors : ℕ → Fraction
   factors u = sum_by (λ r. abs_ℚ (unit_factor m r u)) (rows m)
 
-  abbrev taken : ℕ → Fraction
-  taken u = sum_by (λ r. neg_ℚ (net_shadow_price m d r) *ℚ unit_factor m r u) (rows m)
-
-  taken_most : (u : ℕ) → taken u ≤ℚ (c.most *ℚ factors u)
-  taken_most u = subst (λ t. taken u ≤ℚ t) (sum_by-times c.most (λ r. abs_ℚ (unit_factor m r u)) (rows m))
+  taken_most : (u : ℕ) → taken m d u ≤ℚ (c.most *ℚ factors u)
+  taken_most u = subst (λ t. taken m d u ≤ℚ t) (sum_by-times c.most (λ r. abs_ℚ (unit_factor m r u)) (rows m))
       (sum_by-≤ (λ r. neg_ℚ (net_shadow_price m d r) *ℚ unit_factor m r u) (λ r. c.most *ℚ abs_ℚ (unit_factor m r u)) (rows m)
       (along (λ r. (neg_ℚ (net_shadow_price m d r) *ℚ unit_factor m r u) ≤ℚ (c.most *ℚ abs_ℚ (unit_factor m r u))) (rows m)
       (λ r k. times_most c.most (net_shadow_price m d r) (unit_factor m r u) (net_within r k))))
 
-  taken_least : (u : ℕ) → (neg_ℚ c.most *ℚ factors u) ≤ℚ taken u
-  taken_least u = subst (λ t. t ≤ℚ taken u) (sum_by-times (neg_ℚ c.most) (λ r. abs_ℚ (unit_factor m r u)) (rows m))
+  taken_least : (u : ℕ) → (neg_ℚ c.most *ℚ factors u) ≤ℚ taken m d u
+  taken_least u = subst (λ t. t ≤ℚ taken m d u) (sum_by-times (neg_ℚ c.most) (λ r. abs_ℚ (unit_factor m r u)) (rows m))
       (sum_by-≤ (λ r. neg_ℚ c.most *ℚ abs_ℚ (unit_factor m r u)) (λ r. neg_ℚ (net_shadow_price m d r) *ℚ unit_factor m r u) (rows m)
       (along (λ r. (neg_ℚ c.most *ℚ abs_ℚ (unit_factor m r u)) ≤ℚ (neg_ℚ (net_shadow_price m d r) *ℚ unit_factor m r u)) (rows m)
       (λ r k. times_least c.most (net_shadow_price m d r) (unit_factor m r u) (net_within r k))))
 
-  by_parts : (u : ℕ) → energy_worth m d u ≡ (d.energy +ℚ taken u) -ℚ room_price m d u
-  unfolding price_by congestion_by
-  by_parts u = ap (λ t. t -ℚ room_price m d u)
-      (unit_price-by_factors m d u ∙ ap (λ t. d.energy +ℚ t) (total-Product (λ r. neg_ℚ (net_shadow_price m d r)) (λ r. unit_factor m r u) (rows m)))
-
   pub worth_within : (u : ℕ) → Within (most_worth m c u) (energy_worth m d u)
-  worth_within u = subst (λ t. Within (most_worth m c u) t) (sym (by_parts u)) (record {
-    above = subst (λ t. t ≤ℚ ((d.energy +ℚ taken u) +ℚ neg_ℚ (room_price m d u)))
+  worth_within u = subst (λ t. Within (most_worth m c u) t) (sym (by_parts m d u)) (record {
+    above = subst (λ t. t ≤ℚ ((d.energy +ℚ taken m d u) +ℚ neg_ℚ (room_price m d u)))
         (by_ring ring_ℚ (c.range ∷ c.most ∷ factors u ∷ []) ((pneg (at 0) ⊕ pneg (at 1) ⊗ at 2) ⊕ pneg (at 1)) (pneg ((at 0 ⊕ at 1 ⊗ at 2) ⊕ at 1)) refl)
-        (+ℚ-≤ℚ (neg_ℚ c.range +ℚ neg_ℚ c.most *ℚ factors u) (d.energy +ℚ taken u) (neg_ℚ c.most) (neg_ℚ (room_price m d u))
-        (+ℚ-≤ℚ (neg_ℚ c.range) d.energy (neg_ℚ c.most *ℚ factors u) (taken u) keeps.energy.above (taken_least u))
+        (+ℚ-≤ℚ (neg_ℚ c.range +ℚ neg_ℚ c.most *ℚ factors u) (d.energy +ℚ taken m d u) (neg_ℚ c.most) (neg_ℚ (room_price m d u))
+        (+ℚ-≤ℚ (neg_ℚ c.range) d.energy (neg_ℚ c.most *ℚ factors u) (taken m d u) keeps.energy.above (taken_least u))
         (opposite (room_price m d u) c.most (room_most u)));
     below =
-        +ℚ-≤ℚ (d.energy +ℚ taken u) (c.range +ℚ c.most *ℚ factors u) (neg_ℚ (room_price m d u)) c.most
-        (+ℚ-≤ℚ d.energy c.range (taken u) (c.most *ℚ factors u) keeps.energy.below (taken_most u))
+        +ℚ-≤ℚ (d.energy +ℚ taken m d u) (c.range +ℚ c.most *ℚ factors u) (neg_ℚ (room_price m d u)) c.most
+        (+ℚ-≤ℚ d.energy c.range (taken m d u) (c.most *ℚ factors u) keeps.energy.below (taken_most u))
         (≤ℚ_trans (neg_ℚ (room_price m d u)) zero c.most (subst (λ t. neg_ℚ (room_price m d u) ≤ℚ t) opposite_nil (opposite zero (room_price m d u) (room_least u))) most_above);
   })

@@ -1,4 +1,5 @@
 pub mod BackLemmas
+pub mod BestLemmas
 pub mod BoundLemmas
 pub mod CapLemmas
 pub mod DualLemmas

@@ -25,7 +25,7 @@ module _ (m : Parts) (x : Dispatch) (c : Caps) (market : IsMarket m) where
   abbrev s : System
   s = price_system m x c
 
-  variable_in : (v : Variable) → IsVariable m v → Contains s.variables (name m v)
+  pub variable_in : (v : Variable) → IsVariable m v → Contains s.variables (name m v)
   unfolding price_system
   variable_in v is = Contains-map (name m) (variables m) v (listed m v is)
 
@@ -33,33 +33,33 @@ module _ (m : Parts) (x : Dispatch) (c : Caps) (market : IsMarket m) where
   unfolding price_system
   row_in v k = Contains-map (name m) (worths m) v k
 
-  by_variable : (P : ℕ → Type 0) → ((v : Variable) → IsVariable m v → P (name m v)) → (w : ℕ) → Contains s.variables w → P w
+  pub by_variable : (P : ℕ → Type 0) → ((v : Variable) → IsVariable m v → P (name m v)) → (w : ℕ) → Contains s.variables w → P w
   unfolding price_system
   by_variable P each w k = let l = Contains-from_map (name m) (variables m) w k in subst P l.2 (each l.0 (variable_is m l.0 l.1))
 
-  by_row : (P : ℕ → Type 0) → ((j : ℕ) → j < length m.blocks → P (name m (Block j))) → ((n : ℕ) → n < length m.reserve.offers → P (name m (Offer n))) → (w : ℕ) → Contains s.rows w → P w
+  pub by_row : (P : ℕ → Type 0) → ((j : ℕ) → j < length m.blocks → P (name m (Block j))) → ((n : ℕ) → n < length m.reserve.offers → P (name m (Offer n))) → (w : ℕ) → Contains s.rows w → P w
   unfolding price_system
   by_row P block offer w k = let l = Contains-from_map (name m) (worths m) w k in subst P l.2 (by_worth m (λ v. P (name m v)) block offer l.0 l.1)
 
   -- ---- duals of a point that meets the rows and is within the bounds
   module _ (v : ℕ → Fraction) (d : Duals Fraction) (agrees : Agrees m v d) (meets : MeetsRows s v) (bounds : InBounds s v) where
-    least : (w : Variable) (is : IsVariable m w) → low m x c w ≤ℚ v (name m w)
+    pub least : (w : Variable) (is : IsVariable m w) → low m x c w ≤ℚ v (name m w)
     least w is = subst (λ t. t ≤ℚ v (name m w)) (low-at m x c market w is) (bounds.low (name m w) (variable_in w is))
 
-    greatest : (w : Variable) (is : IsVariable m w) → v (name m w) ≤ℚ high m x c w
+    pub greatest : (w : Variable) (is : IsVariable m w) → v (name m w) ≤ℚ high m x c w
     greatest w is = subst (λ t. v (name m w) ≤ℚ t) (high-at m x c market w is) (bounds.high (name m w) (variable_in w is))
 
     -- the bounds of a price of which a column is the opposite
-    price_most : (w : Variable) (is : IsVariable m w) (p most : Fraction) → v (name m w) ≡ neg_ℚ p → low m x c w ≡ neg_ℚ most → p ≤ℚ most
+    pub price_most : (w : Variable) (is : IsVariable m w) (p most : Fraction) → v (name m w) ≡ neg_ℚ p → low m x c w ≡ neg_ℚ most → p ≤ℚ most
     price_most w is p most e k = opposite_back p most (subst₂ ◌≤ℚ◌ k e (least w is))
 
     price_least : (w : Variable) (is : IsVariable m w) (p bound : Fraction) → v (name m w) ≡ neg_ℚ p → high m x c w ≡ neg_ℚ bound → bound ≤ℚ p
     price_least w is p bound e k = opposite_back bound p (subst₂ ◌≤ℚ◌ e k (greatest w is))
 
-    block_worth : (j : ℕ) → j < length m.blocks → v (name m (Block j)) ≡ energy_worth m d (block_at m j).unit
+    pub block_worth : (j : ℕ) → j < length m.blocks → v (name m (Block j)) ≡ energy_worth m d (block_at m j).unit
     block_worth j h = meets.row (name m (Block j)) (row_in (Block j) (block_listed m j h)) ∙ activity-block m x c market v d agrees j h
 
-    offer_worth : (n : ℕ) → n < length m.reserve.offers → v (name m (Offer n)) ≡ reserve_worth m d (offer_at m n).unit
+    pub offer_worth : (n : ℕ) → n < length m.reserve.offers → v (name m (Offer n)) ≡ reserve_worth m d (offer_at m n).unit
     offer_worth n h = meets.row (name m (Offer n)) (row_in (Offer n) (offer_listed m n h)) ∙ activity-offer m x c market v d agrees n h
 
     block_supported : (j : ℕ) → j < length m.blocks → BlockSupported m x d j

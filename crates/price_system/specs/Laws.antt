@@ -1,6 +1,7 @@
 -- Laws of the prices that support a dispatch as points of a system.
 use Rattle.std.specs.Prelude.{◌≡◌, ℕ, ◌∷◌, [], ◌++◌, map}
 use Rattle.fraction_theory.specs.Fraction.{Fraction, neg_ℚ}
+use Rattle.fraction_theory.specs.Order.{◌≤ℚ◌}
 use Rattle.linear_system.specs.Systems.{InBounds, IsSystem, MeetsRows, objective}
 use Rattle.market_model.specs.declared.answered.Duals.{Duals}
 use Rattle.market_model.specs.declared.participants.Parts.{Parts}
@@ -8,6 +9,7 @@ use Rattle.market_model.specs.Dispatch.{Dispatch}
 use Rattle.market_model.specs.Market.{IsMarket}
 use Rattle.market_model.specs.Optimality.{ProperDuals, Supports}
 use Rattle.one_price.specs.FirstPrices.{other_prices, sum_of_prices}
+use Rattle.simplex_theory.specs.States.{IsBest}
 use Rattle.price_system.specs.PriceSystem.{Caps, KeepsCaps, duals_of, point_of, price_order, price_system}
 
 abbrev pub LawOfTheSystem : Type 0
@@ -28,6 +30,14 @@ LawOfDuals = (m : Parts) (x : Dispatch) (c : Caps) (d : Duals Fraction) → IsMa
 
 abbrev pub LawOfTheSum : Type 0
 LawOfTheSum = (m : Parts) (x : Dispatch) (c : Caps) (v : ℕ → Fraction) → IsMarket m → objective (price_system m x c) v ≡ neg_ℚ (sum_of_prices m (duals_of m v))
+
+-- The duals of a best point are proper, and no proper duals within the caps that support the dispatch have a lesser sum of prices.
+pub record HasLeastPrices (m : Parts) (x : Dispatch) (c : Caps) (v : ℕ → Fraction) : Type 0 where
+  pub proper : ProperDuals m (duals_of m v)
+  pub least : (e : Duals Fraction) → ProperDuals m e → Supports m x e → KeepsCaps m c e → sum_of_prices m (duals_of m v) ≤ℚ sum_of_prices m e
+
+abbrev pub LawOfBestPoints : Type 0
+LawOfBestPoints = (m : Parts) (x : Dispatch) (c : Caps) (v : ℕ → Fraction) → IsMarket m → IsBest (price_system m x c) v → HasLeastPrices m x c v
 
 -- in the order in which they are made least, the prices of a point are those of its duals, and energy's at last
 abbrev pub LawOfTheOrder : Type 0
