@@ -158,8 +158,8 @@ is_negative Above = false
 abbrev pub is_below : Fraction → Fraction → Bool
 is_below x y = is_negative (sign_of (x -ℚ y))
 
--- The price of a side of a limit, where the flow towards it is f: at least 0, and the penalty where the flow exceeds the limit; at most 0 where
--- it is below the limit, and else the penalty where it has not used up the excess.
+-- The price of a side of a limit, where the flow towards it is f: at least 0, and at least the penalty where the flow exceeds the limit; at most 0
+-- where it is below the limit, at most the cap where it has just used up the excess, and else at most the penalty.
 abbrev pub least_price : Parts → Row → Fraction → Fraction
 least_price m r f = if is_below (limit m r) f then penalty m r else zero
 
