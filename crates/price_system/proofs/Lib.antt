@@ -1,0 +1,10 @@
+pub mod BackLemmas
+pub mod BestLemmas
+pub mod BoundLemmas
+pub mod CapLemmas
+pub mod DualLemmas
+pub mod NameLemmas
+pub mod PointLaws
+pub mod SumLemmas
+pub mod SystemLemmas
+pub mod WorthLemmas

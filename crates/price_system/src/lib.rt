@@ -1,0 +1,4 @@
+//! The prices that support a dispatch, as the points of a linear system.
+#![tactic(auto)]
+
+pub mod laws;
