@@ -88,6 +88,7 @@ const PLAIN: Records<'static> = Records {
 };
 
 /// The texts of the tables.
+#[derive(Drop)]
 struct Texts {
     case: String,
     offers: String,
