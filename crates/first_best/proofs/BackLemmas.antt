@@ -242,7 +242,7 @@ module _ (d p : Dictionary) (names : List ℕ) (held : Held) (j : ℕ) (face : I
     value_after w c = ap Noted.value (note_back w c)
 
     pub same_after : HasSystem d after
-    unfolding noted_anew
+    unfolding noted_anew state_of
     same_after = record {
       live = live;
       sound = sound_after;
@@ -251,6 +251,7 @@ module _ (d p : Dictionary) (names : List ℕ) (held : Held) (j : ℕ) (face : I
       coefficients = coefficients;
       names = names_after;
       system = system_stays d after names_after columns rows coefficients price_after low_after high_after;
+      reduced = reduced;
     }
       where
         live : after.spent ≡ false
@@ -261,6 +262,9 @@ module _ (d p : Dictionary) (names : List ℕ) (held : Held) (j : ℕ) (face : I
 
         rows : after.rows ≡ d.rows
         rows = keeps.rows ∙ put.rows
+
+        reduced : (w : ℕ) → (state_of after).reduced w ≡ (state_of d).reduced w
+        reduced w = reduced_after w
 
         coefficients : after.coefficients ≡ d.coefficients
         coefficients = keeps.coefficients ∙ put.coefficients

@@ -29,7 +29,7 @@ some_same e = Prim.cc
 
 -- a dictionary has its own system
 pub same_itself : (d : Dictionary) → IsDictionary d → d.spent ≡ false → HasSystem d d
-same_itself d sound live = record { live = live; sound = sound; columns = refl; rows = refl; coefficients = refl; names = refl; system = refl }
+same_itself d sound live = record { live = live; sound = sound; columns = refl; rows = refl; coefficients = refl; names = refl; system = refl; reduced = λ w. refl }
 
 pub same_through : (d e f : Dictionary) → HasSystem d e → HasSystem e f → HasSystem d f
 same_through d e f one two = record {
@@ -40,6 +40,7 @@ same_through d e f one two = record {
   coefficients = two.coefficients ∙ one.coefficients;
   names = two.names ∙ one.names;
   system = two.system ∙ one.system;
+  reduced = λ w. two.reduced w ∙ one.reduced w;
 }
 
 module _ (d : Dictionary) (sound : IsDictionary d) (live : d.spent ≡ false) (shows : ShowsChoice d) (solved : IsSolved (system_in d) (state_of d)) where

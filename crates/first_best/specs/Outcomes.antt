@@ -14,7 +14,7 @@ use Rattle.simplex_theory.specs.States.{IsSolved}
 use Rattle.first_best.specs.declared.stop.FirstStop.{FirstStop}
 use Rattle.first_best.specs.declared.stop.FirstStop.TheVariants.{Passed as StoppedBy, Memory as NoMemory}
 
--- e is not spent, and has the columns and the rows of d as they were put in, with the same prices and bounds
+-- e is not spent, and has the columns and the rows of d as they were put in, with the same prices and bounds, and the same reduced prices
 pub record HasSystem (d e : Dictionary) : Type 0 where
   pub live : e.spent ≡ false
   pub sound : IsDictionary e
@@ -23,6 +23,7 @@ pub record HasSystem (d e : Dictionary) : Type 0 where
   pub coefficients : e.coefficients ≡ d.coefficients
   pub names : e.names ≡ d.names
   pub system : system_in e ≡ system_in d
+  pub reduced : (w : ℕ) → (state_of e).reduced w ≡ (state_of d).reduced w
 
 -- A solved dictionary with variables that are held: each that has a price is, where it stands, and those that are held are others. The best
 -- points that go first by these names are those at which they stay.

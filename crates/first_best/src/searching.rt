@@ -1,5 +1,5 @@
 // The search: column after column.
-ghost use Rattle.std.specs.Prelude.{◌++◌, ◌∷◌, [], List, ℕ, IfErr, IfOk};
+ghost use Rattle.std.specs.Prelude.{◌≡◌, ◌++◌, ◌∷◌, [], List, ℕ, IfErr, IfOk, false};
 ghost use Rattle.std.specs.List.{Contains};
 ghost use Rattle.linear_dict.specs.Dictionaries.{system_in};
 ghost use Rattle.simplex_core.specs.Outcomes.{ShowsChoice};
@@ -13,7 +13,6 @@ use crate::moving::{Face, moved_first};
 use crate::stop::FirstStop;
 use exact_fraction::Exact;
 use linear_dict::Dict;
-use simplex_core::Solved;
 use std::alloc::Global;
 
 /// A face of one column more: as it is, where the column can't move.
@@ -32,20 +31,20 @@ fn further<N: Exact>(alloc: Global, face: Face<N>, name: u32) -> Result<Face<N>,
     }
 }
 
-/// Of the best values of a solved system those that go first in this order of columns: that have more of the first one in which two of
-/// them differ. Prices, bounds and reduced prices stay, and each variable that has a reduced price stands where it stood.
+/// Of the best values of a system, of which a dictionary shows some, those that go first in this order of columns: that have more of the
+/// first one in which two of them differ. A column takes one run of the method at most.
 pub fn first_of_best<N: Exact>(
     alloc: Global,
-    solved: Solved<N>,
+    dict: Dict<N>,
     order: &[u32],
 ) -> Result<Dict<N>, FirstStop<N>>
-    requires shows { ShowsChoice solved }
-    requires solved { IsSolved (system_in solved) (state_of solved) }
-    requires columns { (j : ℕ) → Contains order.now j → Contains solved.columns j }
-    ensures first { IfOk result (GoesFirst solved order.now) }
-    ensures pair { IfErr result (IsPairOn N.value N.bound solved) }
+    requires live { dict.spent ≡ false }
+    requires shows { ShowsChoice dict }
+    requires solved { IsSolved (system_in dict) (state_of dict) }
+    requires columns { (j : ℕ) → Contains order.now j → Contains dict.columns j }
+    ensures first { IfOk result (GoesFirst dict order.now) }
+    ensures pair { IfErr result (IsPairOn N.value N.bound dict) }
 {
-    let dict = solved.into_dict();
     let held = held_besides(alloc, &dict, &[])?;
     let mut face = Face { dict, held };
     for place in 0..order.len() {

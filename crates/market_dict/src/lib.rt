@@ -16,5 +16,5 @@ mod taking;
 pub use posing::{PricesAndBounds, prices_and_bounds, take_bounds};
 pub use reading::duals;
 pub use rows::{start, take_limit, take_room};
-pub use solving::{Found, solve};
+pub use solving::{First, Found, go_first, solve};
 pub use taking::Taking;

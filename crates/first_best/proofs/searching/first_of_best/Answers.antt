@@ -16,13 +16,11 @@ use Rattle.first_best.proofs.searching.first_of_best.Goals as goal
 
 pub loop-place-init : goal.loop-place-init
 loop-place-init g c =
-    let d : Dictionary = c.into_dict-dict.result in
-    let e : d ≡ c.args.solved = c.into_dict-dict.ensures in
-    let live : d.spent ≡ false = Prim.search rules in
+    let d : Dictionary = c.args.dict in
     let sound : IsDictionary d = Prim.search rules in (
-      subst (λ (x : Dictionary). HasSystem x d) e (same_itself d sound live),
-      first_face d sound live (subst ShowsChoice (sym e) c.requires.shows) (subst (λ (x : Dictionary). IsSolved (system_in x) (state_of x)) (sym e) c.requires.solved)
-          (held_by d.names c.in_ok-held.held.items) (c.in_ok-held.ensures ∙ ap (λ (h : Held). more_held h (state_of d)) (held-nothing d.names)),
+      same_itself d sound c.requires.live,
+      first_face d sound c.requires.live c.requires.shows c.requires.solved (held_by d.names c.in_ok-held.held.items)
+          (c.in_ok-held.ensures ∙ ap (λ (h : Held). more_held h (state_of d)) (held-nothing d.names)),
     )
 
 pub further-requires-clause-column : goal.further-requires-clause-column
@@ -35,7 +33,7 @@ returns-in_err-face-clause-pair g c =
     let x = c.in_err-face.field-0.0 in
     let p = err_from_is_err_and c.from_residual-in_err-face.result c.from_residual-in_err-face.ensures.1 in
     let given : c.from_residual-in_err-face.result ≡ Err x = p.1 ∙ ap Err p.2 in
-    rw given (pair_on g.N.Exact.value g.N.Exact.bound c.args.solved c.loop-place.face.dict x c.loop-place.invariant.0.system c.in_err-face.ensures.pair)
+    rw given (pair_on g.N.Exact.value g.N.Exact.bound c.args.dict c.loop-place.face.dict x c.loop-place.invariant.0.system c.in_err-face.ensures.pair)
 
 pub loop-place-preserved : goal.loop-place-preserved
 loop-place-preserved g c =
@@ -43,7 +41,7 @@ loop-place-preserved g c =
     let k = c.loop-place.place in
     let next = c.in_ok-face.face in
     let so = c.loop-place.invariant in (
-      same_through c.args.solved c.loop-place.face.dict next.dict so.0 c.in_ok-face.ensures.same,
+      same_through c.args.dict c.loop-place.face.dict next.dict so.0 c.in_ok-face.ensures.same,
       rw (take_more order k 0 (Prim.omega (arith, c.loop-place-test.true))) (c.in_ok-face.ensures.face _ so.1),
     )
 
@@ -54,4 +52,4 @@ returns-clause-first g c =
     let face = c.loop-place.face in
     let so = c.loop-place.invariant in
     let all = take_all k order c.loop-place-test.false in
-    rw (sym all) (goes_first face.dict _ (held_by face.dict.names face.held.items) so.1 c.args.solved so.0)
+    rw (sym all) (goes_first face.dict _ (held_by face.dict.names face.held.items) so.1 c.args.dict so.0)
