@@ -1,6 +1,6 @@
 -- The point that goes first in a dictionary that holds a market is the dispatch that goes first.
 use Rattle.std.specs.Prelude.{◌≡◌, ℕ, List, [], ◌++◌, map, slice_index, Contains}
-use Rattle.std.proofs.Common.{ap₂, sym, ◌∙◌, subst}
+use Rattle.std.proofs.Common.{ap₂, refl, sym, ◌∙◌, subst}
 use Rattle.std.proofs.lemmas.List.Elements.{Contains-append_left}
 use Rattle.fraction_theory.specs.Fraction.{Fraction}
 use Rattle.linear_dict.specs.Causes.{IsPairOf}
@@ -12,27 +12,26 @@ use Rattle.linear_system.specs.Systems.{System}
 use Rattle.linear_system.proofs.SameSystems.{same_pair, turned_round}
 use Rattle.optimal_face.specs.FirstPoints.{IsFirstBest}
 use Rattle.optimal_face.proofs.FirstLemmas.{first_by_agreement}
-use Rattle.simplex_theory.specs.States.{IsSolved}
 use Rattle.simplex_theory.proofs.SameStates.{same_best}
-use Rattle.simplex_core.specs.Outcomes.{ShowsChoice}
 use Rattle.simplex_core.specs.States.{state_of}
 use Rattle.first_best.specs.Outcomes.{GoesFirst}
 use Rattle.market_model.specs.declared.participants.Parts.{Parts}
 use Rattle.market_model.specs.declared.stops.Stop.{Stop}
 use Rattle.market_model.specs.declared.stops.Stop.TheVariants.{Passed as StoppedBy, Memory as NoMemory}
+use Rattle.market_model.specs.Dispatch.{Dispatch}
 use Rattle.market_model.specs.Market.{IsMarket}
 use Rattle.market_model.specs.Stops.{OnPassed}
 use Rattle.market_system.specs.declared.variables.Variable.{Variable}
-use Rattle.market_system.specs.MarketSystem.{block_columns, choice_dispatch, excess_columns, name, offer_columns, system_of}
+use Rattle.market_system.specs.MarketSystem.{block_columns, choice_dispatch, choice_duals, excess_columns, name, offer_columns, system_of}
 use Rattle.market_system.proofs.VariableLaws.{block_names, in_mapped, mapped, offer_names}
 use Rattle.market_system.specs.Ties.{IsFirstFor, dispatch_names}
 use Rattle.one_dispatch.proofs.PointOrder.{law_of_the_point}
 use Rattle.market_dict.specs.declared.taking.Taking.{Taking}
-use Rattle.market_dict.specs.Findings.{IsPairOver}
+use Rattle.market_dict.specs.Findings.{HoldsBest, IsPairOver, IsSolvedBy}
 use Rattle.market_dict.specs.Holding.{HoldsSystem}
 use Rattle.market_dict.specs.Takings.{columns_put, limits_of, taken_of}
 use Rattle.market_dict.proofs.ColumnLists.{columns_none, mapped_none}
-use Rattle.market_dict.proofs.HoldingLaws.{holds_same, shown_value, solved_at}
+use Rattle.market_dict.proofs.HoldingLaws.{holds_same, shown_choice, shown_value, solved_answers, solved_at}
 
 -- ---- the order of the names
 pub order_is : (m : Parts) → map (name m) (columns_put m []) ≡ dispatch_names m
@@ -60,20 +59,33 @@ first_holds m ts d e holds goes = record {
   same = subst (λ (s : System). SameSystem s (system_of m (taken_of ts))) (sym goes.same.system) holds.same;
 }
 
-module _ (m : Parts) (ts : List Taking) (e : Dictionary) (market : IsMarket m) (holds : HoldsSystem m ts e) (shows : ShowsChoice e) (solved : IsSolved (system_in e) (state_of e))
-    (first : IsFirstBest (system_in e) (dispatch_names m) (state_of e).value) where
+-- what a solved dictionary shows solves the market
+pub solved_by : (m : Parts) (ts : List Taking) (e : Dictionary) → IsMarket m → HoldsBest m ts e → (x : Dispatch) → x ≡ choice_dispatch m (taken_of ts) (choice_of e)
+    → IsSolvedBy m ts x (choice_duals m (taken_of ts) (choice_of e))
+solved_by m ts e market best x is = record {
+  choice = choice_of e;
+  is_choice = shown_choice m ts e best.0 best.1;
+  dispatch = is;
+  duals = refl;
+  answers = solved_answers m ts e market best.0 best.1 best.2;
+}
+
+module _ (m : Parts) (ts : List Taking) (d e : Dictionary) (market : IsMarket m) (before : HoldsSystem m ts d) (goes : GoesFirst d (dispatch_names m) e) where
+  holds : HoldsSystem m ts e
+  holds = first_holds m ts d e before goes
+
   point : IsFirstBest (system_of m (taken_of ts)) (dispatch_names m) (state_of e).value
-  point = same_first (system_in e) (system_of m (taken_of ts)) (dispatch_names m) holds.same (state_of e).value first
+  point = same_first (system_in d) (system_of m (taken_of ts)) (dispatch_names m) before.same (state_of e).value goes.first
 
   value_at : (w : ℕ) → Contains e.names w → (state_of e).value w ≡ value (system_of m (taken_of ts)) (choice_of e) w
   unfolding state_of
-  value_at w c = shown_value m ts e holds shows w c
+  value_at w c = shown_value m ts e holds goes.shows w c
 
   -- its dispatch is the one that goes first
   pub first_for : IsFirstFor m (taken_of ts) (choice_dispatch m (taken_of ts) (choice_of e))
-  first_for = law_of_the_point m (taken_of ts) (value (system_of m (taken_of ts)) (choice_of e)) market holds.holds.takings.taken
+  first_for = law_of_the_point m (taken_of ts) (value (system_of m (taken_of ts)) (choice_of e)) market before.holds.takings.taken
       (first_by_agreement (system_of m (taken_of ts)) (dispatch_names m) (state_of e).value (value (system_of m (taken_of ts)) (choice_of e)) point
-      (solved_at m ts e holds shows market solved).best
+      (solved_at m ts e holds goes.shows market goes.solved).best
       (λ k l.
       let c : Contains (dispatch_names m) (slice_index (dispatch_names m) k) = Contains-at (dispatch_names m) k l in
       let column = order_columns m ts e holds (slice_index (dispatch_names m) k) (subst (λ (ws : List ℕ). Contains ws (slice_index (dispatch_names m) k)) (sym (order_is m)) c) in
