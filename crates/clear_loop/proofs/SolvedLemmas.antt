@@ -51,9 +51,9 @@ module _ (m : Parts) (ts : List Taking) (x : Dispatch) (d : Duals Fraction) (mar
   supports kept =
       supports_by m (limits_of ts) x d (subst₂ (SupportsFor m (limits_of ts)) (sym solved.dispatch) (sym solved.duals) solved.answers.supported) (λ r c new. (kept.limits r c).limit new)
 
-  -- where all limits and rooms are kept, it goes first not only of the best for what is taken, but of the best for all
-  pub first_of_all : AreTaken m (taken_of ts) → KeepsAll m (limits_of ts) x → IsFirstFor m (all_of m) x
-  first_of_all are kept = law_of_all_limits m (taken_of ts) x market are solved.first (kept_feasible m market ts x best_for kept) (λ r c new. (kept.limits r c).limit new)
+  -- where it goes first of the best for what is taken, and all limits and rooms are kept, it goes first of the best for all
+  pub first_of_all : AreTaken m (taken_of ts) → IsFirstFor m (taken_of ts) x → KeepsAll m (limits_of ts) x → IsFirstFor m (all_of m) x
+  first_of_all are first kept = law_of_all_limits m (taken_of ts) x market are first (kept_feasible m market ts x best_for kept) (λ r c new. (kept.limits r c).limit new)
 
   pub proper : ProperDuals m d
   proper = subst (ProperDuals m) (sym solved.duals) solved.answers.proper

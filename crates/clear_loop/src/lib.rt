@@ -12,6 +12,7 @@ mod hand;
 pub mod laws;
 mod merit;
 mod rounds;
+mod sameness;
 mod screen;
 mod worths;
 

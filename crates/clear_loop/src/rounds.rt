@@ -1,5 +1,5 @@
 //! The rounds of a clear: each solves the market over the limits and rooms in hand, and takes the limit or room that is passed by the most,
-//! where one is.
+//! where one is. Where a best dispatch passes none, the best dispatch that goes first is looked for, which may pass one where it is another.
 
 ghost use Rattle.std.specs.Prelude.{◌≡◌, List, length, map, IfOk, IfErr};
 ghost use Rattle.market_model.specs.Dispatch.{dispatch_with, empty};
@@ -7,7 +7,7 @@ ghost use Rattle.market_model.specs.Infeasibility.{IsFarkas};
 ghost use Rattle.market_model.specs.Valued.{duals_at, farkas_at};
 ghost use Rattle.market_system.specs.Growth.{Growth};
 ghost use Rattle.limit_screen.specs.Flows.{flows_at};
-ghost use Rattle.market_dict.specs.Findings.{IsFound, IsStuckBy};
+ghost use Rattle.market_dict.specs.Findings.{IsFirstFound, IsFound, IsStuckBy};
 ghost use Rattle.market_dict.specs.PricesAndBounds.{ArePricesAndBounds};
 ghost use Rattle.market_dict.specs.Takings.{limits_of};
 ghost use Rattle.market_dict.specs.declared.solving.Found.TheVariants as found;
@@ -19,11 +19,12 @@ ghost use Rattle.clear_loop.specs.Rounds.{KeepsAll, HoldsStart, IsEnded, IsInHan
 use crate::answering::answer_of;
 use crate::bounding::farkas_bound;
 use crate::hand::{Hand, TakenInOrder, with_taking};
+use crate::sameness::are_same;
 use crate::screen::{Screened, screened_at};
 use dual_restart::Warm;
 use exact_fraction::Exact;
 use linear_dict::Dict;
-use market_dict::{Found, PricesAndBounds, duals, solve};
+use market_dict::{First, Found, PricesAndBounds, duals, go_first, solve};
 use market_model::{Answer, Duals, Farkas, Market, Stop};
 use plain_list::List;
 use std::alloc::Global;
@@ -83,35 +84,63 @@ fn bound_of<N: Exact>(
     }
 }
 
-/// The end with an answer, of a best dispatch that keeps all limits and rooms.
+/// The end with an answer, of the best dispatch that goes first, where it keeps all limits and rooms.
 fn answered<N: Exact>(
     alloc: Global,
     market: &Market,
-    dict: Dict<N>,
+    first: First<N>,
     taken: TakenInOrder,
-    dispatch: List<N>,
-    reserve: List<N>,
     flows: &[N],
 ) -> Result<Ended<N>, Stop<N>>
-    requires found { IsFound N.value market.now taken.takings (found.Best dict dispatch reserve) }
+    requires first { IsFirstFound N.value market.now taken.takings first }
     requires listed { AreListed market.now taken }
-    requires kept { KeepsAll market.now (limits_of taken.takings) (dispatch_with (map N.value dispatch) (map N.value reserve)) }
-    requires flows { map N.value flows.now ≡ flows_at market.now (dispatch_with (map N.value dispatch) (map N.value reserve)) }
+    requires kept { KeepsAll market.now (limits_of taken.takings) (dispatch_with (map N.value first.dispatch) (map N.value first.reserve)) }
+    requires flows { map N.value flows.now ≡ flows_at market.now (dispatch_with (map N.value first.dispatch) (map N.value first.reserve)) }
     ensures ended { IfOk result (IsEnded N.value market.now) }
     ensures taken { IfOk result (λ ended. ended.taken ≡ taken) }
     ensures stops { IfErr result (StopsInRange N.value N.bound market.now (limits_of taken.takings)) }
 {
     let _lines = market.lines();
-    let duals = duals(alloc, market, &dict)?;
-    let answer = answer_of(alloc, market, dispatch, reserve, flows, duals)?;
+    let duals = duals(alloc, market, &first.dict)?;
+    let answer = answer_of(alloc, market, first.dispatch, first.reserve, flows, duals)?;
     Ok(Ended {
-        dict,
+        dict: first.dict,
         taken,
         answer: Ok(answer),
     })
 }
 
-/// What a round comes to with a best dispatch for what is in hand.
+/// What a round comes to with the best dispatch that goes first, where all limits and rooms are still to be looked at.
+fn after_first<N: Exact>(
+    alloc: Global,
+    market: &Market,
+    first: First<N>,
+    posing: PricesAndBounds<N>,
+    taken: TakenInOrder,
+) -> Result<Round<N>, Stop<N>>
+    requires first { IsFirstFound N.value market.now taken.takings first }
+    requires posing { ArePricesAndBounds N.value market.now taken.takings posing }
+    requires listed { AreListed market.now taken }
+    ensures round { IfOk result (IsRound N.value market.now taken.takings) }
+    ensures stops { IfErr result (StopsInRange N.value N.bound market.now (limits_of taken.takings)) }
+{
+    let _lines = market.lines();
+    match screened_at(
+        alloc,
+        market,
+        first.dispatch.slice(),
+        first.reserve.slice(),
+        taken.rows.slice(),
+    )? {
+        Screened::Worst(taking) => Ok(Round::Grown(with_taking(
+            alloc, market, first.dict, posing, taken, taking,
+        )?)),
+        Screened::Within(flows) => Ok(Round::Done(answered(alloc, market, first, taken, &flows)?)),
+    }
+}
+
+/// What a round comes to with a best dispatch for what is in hand. Where it passes no limit and no room, the one that goes first is looked
+/// for; its limits and rooms are looked at only where it is another one.
 fn after_best<N: Exact>(
     alloc: Global,
     market: &Market,
@@ -128,19 +157,20 @@ fn after_best<N: Exact>(
     ensures stops { IfErr result (StopsInRange N.value N.bound market.now (limits_of taken.takings)) }
 {
     let _lines = market.lines();
-    match screened_at(
-        alloc,
-        market,
-        dispatch.slice(),
-        reserve.slice(),
-        taken.rows.slice(),
-    )? {
+    let blocks = dispatch.slice();
+    let offers = reserve.slice();
+    match screened_at(alloc, market, blocks, offers, taken.rows.slice())? {
         Screened::Worst(taking) => Ok(Round::Grown(with_taking(
             alloc, market, dict, posing, taken, taking,
         )?)),
-        Screened::Within(flows) => Ok(Round::Done(answered(
-            alloc, market, dict, taken, dispatch, reserve, &flows,
-        )?)),
+        Screened::Within(flows) => {
+            let first = go_first(alloc, market, dict)?;
+            if are_same(blocks, first.dispatch.slice()) && are_same(offers, first.reserve.slice()) {
+                Ok(Round::Done(answered(alloc, market, first, taken, &flows)?))
+            } else {
+                after_first(alloc, market, first, posing, taken)
+            }
+        }
     }
 }
 

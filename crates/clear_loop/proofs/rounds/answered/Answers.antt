@@ -14,16 +14,17 @@ returns-clause-ended g c =
     let value = g.N.Exact.value in
     let m = c.args.market.now in
     let ts = c.args.taken.takings in
-    let x = dispatch_with (map value c.args.dispatch) (map value c.args.reserve) in
-    let solved : IsSolvedBy m ts x (duals_at value c.in_ok-duals.duals) = subst (IsSolvedBy m ts x) (sym (c.in_ok-duals.ensures ts c.requires.found.0)) c.requires.found.2 in
+    let x = dispatch_with (map value c.args.first.dispatch) (map value c.args.first.reserve) in
+    let best = c.requires.first.0 in
+    let solved : IsSolvedBy m ts x (duals_at value c.in_ok-duals.duals) = subst (IsSolvedBy m ts x) (sym (c.in_ok-duals.ensures ts best.0.0)) best.1 in
     record {
-      holds = c.requires.found.0.holds;
+      holds = best.0.0.holds;
       listed = c.requires.listed;
       end = (
         c.in_ok-answer.ensures.fits,
         c.in_ok-answer.ensures.right,
         subst (IsFirstFor m (all_of m)) (sym c.in_ok-answer.ensures.dispatch)
-            (first_of_all m ts x (duals_at value c.in_ok-duals.duals) c.lines-lines.ensures.market solved c.requires.found.0.holds.takings.taken c.requires.kept),
+            (first_of_all m ts x (duals_at value c.in_ok-duals.duals) c.lines-lines.ensures.market solved best.0.0.holds.takings.taken c.requires.first.1 c.requires.kept),
         subst (λ d. PricesOnly m (limits_of ts) (duals_at value d)) (sym c.in_ok-answer.ensures.duals) (prices_only m ts x (duals_at value c.in_ok-duals.duals) c.lines-lines.ensures.market solved),
       );
     }
