@@ -1,0 +1,64 @@
+-- Caps that lose none of the first prices that support a dispatch, so that the first best point of the system of prices has them.
+-- Source: own. A price at a kink of the supply curve may be as far out as a block's own price, and what other prices make of it is bounded by them.
+use Rattle.std.specs.Prelude.{ℕ, pos, ◌<◌, length, Contains}
+use Rattle.fraction_theory.specs.Fraction.{Fraction, whole, ◌+ℚ◌, ◌*ℚ◌}
+use Rattle.fraction_theory.specs.Order.{◌<ℚ◌, ◌≤ℚ◌}
+use Rattle.fraction_theory.specs.Signs.{abs_ℚ}
+use Rattle.market_model.specs.declared.answered.Duals.{Duals}
+use Rattle.market_model.specs.declared.limits.Row.{Row}
+use Rattle.market_model.specs.declared.participants.Parts.{Parts}
+use Rattle.market_model.specs.Dispatch.{Dispatch, block_at, zero}
+use Rattle.market_model.specs.LimitRows.{rows, unit_factor}
+use Rattle.market_model.specs.Optimality.{ProperDuals, Supports, price}
+use Rattle.one_price.specs.FirstPrices.{GoesBefore, sum_of_prices, with_energy}
+use Rattle.price_system.specs.PriceSystem.{Caps, KeepsCaps}
+
+-- ---- sizes
+-- a size that the factor of no block's unit for a row of the market is above
+pub record IsFactorSize (m : Parts) (size : Fraction) : Type 0 where
+  pub sign : zero ≤ℚ size
+  pub most : (r : Row) (j : ℕ) → Contains (rows m) r → j < length m.blocks → abs_ℚ (unit_factor m r (block_at m j).unit) ≤ℚ size
+
+-- a size that no block's price is above
+pub record IsPriceSize (m : Parts) (size : Fraction) : Type 0 where
+  pub sign : zero ≤ℚ size
+  pub most : (j : ℕ) → j < length m.blocks → abs_ℚ (price m j) ≤ℚ size
+
+-- so much prices that add up to at most `most` make of what a MW of a block's unit is worth
+abbrev pub share : (most factor : Fraction) → Fraction
+share most factor = most *ℚ (whole (pos 1) +ℚ factor)
+
+-- ---- caps
+-- Caps from duals that support the dispatch: the sum of their prices, and beyond their price of energy what two sets of prices of at most that sum
+-- make of a MW.
+pub record AreCapsBy (m : Parts) (e : Duals Fraction) (c : Caps) : Type 0 where
+  pub factor : Fraction
+  pub factors : IsFactorSize m factor
+  pub sums : sum_of_prices m e ≤ℚ c.most
+  pub range : (abs_ℚ e.energy +ℚ (share c.most factor +ℚ share c.most factor)) ≤ℚ c.range
+
+-- Caps that reach beyond what blocks can bound: the sum likewise, and more than any block's price and what prices of at most that sum make of a MW.
+pub record AreWideCapsBy (m : Parts) (e : Duals Fraction) (c : Caps) : Type 0 where
+  pub factor : Fraction
+  pub factors : IsFactorSize m factor
+  pub price : Fraction
+  pub prices : IsPriceSize m price
+  pub sums : sum_of_prices m e ≤ℚ c.most
+  pub range : (price +ℚ share c.most factor) <ℚ c.range
+
+-- ---- what they lose nothing of
+-- at a price of energy within the caps these duals support the dispatch
+pub record FitsAt (m : Parts) (x : Dispatch) (c : Caps) (f : Duals Fraction) (p : Fraction) : Type 0 where
+  pub supported : Supports m x (with_energy f p)
+  pub keeps : KeepsCaps m c (with_energy f p)
+
+-- and so do all that support it with a sum of prices of at most that of e, each at some price
+abbrev pub LoseNothing : Parts → Dispatch → Duals Fraction → Caps → Type 0
+LoseNothing m x e c = (f : Duals Fraction) → Supports m x f → sum_of_prices m f ≤ℚ sum_of_prices m e → (p : Fraction) × FitsAt m x c f p
+
+-- ---- what first best points have
+-- AreFirstDuals without what it says of energy
+pub record HasFirstPrices (m : Parts) (x : Dispatch) (d : Duals Fraction) : Type 0 where
+  pub supported : Supports m x d
+  pub proper : ProperDuals m d
+  pub first : (e : Duals Fraction) → Supports m x e → ProperDuals m e → ¬ (GoesBefore m e d)

@@ -1,0 +1,12 @@
+//! What is known of the first best points of the system of prices.
+ghost use Rattle.first_prices.specs.Laws.{LawOfCaps, LawOfWideCaps};
+
+/// Caps by duals that support the dispatch lose nothing: others of at most their sum support it at some price of energy within the caps.
+pub fn caps_lose_nothing()
+    ensures { LawOfCaps }
+{}
+
+/// So do caps beyond what blocks can bound.
+pub fn wide_caps_lose_nothing()
+    ensures { LawOfWideCaps }
+{}
