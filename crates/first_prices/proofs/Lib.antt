@@ -1,3 +1,4 @@
 pub mod BlockLemmas
 pub mod CapLemmas
+pub mod PointLemmas
 pub mod SizeLemmas

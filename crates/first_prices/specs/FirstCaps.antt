@@ -1,7 +1,8 @@
 -- Caps that lose none of the first prices that support a dispatch, so that the first best point of the system of prices has them.
 -- Source: own. A price at a kink of the supply curve may be as far out as a block's own price, and what other prices make of it is bounded by them.
-use Rattle.std.specs.Prelude.{ℕ, pos, ◌<◌, length, Contains}
-use Rattle.fraction_theory.specs.Fraction.{Fraction, whole, ◌+ℚ◌, ◌*ℚ◌}
+use Rattle.std.specs.Prelude.{◌≡◌, ℕ, pos, ◌<◌, List, ◌∷◌, ◌++◌, length, map, reverse, Contains}
+use Rattle.std.specs.List.{flat_map}
+use Rattle.fraction_theory.specs.Fraction.{Fraction, whole, neg_ℚ, ◌+ℚ◌, ◌*ℚ◌}
 use Rattle.fraction_theory.specs.Order.{◌<ℚ◌, ◌≤ℚ◌}
 use Rattle.fraction_theory.specs.Signs.{abs_ℚ}
 use Rattle.market_model.specs.declared.answered.Duals.{Duals}
@@ -10,8 +11,11 @@ use Rattle.market_model.specs.declared.participants.Parts.{Parts}
 use Rattle.market_model.specs.Dispatch.{Dispatch, block_at, zero}
 use Rattle.market_model.specs.LimitRows.{rows, unit_factor}
 use Rattle.market_model.specs.Optimality.{ProperDuals, Supports, price}
-use Rattle.one_price.specs.FirstPrices.{GoesBefore, sum_of_prices, with_energy}
-use Rattle.price_system.specs.PriceSystem.{Caps, KeepsCaps}
+use Rattle.market_model.specs.Overrun.{Within}
+use Rattle.market_model.specs.Reserves.{reserve_units}
+use Rattle.one_price.specs.FirstPrices.{EnergyMayCost, GoesBefore, HasNoGreatest, HasNoLeast, IsGreatest, IsLeast, sum_of_prices, with_energy}
+use Rattle.price_system.specs.PriceSystem.{Caps, KeepsCaps, Variable, Reserve, Room, name, price_system, two_sides}
+use Rattle.optimal_face.specs.FirstPoints.{IsFirstBest}
 
 -- ---- sizes
 -- a size that the factor of no block's unit for a row of the market is above
@@ -62,3 +66,10 @@ pub record HasFirstPrices (m : Parts) (x : Dispatch) (d : Duals Fraction) : Type
   pub supported : Supports m x d
   pub proper : ProperDuals m d
   pub first : (e : Duals Fraction) → Supports m x e → ProperDuals m e → ¬ (GoesBefore m e d)
+
+-- the order in which the prices are made least that are not energy's
+abbrev pub other_columns : Parts → List Variable
+other_columns m = Reserve ∷ (flat_map two_sides (rows m) ++ map Room (reserve_units m))
+
+abbrev pub other_order : Parts → List ℕ
+other_order m = reverse (map (name m) (other_columns m))

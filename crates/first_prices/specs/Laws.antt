@@ -1,12 +1,14 @@
 -- Laws of the first best points of the system of prices.
+use Rattle.std.specs.Prelude.{ℕ}
 use Rattle.market_model.specs.declared.answered.Duals.{Duals}
 use Rattle.fraction_theory.specs.Fraction.{Fraction}
 use Rattle.market_model.specs.declared.participants.Parts.{Parts}
 use Rattle.market_model.specs.Dispatch.{Dispatch}
 use Rattle.market_model.specs.Market.{IsMarket}
-use Rattle.market_model.specs.Optimality.{Supports}
-use Rattle.price_system.specs.PriceSystem.{Caps}
-use Rattle.first_prices.specs.FirstCaps.{AreCapsBy, AreWideCapsBy, LoseNothing}
+use Rattle.market_model.specs.Optimality.{ProperDuals, Supports}
+use Rattle.optimal_face.specs.FirstPoints.{IsFirstBest}
+use Rattle.price_system.specs.PriceSystem.{Caps, duals_of, price_order, price_system}
+use Rattle.first_prices.specs.FirstCaps.{AreCapsBy, AreWideCapsBy, HasFirstPrices, LoseNothing, other_order}
 
 -- caps of either kind lose nothing
 abbrev pub LawOfCaps : Type 0
@@ -14,3 +16,12 @@ LawOfCaps = (m : Parts) (x : Dispatch) (e : Duals Fraction) (c : Caps) → IsMar
 
 abbrev pub LawOfWideCaps : Type 0
 LawOfWideCaps = (m : Parts) (x : Dispatch) (e : Duals Fraction) (c : Caps) → IsMarket m → AreWideCapsBy m e c → LoseNothing m x e c
+
+-- for caps that lose nothing of proper duals that support the dispatch, the first best point has the first prices, also where energy's is left out
+abbrev pub LawOfFirstPoints : Type 0
+LawOfFirstPoints = (m : Parts) (x : Dispatch) (e : Duals Fraction) (c : Caps) (v : ℕ → Fraction) → IsMarket m → ProperDuals m e → Supports m x e → LoseNothing m x e c
+    → IsFirstBest (price_system m x c) (price_order m) v → HasFirstPrices m x (duals_of m v)
+
+abbrev pub LawOfOtherPoints : Type 0
+LawOfOtherPoints = (m : Parts) (x : Dispatch) (e : Duals Fraction) (c : Caps) (v : ℕ → Fraction) → IsMarket m → ProperDuals m e → Supports m x e → LoseNothing m x e c
+    → IsFirstBest (price_system m x c) (other_order m) v → HasFirstPrices m x (duals_of m v)
