@@ -56,7 +56,8 @@ module _ (m : Parts) (x : Dispatch) where
   of_bids d j b = record { full = b.gain; empty = b.loss }
 
   -- duals support a dispatch at another price of energy, where its blocks are supported
-  pub supported_at : (d : Duals Fraction) (p : Fraction) → Supports m x d → ((j : ℕ) → j < length m.blocks → BlockBids m x j (worth_of m (with_energy d p) j)) → Supports m x (with_energy d p)
+  pub supported_at : (d : Duals Fraction) (p : Fraction) → Supports m x d
+      → ((j : ℕ) → j < length m.blocks → BlockBids m x j (worth_of m (with_energy d p) j)) → Supports m x (with_energy d p)
   supported_at d p holds each = record {
     blocks = λ j h. of_bids (with_energy d p) j (each j h);
     rows = λ s c. let h = holds.rows s c in record { up = h.up; down = h.down };

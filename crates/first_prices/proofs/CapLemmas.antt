@@ -15,7 +15,7 @@ use Rattle.market_model.specs.Overrun.{Within}
 use Rattle.one_price.specs.FirstPrices.{sum_of_prices, with_energy}
 use Rattle.price_system.specs.PriceSystem.{Caps}
 use Rattle.price_system.proofs.CapLemmas.{opposite, opposite_back}
-use Rattle.first_prices.specs.FirstCaps.{AreCapsBy, AreWideCapsBy, FitsAt, LoseNothing, share}
+use Rattle.first_prices.specs.FirstCaps.{AreCapsBy, AreWideCapsBy, FitsAt, share}
 use Rattle.first_prices.specs.Laws.{LawOfCaps, LawOfWideCaps}
 use Rattle.first_prices.proofs.BlockLemmas.{BlockBids, above, below, between, bids_of, supported_at, worth_of}
 use Rattle.first_prices.proofs.SizeLemmas.{keeps_at, nil_plus, rest, rest_size, share_least, within_size, worth_by_rest}
@@ -157,7 +157,7 @@ module _ (m : Parts) (x : Dispatch) (e f : Duals Fraction) (c : Caps) (market : 
   beyond_down j is = let own = price_within j is in
       subst (λ t. t <ℚ price m j) (sym (worth_by_rest m f (neg_ℚ c.range) j)) (far_down (price m j) caps.price wide_size _ c.range own.above (rest_of j is) caps.range)
 
-  range_least : zero ≤ℚ c.range
+  pub range_least : zero ≤ℚ c.range
   range_least = ≤ℚ_trans zero (caps.price +ℚ wide_size) c.range
       (nil_plus caps.price wide_size caps.prices.sign (share_least m x c f market fits wide_sums caps.factor caps.factors.sign))
       (<ℚ-≤ℚ (caps.price +ℚ wide_size) c.range caps.range)

@@ -1,4 +1,5 @@
 pub mod BlockLemmas
 pub mod CapLemmas
+pub mod EnergyLemmas
 pub mod PointLemmas
 pub mod SizeLemmas

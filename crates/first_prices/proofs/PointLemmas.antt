@@ -1,5 +1,5 @@
 -- First best points of the system have the first prices.
-use Rattle.std.specs.Prelude.{◌≡◌, ℕ, ◌+◌, ◌<◌, [], ◌∷◌, ◌++◌, length, map, slice_index, refl}
+use Rattle.std.specs.Prelude.{◌≡◌, ℕ, ◌<◌, [], ◌∷◌, ◌++◌, length, map, slice_index, refl}
 use Rattle.std.proofs.Common.{arith, ap, sym, ◌∙◌, subst, subst₂, get_or}
 use Rattle.std.proofs.lemmas.List.{get_or-map, length-append, map-append, reverse-append}
 use Rattle.fraction_theory.specs.Fraction.{Fraction, neg_ℚ}
@@ -46,18 +46,18 @@ module _ (m : Parts) (market : IsMarket m) where
   in_order v =
       let opposite_of : ℕ → Fraction = λ w. neg_ℚ (v w) in
       let whole : map opposite_of (other_order m) ++ (neg_ℚ (v 0) ∷ []) ≡ other_prices m (duals_of m v) ++ (neg_ℚ (v 0) ∷ []) =
-        sym (map-append opposite_of (other_order m) (0 ∷ [])) ∙ sym (ap (map opposite_of) (order_parts m)) ∙ law_of_the_order m v market in
+      sym (map-append opposite_of (other_order m) (0 ∷ [])) ∙ sym (ap (map opposite_of) (order_parts m)) ∙ law_of_the_order m v market in
       let long : length (map opposite_of (other_order m)) ≡ length (other_prices m (duals_of m v)) =
-        Prim.omega (arith, ap length whole, length-append (map opposite_of (other_order m)) (neg_ℚ (v 0) ∷ []), length-append (other_prices m (duals_of m v)) (neg_ℚ (v 0) ∷ [])) in
+      Prim.omega (arith, ap length whole, length-append (map opposite_of (other_order m)) (neg_ℚ (v 0) ∷ []), length-append (other_prices m (duals_of m v)) (neg_ℚ (v 0) ∷ [])) in
       let parts = same_parts (map opposite_of (other_order m)) (neg_ℚ (v 0) ∷ []) (other_prices m (duals_of m v)) (neg_ℚ (v 0) ∷ []) long whole in
       parts.0
 
-  order_long : (d : Duals Fraction) → length (other_order m) ≡ length (other_prices m d)
+  pub order_long : (d : Duals Fraction) → length (other_order m) ≡ length (other_prices m d)
   order_long d =
       let v : ℕ → Fraction = λ w. zero in
       sym (length-map (λ w. neg_ℚ (v w)) (other_order m)) ∙ ap length (in_order v) ∙ others_long m (duals_of m v) d
 
-  price_at : (v : ℕ → Fraction) (k : ℕ) → k < length (other_order m) → neg_ℚ (v (slice_index (other_order m) k)) ≡ other_price m (duals_of m v) k
+  pub price_at : (v : ℕ → Fraction) (k : ℕ) → k < length (other_order m) → neg_ℚ (v (slice_index (other_order m) k)) ≡ other_price m (duals_of m v) k
   price_at v k h = sym (get_or-map (λ w. neg_ℚ (v w)) (other_order m) k 0 zero h) ∙ ap (λ ys. get_or ys k zero) (in_order v)
 
   -- two points stand at a column as their duals at its price
@@ -128,7 +128,8 @@ module _ (m : Parts) (x : Dispatch) (e : Duals Fraction) (c : Caps) (v : ℕ →
 pub law_of_other_points : LawOfOtherPoints
 law_of_other_points m x e c v market is holds lose first = first_prices m x e c v market is holds lose first
 
-pub others_first : (m : Parts) (x : Dispatch) (c : Caps) (v : ℕ → Fraction) → IsFirstBest (price_system m x c) (price_order m) v → IsFirstBest (price_system m x c) (other_order m ++ (0 ∷ [])) v
+pub others_first : (m : Parts) (x : Dispatch) (c : Caps) (v : ℕ → Fraction) → IsFirstBest (price_system m x c) (price_order m) v
+    → IsFirstBest (price_system m x c) (other_order m ++ (0 ∷ [])) v
 others_first m x c v first = subst (λ names. IsFirstBest (price_system m x c) names v) (order_parts m) first
 
 pub law_of_first_points : LawOfFirstPoints

@@ -1,7 +1,7 @@
 -- What prices of at most a sum make of what a MW of a block's unit is worth.
-use Rattle.std.specs.Prelude.{◌≡◌, ℕ, ◌<◌, pos, List, [], ◌∷◌, length, Contains, refl}
+use Rattle.std.specs.Prelude.{◌≡◌, ℕ, ◌<◌, List, [], ◌∷◌, length, Contains, refl}
 use Rattle.std.proofs.Common.{arith, sym, ◌∙◌, subst, inl, inr}
-use Rattle.fraction_theory.specs.Fraction.{Fraction, whole, neg_ℚ, ◌+ℚ◌, ◌-ℚ◌, ◌*ℚ◌}
+use Rattle.fraction_theory.specs.Fraction.{Fraction, neg_ℚ, ◌+ℚ◌, ◌-ℚ◌, ◌*ℚ◌}
 use Rattle.fraction_theory.specs.Order.{◌≤ℚ◌}
 use Rattle.fraction_theory.specs.Signs.{abs_ℚ}
 use Rattle.fraction_theory.specs.Sums.{sum_by}
@@ -69,8 +69,8 @@ product_least w n g size sign within most = ≤ℚ_trans (neg_ℚ size *ℚ w) (
     (times_least w n g within)
 
 -- what limits and a room take, where they add up to no more than a sum
-rest_within : (most size limits taken room : Fraction) → zero ≤ℚ size → limits ≤ℚ most → zero ≤ℚ room → room ≤ℚ most → (neg_ℚ size *ℚ limits) ≤ℚ taken → taken ≤ℚ (size *ℚ limits)
-    → Within (share most size) (taken -ℚ room)
+rest_within : (most size limits taken room : Fraction) → zero ≤ℚ size → limits ≤ℚ most → zero ≤ℚ room → room ≤ℚ most
+    → (neg_ℚ size *ℚ limits) ≤ℚ taken → taken ≤ℚ (size *ℚ limits) → Within (share most size) (taken -ℚ room)
 rest_within most size limits taken room sign sums least most_room low high = record {
   above = ≤ℚ_trans (neg_ℚ (share most size)) (neg_ℚ size *ℚ limits -ℚ most) (taken -ℚ room)
       (by_le1 (most ∷ size ∷ limits ∷ []) (pneg (at 0 ⊗ (pone ⊕ at 1))) (pneg (at 1) ⊗ at 2 ⊕ pneg (at 0)) (at 1) (at 2) (at 0) (NonNeg_from size sign) sums refl)

@@ -14,7 +14,7 @@ use Rattle.market_model.specs.Optimality.{ProperDuals, Supports, price}
 use Rattle.market_model.specs.Overrun.{Within}
 use Rattle.market_model.specs.Reserves.{reserve_units}
 use Rattle.one_price.specs.FirstPrices.{EnergyMayCost, GoesBefore, HasNoGreatest, HasNoLeast, IsGreatest, IsLeast, sum_of_prices, with_energy}
-use Rattle.price_system.specs.PriceSystem.{Caps, KeepsCaps, Variable, Reserve, Room, name, price_system, two_sides}
+use Rattle.price_system.specs.PriceSystem.{Caps, KeepsCaps, Variable, Energy, Reserve, Room, duals_of, name, price_order, price_system, two_sides}
 use Rattle.optimal_face.specs.FirstPoints.{IsFirstBest}
 
 -- ---- sizes
@@ -73,3 +73,30 @@ other_columns m = Reserve ∷ (flat_map two_sides (rows m) ++ map Room (reserve_
 
 abbrev pub other_order : Parts → List ℕ
 other_order m = reverse (map (name m) (other_columns m))
+
+-- a point that is first without energy, with the greatest price of energy of all that are
+pub record HasGreatestEnergy (m : Parts) (x : Dispatch) (c : Caps) (w : ℕ → Fraction) : Type 0 where
+  pub first : IsFirstBest (price_system m x c) (other_order m) w
+  pub most : (u : ℕ → Fraction) → IsFirstBest (price_system m x c) (other_order m) u → w (name m Energy) ≤ℚ u (name m Energy)
+
+-- ---- the price of energy
+-- above the bottom of the range it is the least that energy may have, and at the bottom there is no least
+pub record TellsLeast (m : Parts) (x : Dispatch) (c : Caps) (d : Duals Fraction) : Type 0 where
+  pub within : Within c.range d.energy
+  pub least : neg_ℚ c.range <ℚ d.energy → IsLeast (EnergyMayCost m x d) d.energy
+  pub none : d.energy ≡ neg_ℚ c.range → HasNoLeast (EnergyMayCost m x d)
+
+-- and so the greatest below the top
+pub record TellsGreatest (m : Parts) (x : Dispatch) (c : Caps) (d : Duals Fraction) : Type 0 where
+  pub within : Within c.range d.energy
+  pub greatest : d.energy <ℚ c.range → IsGreatest (EnergyMayCost m x d) d.energy
+  pub none : d.energy ≡ c.range → HasNoGreatest (EnergyMayCost m x d)
+
+-- What two searches find: the duals of the first best point, where its price of energy is not at the bottom of the range; else those of one with
+-- the greatest price of energy, where that is not at the top; and else these with a price of energy of 0.
+pub data AreFound (m : Parts) (x : Dispatch) (c : Caps) (d : Duals Fraction) : Type 0 where
+  at_least : (v : ℕ → Fraction) → IsFirstBest (price_system m x c) (price_order m) v → d ≡ duals_of m v → neg_ℚ c.range <ℚ d.energy → AreFound m x c d
+  at_greatest : (v w : ℕ → Fraction) → IsFirstBest (price_system m x c) (price_order m) v → (duals_of m v).energy ≡ neg_ℚ c.range → HasGreatestEnergy m x c w
+      → d ≡ duals_of m w → d.energy <ℚ c.range → AreFound m x c d
+  at_nil : (v w : ℕ → Fraction) → IsFirstBest (price_system m x c) (price_order m) v → (duals_of m v).energy ≡ neg_ℚ c.range → HasGreatestEnergy m x c w
+      → (duals_of m w).energy ≡ c.range → d ≡ with_energy (duals_of m w) zero → AreFound m x c d

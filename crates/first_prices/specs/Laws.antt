@@ -6,9 +6,10 @@ use Rattle.market_model.specs.declared.participants.Parts.{Parts}
 use Rattle.market_model.specs.Dispatch.{Dispatch}
 use Rattle.market_model.specs.Market.{IsMarket}
 use Rattle.market_model.specs.Optimality.{ProperDuals, Supports}
+use Rattle.one_price.specs.FirstPrices.{AreFirstDuals}
 use Rattle.optimal_face.specs.FirstPoints.{IsFirstBest}
 use Rattle.price_system.specs.PriceSystem.{Caps, duals_of, price_order, price_system}
-use Rattle.first_prices.specs.FirstCaps.{AreCapsBy, AreWideCapsBy, HasFirstPrices, LoseNothing, other_order}
+use Rattle.first_prices.specs.FirstCaps.{AreCapsBy, AreFound, AreWideCapsBy, HasFirstPrices, HasGreatestEnergy, LoseNothing, TellsGreatest, TellsLeast, other_order}
 
 -- caps of either kind lose nothing
 abbrev pub LawOfCaps : Type 0
@@ -25,3 +26,17 @@ LawOfFirstPoints = (m : Parts) (x : Dispatch) (e : Duals Fraction) (c : Caps) (v
 abbrev pub LawOfOtherPoints : Type 0
 LawOfOtherPoints = (m : Parts) (x : Dispatch) (e : Duals Fraction) (c : Caps) (v : ℕ → Fraction) → IsMarket m → ProperDuals m e → Supports m x e → LoseNothing m x e c
     → IsFirstBest (price_system m x c) (other_order m) v → HasFirstPrices m x (duals_of m v)
+
+-- for wide caps its price of energy tells the least that there may be, and that of one with the greatest price the greatest
+abbrev pub LawOfLeastEnergy : Type 0
+LawOfLeastEnergy = (m : Parts) (x : Dispatch) (e : Duals Fraction) (c : Caps) (v : ℕ → Fraction) → IsMarket m → ProperDuals m e → Supports m x e → AreWideCapsBy m e c
+    → IsFirstBest (price_system m x c) (price_order m) v → TellsLeast m x c (duals_of m v)
+
+abbrev pub LawOfGreatestEnergy : Type 0
+LawOfGreatestEnergy = (m : Parts) (x : Dispatch) (e : Duals Fraction) (c : Caps) (w : ℕ → Fraction) → IsMarket m → ProperDuals m e → Supports m x e → AreWideCapsBy m e c
+    → HasGreatestEnergy m x c w → TellsGreatest m x c (duals_of m w)
+
+-- so the two searches find the duals that are printed
+abbrev pub LawOfFirstDuals : Type 0
+LawOfFirstDuals = (m : Parts) (x : Dispatch) (e d : Duals Fraction) (c : Caps) → IsMarket m → ProperDuals m e → Supports m x e → AreWideCapsBy m e c
+    → AreFound m x c d → AreFirstDuals m x d
