@@ -4,7 +4,8 @@ use Rattle.std.proofs.Common.{sym, subst, subst₂, inl, inr}
 use Rattle.fraction_theory.specs.Fraction.{Fraction, whole, neg_ℚ, ◌+ℚ◌, ◌-ℚ◌}
 use Rattle.fraction_theory.specs.Order.{◌<ℚ◌, ◌≤ℚ◌, NonNeg}
 use Rattle.fraction_theory.specs.Signs.{abs_ℚ}
-use Rattle.fraction_theory.proofs.OrderLaws.{+ℚ-<ℚ, <ℚ-not-≤ℚ, <ℚ-≤ℚ, <ℚ-≤ℚ_trans, NonNeg-one, NonNeg-plus, by_le1, by_le2, not-≤ℚ, ≤ℚ-<ℚ_trans, ≤ℚ-or-<ℚ, ≤ℚ_refl, ≤ℚ_trans}
+use Rattle.fraction_theory.proofs.OrderLaws.{+ℚ-<ℚ, <ℚ-not-≤ℚ, <ℚ-≤ℚ, <ℚ-≤ℚ_trans, NonNeg-one, NonNeg-plus}
+use Rattle.fraction_theory.proofs.OrderLaws.{by_le1, by_le2, not-≤ℚ, ≤ℚ-<ℚ_trans, ≤ℚ-or-<ℚ, ≤ℚ_refl, ≤ℚ_trans}
 use Rattle.fraction_theory.proofs.Ring.{at, pnil, pone, pneg, ◌⊕◌}
 use Rattle.market_model.specs.declared.answered.Duals.{Duals}
 use Rattle.market_model.specs.declared.participants.Parts.{Parts}

@@ -24,7 +24,7 @@ use Rattle.price_system.proofs.CapLemmas.{opposite}
 use Rattle.price_system.proofs.DualLemmas.{agrees-made}
 use Rattle.price_system.proofs.PointLaws.{greatest as column_most, least as column_least}
 use Rattle.first_prices.specs.FirstCaps.{AreFound, AreWideCapsBy, HasFirstPrices, HasGreatestEnergy, LoseNothing, TellsGreatest, TellsLeast, at_greatest, at_least, at_nil, other_order}
-use Rattle.first_prices.specs.Laws.{LawOfFirstDuals, LawOfGreatestEnergy, LawOfLeastEnergy}
+use Rattle.first_prices.specs.Laws.{LawOfFirstDuals, LawOfGreatestEnergy, LawOfLeastEnergy, LawOfTheLeast}
 use Rattle.first_prices.proofs.BlockLemmas.{bids_of, further_down, further_up, supported_at, worth_of}
 use Rattle.first_prices.proofs.CapLemmas.{beyond_down, beyond_up, grows, law_of_wide_caps, range_least}
 use Rattle.first_prices.proofs.PointLemmas.{best_of, first_prices, of_g, order_long, others_first, price_at, proper_at, same_at, sum_most}
@@ -78,13 +78,10 @@ module _ (May : Fraction → Type 0) where
   ]
 
 -- ---- a point that is first without energy
-module _ (m : Parts) (x : Dispatch) (e : Duals Fraction) (c : Caps) (v : ℕ → Fraction) (market : IsMarket m) (is : ProperDuals m e) (holds : Supports m x e) (caps : AreWideCapsBy m e c)
+module _ (m : Parts) (x : Dispatch) (e : Duals Fraction) (c : Caps) (v : ℕ → Fraction) (market : IsMarket m) (is : ProperDuals m e) (holds : Supports m x e) (lose : LoseNothing m x e c)
     (first : IsFirstBest (price_system m x c) (other_order m) v) where
   abbrev d : Duals Fraction
   d = duals_of m v
-
-  lose : LoseNothing m x e c
-  lose = law_of_wide_caps m x e c market caps
 
   prices : HasFirstPrices m x d
   prices = first_prices m x e c v market is holds lose first
@@ -118,55 +115,59 @@ module _ (m : Parts) (x : Dispatch) (e : Duals Fraction) (c : Caps) (v : ℕ →
   sums : sum_of_prices m d ≤ℚ sum_of_prices m e
   sums = sum_most m x e c v market is holds lose first
 
-  -- at an end of the range all prices further out may be
-  down : d.energy ≡ neg_ℚ c.range → (t : Fraction) → t ≤ℚ neg_ℚ c.range → EnergyMayCost m x d t
-  down at_end t h = supported_at m x d t prices.supported (λ j k.
-      let block = prices.supported.blocks j k in
-      further_down (price m j) (accepted x j ≡ quantity m j) (accepted x j ≡ zero) (block_at m j).side (worth_of m (with_energy d t) j) (worth_of m d j)
-      (grows m d t d.energy j (subst (λ p. t ≤ℚ p) (sym at_end) h))
-      (subst (λ p. worth_of m (with_energy d p) j <ℚ price m j) (sym at_end) (beyond_down m x e d c market caps prices.supported sums j k))
-      (bids_of m x d j block))
-
-  up : d.energy ≡ c.range → (t : Fraction) → c.range ≤ℚ t → EnergyMayCost m x d t
-  up at_end t h = supported_at m x d t prices.supported (λ j k.
-      let block = prices.supported.blocks j k in
-      further_up (price m j) (accepted x j ≡ quantity m j) (accepted x j ≡ zero) (block_at m j).side (worth_of m d j) (worth_of m (with_energy d t) j)
-      (grows m d d.energy t j (subst (λ p. p ≤ℚ t) (sym at_end) h))
-      (subst (λ p. price m j <ℚ worth_of m (with_energy d p) j) (sym at_end) (beyond_up m x e d c market caps prices.supported sums j k))
-      (bids_of m x d j block))
-
   -- with the most of energy's column, which is the least price, or with the least
-  tells_least : ((u : ℕ → Fraction) → IsFirstBest (price_system m x c) (other_order m) u → u 0 ≤ℚ v 0) → TellsLeast m x c d
-  tells_least most = record {
-    within = energy_within;
-    least = least_of_all (EnergyMayCost m x d) c.range d.energy prices.supported energy_within may_between
-        (λ q may within. opposite_back_of q (most (point_of m (with_energy d q)) (point_first q may within)));
-    none = λ at_end. no_least (EnergyMayCost m x d) (neg_ℚ c.range) (down at_end);
-  }
+  is_least : ((u : ℕ → Fraction) → IsFirstBest (price_system m x c) (other_order m) u → u 0 ≤ℚ v 0) → neg_ℚ c.range <ℚ d.energy → IsLeast (EnergyMayCost m x d) d.energy
+  is_least most = least_of_all (EnergyMayCost m x d) c.range d.energy prices.supported energy_within may_between
+      (λ q may within. turned q (most (point_of m (with_energy d q)) (point_first q may within)))
     where
-      opposite_back_of : (q : Fraction) → neg_ℚ q ≤ℚ v 0 → neg_ℚ (v 0) ≤ℚ q
-      opposite_back_of q h = by_le1 (q ∷ v 0 ∷ []) (pneg (at 1)) (at 0) pone (pneg (at 0)) (at 1) NonNeg-one h refl
+      turned : (q : Fraction) → neg_ℚ q ≤ℚ v 0 → neg_ℚ (v 0) ≤ℚ q
+      turned q h = by_le1 (q ∷ v 0 ∷ []) (pneg (at 1)) (at 0) pone (pneg (at 0)) (at 1) NonNeg-one h refl
 
-  tells_greatest : ((u : ℕ → Fraction) → IsFirstBest (price_system m x c) (other_order m) u → v 0 ≤ℚ u 0) → TellsGreatest m x c d
-  tells_greatest most = record {
-    within = energy_within;
-    greatest = greatest_of_all (EnergyMayCost m x d) c.range d.energy prices.supported energy_within may_between
-        (λ q may within. opposite_back_of q (most (point_of m (with_energy d q)) (point_first q may within)));
-    none = λ at_end. no_greatest (EnergyMayCost m x d) c.range (up at_end);
-  }
+  is_greatest : ((u : ℕ → Fraction) → IsFirstBest (price_system m x c) (other_order m) u → v 0 ≤ℚ u 0) → d.energy <ℚ c.range → IsGreatest (EnergyMayCost m x d) d.energy
+  is_greatest most = greatest_of_all (EnergyMayCost m x d) c.range d.energy prices.supported energy_within may_between
+      (λ q may within. turned q (most (point_of m (with_energy d q)) (point_first q may within)))
     where
-      opposite_back_of : (q : Fraction) → v 0 ≤ℚ neg_ℚ q → q ≤ℚ neg_ℚ (v 0)
-      opposite_back_of q h = by_le1 (q ∷ v 0 ∷ []) (at 0) (pneg (at 1)) pone (at 1) (pneg (at 0)) NonNeg-one h refl
+      turned : (q : Fraction) → v 0 ≤ℚ neg_ℚ q → q ≤ℚ neg_ℚ (v 0)
+      turned q h = by_le1 (q ∷ v 0 ∷ []) (at 0) (pneg (at 1)) pone (at 1) (pneg (at 0)) NonNeg-one h refl
+
+  -- at an end of a range of wide caps all prices further out may be
+  module _ (caps : AreWideCapsBy m e c) where
+    down : d.energy ≡ neg_ℚ c.range → (t : Fraction) → t ≤ℚ neg_ℚ c.range → EnergyMayCost m x d t
+    down at_end t h = supported_at m x d t prices.supported (λ j k.
+        let block = prices.supported.blocks j k in
+        further_down (price m j) (accepted x j ≡ quantity m j) (accepted x j ≡ zero) (block_at m j).side (worth_of m (with_energy d t) j) (worth_of m d j)
+        (grows m d t d.energy j (subst (λ p. t ≤ℚ p) (sym at_end) h))
+        (subst (λ p. worth_of m (with_energy d p) j <ℚ price m j) (sym at_end) (beyond_down m x e d c market caps prices.supported sums j k))
+        (bids_of m x d j block))
+
+    up : d.energy ≡ c.range → (t : Fraction) → c.range ≤ℚ t → EnergyMayCost m x d t
+    up at_end t h = supported_at m x d t prices.supported (λ j k.
+        let block = prices.supported.blocks j k in
+        further_up (price m j) (accepted x j ≡ quantity m j) (accepted x j ≡ zero) (block_at m j).side (worth_of m d j) (worth_of m (with_energy d t) j)
+        (grows m d d.energy t j (subst (λ p. p ≤ℚ t) (sym at_end) h))
+        (subst (λ p. price m j <ℚ worth_of m (with_energy d p) j) (sym at_end) (beyond_up m x e d c market caps prices.supported sums j k))
+        (bids_of m x d j block))
+
+    tells_least : ((u : ℕ → Fraction) → IsFirstBest (price_system m x c) (other_order m) u → u 0 ≤ℚ v 0) → TellsLeast m x c d
+    tells_least most = record { within = energy_within; least = is_least most; none = λ at_end. no_least (EnergyMayCost m x d) (neg_ℚ c.range) (down at_end) }
+
+    tells_greatest : ((u : ℕ → Fraction) → IsFirstBest (price_system m x c) (other_order m) u → v 0 ≤ℚ u 0) → TellsGreatest m x c d
+    tells_greatest most = record { within = energy_within; greatest = is_greatest most; none = λ at_end. no_greatest (EnergyMayCost m x d) c.range (up at_end) }
 
 others_of : (m : Parts) (x : Dispatch) (c : Caps) (v : ℕ → Fraction) → IsFirstBest (price_system m x c) (price_order m) v → IsFirstBest (price_system m x c) (other_order m) v
 others_of m x c v first = first_of_more (price_system m x c) (other_order m) 0 v (others_first m x c v first)
 
+pub law_of_the_least : LawOfTheLeast
+law_of_the_least m x e c v market is holds lose first =
+    is_least m x e c v market is holds lose (others_of m x c v first) (most_of_more (price_system m x c) (other_order m) 0 v (others_first m x c v first))
+
 pub law_of_least_energy : LawOfLeastEnergy
 law_of_least_energy m x e c v market is holds caps first =
-    tells_least m x e c v market is holds caps (others_of m x c v first) (most_of_more (price_system m x c) (other_order m) 0 v (others_first m x c v first))
+    tells_least m x e c v market is holds (law_of_wide_caps m x e c market caps) (others_of m x c v first) caps
+    (most_of_more (price_system m x c) (other_order m) 0 v (others_first m x c v first))
 
 pub law_of_greatest_energy : LawOfGreatestEnergy
-law_of_greatest_energy m x e c w market is holds caps great = tells_greatest m x e c w market is holds caps great.first great.most
+law_of_greatest_energy m x e c w market is holds caps great = tells_greatest m x e c w market is holds (law_of_wide_caps m x e c market caps) great.first caps great.most
 
 -- ---- the duals that are found
 -- those with another price of energy go before no others
@@ -187,7 +188,7 @@ with_price m x d has energy = record { supported = has.supported; proper = has.p
 -- two points that are first without energy have the same other prices
 module _ (m : Parts) (x : Dispatch) (e : Duals Fraction) (c : Caps) (market : IsMarket m) (is : ProperDuals m e) (holds : Supports m x e) (caps : AreWideCapsBy m e c) where
   prices_of : (v : ℕ → Fraction) → IsFirstBest (price_system m x c) (other_order m) v → HasFirstPrices m x (duals_of m v)
-  prices_of v first = prices m x e c v market is holds caps first
+  prices_of v first = prices m x e c v market is holds (law_of_wide_caps m x e c market caps) first
 
   one_but_energy : (v w : ℕ → Fraction) → IsFirstBest (price_system m x c) (other_order m) v → IsFirstBest (price_system m x c) (other_order m) w
       → duals_of m v ≡ with_energy (duals_of m w) (duals_of m v).energy

@@ -5,6 +5,8 @@ use Rattle.std.specs.List.{flat_map}
 use Rattle.fraction_theory.specs.Fraction.{Fraction, whole, neg_ℚ, ◌+ℚ◌, ◌*ℚ◌}
 use Rattle.fraction_theory.specs.Order.{◌<ℚ◌, ◌≤ℚ◌}
 use Rattle.fraction_theory.specs.Signs.{abs_ℚ}
+use Rattle.optimal_face.specs.Faces.{price_of_one}
+use Rattle.optimal_face.specs.FirstPoints.{IsFirstBest}
 use Rattle.market_model.specs.declared.answered.Duals.{Duals}
 use Rattle.market_model.specs.declared.limits.Row.{Row}
 use Rattle.market_model.specs.declared.participants.Parts.{Parts}
@@ -15,7 +17,6 @@ use Rattle.market_model.specs.Overrun.{Within}
 use Rattle.market_model.specs.Reserves.{reserve_units}
 use Rattle.one_price.specs.FirstPrices.{EnergyMayCost, GoesBefore, HasNoGreatest, HasNoLeast, IsGreatest, IsLeast, sum_of_prices, with_energy}
 use Rattle.price_system.specs.PriceSystem.{Caps, KeepsCaps, Variable, Energy, Reserve, Room, duals_of, name, price_order, price_system, two_sides}
-use Rattle.optimal_face.specs.FirstPoints.{IsFirstBest}
 
 -- ---- sizes
 -- a size that the factor of no block's unit for a row of the market is above
@@ -78,6 +79,10 @@ other_order m = reverse (map (name m) (other_columns m))
 pub record HasGreatestEnergy (m : Parts) (x : Dispatch) (c : Caps) (w : ℕ → Fraction) : Type 0 where
   pub first : IsFirstBest (price_system m x c) (other_order m) w
   pub most : (u : ℕ → Fraction) → IsFirstBest (price_system m x c) (other_order m) u → w (name m Energy) ≤ℚ u (name m Energy)
+
+-- a price of -1 for one column, and none for the rest
+abbrev pub price_of_less : ℕ → ℕ → Fraction
+price_of_less j i = neg_ℚ (price_of_one j i)
 
 -- ---- the price of energy
 -- above the bottom of the range it is the least that energy may have, and at the bottom there is no least

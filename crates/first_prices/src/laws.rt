@@ -1,5 +1,5 @@
 //! What is known of the first best points of the system of prices.
-ghost use Rattle.first_prices.specs.Laws.{LawOfCaps, LawOfFirstDuals, LawOfFirstPoints, LawOfGreatestEnergy, LawOfLeastEnergy, LawOfOtherPoints, LawOfWideCaps};
+ghost use Rattle.first_prices.specs.Laws.{LawOfCaps, LawOfFirstDuals, LawOfFirstPoints, LawOfGreatestEnergy, LawOfLeastEnergy, LawOfOtherPoints, LawOfTheLeast, LawOfTheSecondSearch, LawOfWideCaps};
 
 /// Caps by duals that support the dispatch lose nothing: others of at most their sum support it at some price of energy within the caps.
 pub fn caps_lose_nothing()
@@ -21,14 +21,24 @@ pub fn other_points_have_first_prices()
     ensures { LawOfOtherPoints }
 {}
 
-/// For wide caps its price of energy is the least that there may be, and at the bottom of the range there is no least.
+/// Above the bottom of the range its price of energy is the least that there may be.
+pub fn first_points_have_the_least_energy()
+    ensures { LawOfTheLeast }
+{}
+
+/// For wide caps there is no least where it is at the bottom.
 pub fn first_points_tell_the_least_energy()
     ensures { LawOfLeastEnergy }
 {}
 
-/// So that of one with the greatest price is the greatest, and at the top there is no greatest.
+/// So the price of one with the greatest price is the greatest, and at the top there is no greatest.
 pub fn greatest_points_tell_the_greatest_energy()
     ensures { LawOfGreatestEnergy }
+{}
+
+/// One with the greatest price is found with a price of -1 for energy's column, where those that are first without energy are held.
+pub fn second_searches_find_greatest_points()
+    ensures { LawOfTheSecondSearch }
 {}
 
 /// The two searches find the duals that are printed.
