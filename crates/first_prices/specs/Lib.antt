@@ -1,0 +1,2 @@
+pub mod FirstCaps
+pub mod Laws
