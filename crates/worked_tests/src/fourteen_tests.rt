@@ -1,6 +1,7 @@
-//! Tables that are made of a network too large for exact fractions, as they were made outside in fractions of any size.
+//! Tables that are made of a network too large for exact fractions, as they were made outside in fractions of any size; and which of its
+//! three units of one cost is served.
 
-use command_answers::{Status, Told, factors_told};
+use command_answers::{Status, Told, factors_told, pool_told};
 use market_data::FactorPlaces;
 use std::process::Abort;
 use std::test::Fail;
@@ -86,5 +87,31 @@ fn makes_tables_of_fourteen_buses(rt: HostRuntime) -> Result<(), Fail> {
         FactorPlaces::Six,
     )?;
     compare(&rt, &told);
+    Ok(())
+}
+
+/// Of 259 MW unit 1 makes 166.2; 92.8 are left for the three units of one cost, which are served by their records.
+const IN_ORDER: &str =
+    "block 1 sell 1 mw 83.1\nblock 1 sell 2 mw 83.1\nblock 3 sell 1 mw 50\nblock 4 sell 1 mw 42.8\nblock 5 sell 1 mw 0\nunit 1 mw 166.2 paid 6731.1\nunit 2 mw 0 paid 0\nunit 3 mw 50 paid 2025\nunit 4 mw 42.8 paid 1733.4\nunit 5 mw 0 paid 0\nload 1 mw 0 pays 0\nload 2 mw 21.7 pays 878.85\nload 3 mw 94.2 pays 3815.1\nload 4 mw 47.8 pays 1935.9\nload 5 mw 7.6 pays 307.8\nload 6 mw 11.2 pays 453.6\nload 7 mw 0 pays 0\nload 8 mw 0 pays 0\nload 9 mw 29.5 pays 1194.75\nload 10 mw 9 pays 364.5\nload 11 mw 3.5 pays 141.75\nload 12 mw 6.1 pays 247.05\nload 13 mw 13.5 pays 546.75\nload 14 mw 14.9 pays 603.45\nsurplus 0\n";
+
+/// The same with their records in the other order.
+const TURNED: &str =
+    "block 1 sell 1 mw 83.1\nblock 1 sell 2 mw 83.1\nblock 5 sell 1 mw 50\nblock 4 sell 1 mw 42.8\nblock 3 sell 1 mw 0\nunit 1 mw 166.2 paid 6731.1\nunit 2 mw 0 paid 0\nunit 3 mw 0 paid 0\nunit 4 mw 42.8 paid 1733.4\nunit 5 mw 50 paid 2025\nload 1 mw 0 pays 0\nload 2 mw 21.7 pays 878.85\nload 3 mw 94.2 pays 3815.1\nload 4 mw 47.8 pays 1935.9\nload 5 mw 7.6 pays 307.8\nload 6 mw 11.2 pays 453.6\nload 7 mw 0 pays 0\nload 8 mw 0 pays 0\nload 9 mw 29.5 pays 1194.75\nload 10 mw 9 pays 364.5\nload 11 mw 3.5 pays 141.75\nload 12 mw 6.1 pays 247.05\nload 13 mw 13.5 pays 546.75\nload 14 mw 14.9 pays 603.45\nsurplus 0\n";
+
+#[test]
+fn serves_units_of_one_cost_by_their_records(rt: HostRuntime) -> Result<(), Fail> {
+    for (offers, end) in [
+        (
+            b"unit,side,mw,price\n1,sell,83.1,23.58\n1,sell,83.1,30.73\n3,sell,50,40.5\n4,sell,50,40.5\n5,sell,50,40.5\n",
+            IN_ORDER,
+        ),
+        (
+            b"unit,side,mw,price\n1,sell,83.1,23.58\n1,sell,83.1,30.73\n5,sell,50,40.5\n4,sell,50,40.5\n3,sell,50,40.5\n",
+            TURNED,
+        ),
+    ] {
+        let pooled = pool_told(rt.alloc(), CASE.as_bytes(), offers)?;
+        assert!(rt; pooled.text.ends_with(end.as_bytes()));
+    }
     Ok(())
 }
