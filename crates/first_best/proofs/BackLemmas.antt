@@ -56,7 +56,7 @@ unfolding system_in
 names_are d = refl
 
 -- the value of an other variable
-value_at : (s : System) (h : Choice) (w : ℕ) (high : Bool) → h.basic w ≡ false → h.high w ≡ high → value s h w ≡ bound_at s w high
+pub value_at : (s : System) (h : Choice) (w : ℕ) (high : Bool) → h.basic w ≡ false → h.high w ≡ high → value s h w ≡ bound_at s w high
 unfolding value at_bound bound_at
 value_at s h w high basic flag = ap₂ (λ (b f : Bool). if b then total (value_terms s h w) else if f then s.high w else s.low w) basic flag
 

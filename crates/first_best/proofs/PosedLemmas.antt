@@ -19,7 +19,7 @@ use Rattle.simplex_core.specs.declared.bounds.Bounds.{Bounds}
 
 -- what stands at the place of a name in a list that a function makes of names, of which the first are these, or those behind them
 module _ (f : ℕ → Fraction) (z : Fraction) where
-  at_name : (xs : List ℕ) (w : ℕ) → Contains xs w → slice_index_or (map f xs) (place_in xs w) z ≡ f w
+  pub at_name : (xs : List ℕ) (w : ℕ) → Contains xs w → slice_index_or (map f xs) (place_in xs w) z ≡ f w
   at_name xs w c =
       let at = place_in-within xs w c in
       get_or-map f xs (place_in xs w) 0 z at.0 ∙ ap f at.1

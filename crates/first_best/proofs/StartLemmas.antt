@@ -44,7 +44,7 @@ same_through d e f one two = record {
 }
 
 module _ (d : Dictionary) (sound : IsDictionary d) (live : d.spent ≡ false) (shows : ShowsChoice d) (solved : IsSolved (system_in d) (state_of d)) where
-  first_shows : Shows (system_in d) (state_of d)
+  pub first_shows : Shows (system_in d) (state_of d)
   unfolding state_of
   first_shows = record {
     choice = shows.choice;

@@ -10,12 +10,14 @@ ghost use Rattle.first_best.specs.Outcomes.{GoesFirst, HasSystem, IsFace, IsPair
 
 use crate::holding::{can_not_move, held_besides};
 use crate::moving::{Face, moved_first};
+use crate::raising::hold_high;
 use crate::stop::FirstStop;
 use exact_fraction::Exact;
 use linear_dict::Dict;
 use std::alloc::Global;
 
-/// A face of one column more: as it is, where the column can't move.
+/// A face of one column more: as it is, where the column can't move, and without a run, where it stands at its high bound or goes there at
+/// once.
 fn further<N: Exact>(alloc: Global, face: Face<N>, name: u32) -> Result<Face<N>, FirstStop<N>>
     requires face { (names : List ℕ) × IsFace face.dict names (held_by face.dict.names face.held.items) }
     requires column { Contains face.dict.columns name }
@@ -25,9 +27,13 @@ fn further<N: Exact>(alloc: Global, face: Face<N>, name: u32) -> Result<Face<N>,
     ensures pair { IfErr result (IsPairOn N.value N.bound face.dict) }
 {
     if can_not_move(&face.dict, &face.held, name) {
-        Ok(face)
+        return Ok(face);
+    }
+    let Face { mut dict, mut held } = face;
+    if hold_high(alloc, &mut dict, &mut held, name)? {
+        Ok(Face { dict, held })
     } else {
-        moved_first(alloc, face, name)
+        moved_first(alloc, Face { dict, held }, name)
     }
 }
 
