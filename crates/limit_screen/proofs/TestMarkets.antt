@@ -1,5 +1,5 @@
 -- The market with reserve of `clear_tests` and `market_tests` is one.
-use Rattle.std.specs.Prelude.{◌<◌, ℕ, ℤ, pos, ◌≤ℤ◌, true, List, [], ◌∷◌, All, AllPairs, slice_index_or}
+use Rattle.std.specs.Prelude.{◌<◌, ℕ, ℤ, pos, ◌≤ℤ◌, true, List, [], ◌∷◌, AllPairs, slice_index_or}
 use Rattle.std.proofs.Common.{arith, zero, suc}
 use Rattle.std.proofs.lemmas.Int.{ints}
 use Rattle.std.proofs.lemmas.List.Elements.{All-cons, All-nil}

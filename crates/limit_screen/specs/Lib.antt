@@ -1,4 +1,5 @@
 pub mod Bounds
 pub mod Flows
+pub mod Reaching
 pub mod Rooms
 pub mod Screening

@@ -129,7 +129,12 @@ fn least_overrun<N: Exact>(worst: Option<RowOverrun<N>>) -> i64
 }
 
 /// Whether whole parts of what is carried tell that a row passes its limit by no more than this, in 10^-9 MW.
-fn is_told_within(market: &Market, parts: Option<&WholeParts>, row: Row, most: i64) -> bool
+pub(crate) fn is_told_within(
+    market: &Market,
+    parts: Option<&WholeParts>,
+    row: Row,
+    most: i64,
+) -> bool
     requires { Contains (rows market.now) row }
     ensures { (c : Carried) → IfSome parts.entry (λ parts. AreWholeParts market.now c parts.now) → IsTrue result → overrun_of market.now row (flow_by market.now c row) ≤ℚ whole most }
 {
