@@ -1,6 +1,3 @@
-pub mod BlockLemmas
 pub mod CapLemmas
-pub mod EnergyLemmas
+pub mod DualLemmas
 pub mod PointLemmas
-pub mod SearchLemmas
-pub mod SizeLemmas

@@ -1,4 +1,5 @@
 pub mod EnergyLemmas
 pub mod ListLemmas
+pub mod MarginLemmas
 pub mod NamedLemmas
 pub mod OneFirst

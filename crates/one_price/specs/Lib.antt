@@ -1,2 +1,3 @@
 pub mod FirstPrices
 pub mod Laws
+pub mod Margins

@@ -1,5 +1,5 @@
 -- The best points have the least sum of prices, and their duals are proper: of a limit with prices on both of its sides both could be less.
-use Rattle.std.specs.Prelude.{◌≡◌, ◌⊎◌, ℕ, ◌<◌, ◌&&◌, pos, Bool, true, false, List, [], ◌∷◌, if◌then◌else◌, Contains, refl}
+use Rattle.std.specs.Prelude.{◌≡◌, ◌⊎◌, ℕ, ◌&&◌, pos, Bool, true, false, List, [], ◌∷◌, if◌then◌else◌, Contains, refl}
 use Rattle.std.proofs.Common.{arith, ap, ap₂, sym, ◌∙◌, subst, subst₂, inl, inr}
 use Rattle.fraction_theory.specs.Fraction.{Fraction, whole, neg_ℚ, ◌+ℚ◌, ◌-ℚ◌, ◌*ℚ◌}
 use Rattle.fraction_theory.specs.Order.{◌<ℚ◌, ◌≤ℚ◌}
@@ -27,15 +27,19 @@ use Rattle.market_model.proofs.RowLaws.{along}
 use Rattle.market_system.proofs.DualLists.{reserve_unit-below}
 use Rattle.one_price.specs.FirstPrices.{sum_of_prices}
 use Rattle.price_system.specs.Laws.{LawOfBestPoints}
-use Rattle.price_system.specs.PriceSystem.{Caps, Variable, Energy, Reserve, Up, Down, Room, Block, Offer, are_same, duals_of, high, least_price, low, most_reserve_price, name, point_of, price_system, room_name, variable_of}
+use Rattle.limit_screen.specs.Reaching.{are_same}
+use Rattle.price_system.specs.PriceSystem.{Caps, duals_of, high, least_price, low, most_reserve_price, name, point_of, price_system, room_name, variable_of}
+use Rattle.price_system.specs.declared.variables.Variable.{Variable}
+use Rattle.price_system.specs.declared.variables.Variable.TheVariants.{Energy, Reserve, Up, Down, Room, Sum, Block, Offer}
 use Rattle.price_system.proofs.BackLemmas.{law_of_duals, law_of_points}
-use Rattle.price_system.proofs.BoundLemmas.{below_tells}
-use Rattle.price_system.proofs.CapLemmas.{by_parts, opposite, opposite_back}
+use Rattle.limit_screen.proofs.ReachLemmas.{below_tells}
+use Rattle.price_system.proofs.CapLemmas.{by_parts}
 use Rattle.price_system.proofs.DualLemmas.{agrees-made, down-made, proper-made, room-made, up-made}
 use Rattle.price_system.proofs.NameLemmas.{IsVariable, variable_at}
-use Rattle.price_system.proofs.PointLaws.{block_worth, by_row, by_variable, greatest, least, offer_worth, price_most}
+use Rattle.price_system.proofs.PointLaws.{block_worth, by_row, by_variable, greatest, least, offer_worth, price_most, sum_worth}
+use Rattle.price_system.proofs.SizeLemmas.{nil_plus, opposite, opposite_back, opposite_nil, sum_least}
 use Rattle.price_system.proofs.SumLemmas.{law_of_the_sum}
-use Rattle.price_system.proofs.WorthLemmas.{Agrees, activity-block, activity-offer, apart, high-at, low-at}
+use Rattle.price_system.proofs.WorthLemmas.{Agrees, activity-block, activity-offer, activity-sum, apart, high-at, low-at}
 
 -- ---- sums
 -- where no number of the one is more than that of the other, and their sum is no less, each is no less
@@ -143,6 +147,16 @@ module _ (m : Parts) (x : Dispatch) (c : Caps) (v : ℕ → Fraction) (market : 
   holds : Supports m x d
   holds = law_of_points m x c v market best.meets best.within
 
+  -- what the sum comes to where each limit has what is left of its prices
+  abbrev left_both_of : Row → Fraction
+  left_both_of r = left_of (p r) (q r) +ℚ left_of (q r) (p r)
+
+  abbrev rooms_sum : Fraction
+  rooms_sum = sum_by (room_price m d) (reserve_units m)
+
+  abbrev net_sum : Fraction
+  net_sum = (sum_by left_both_of (rows m) +ℚ rooms_sum) +ℚ d.reserve
+
   -- the point of what is left of the prices of each limit
   abbrev net : Variable → Fraction
   net Energy = v 0
@@ -150,6 +164,7 @@ module _ (m : Parts) (x : Dispatch) (c : Caps) (v : ℕ → Fraction) (market : 
   net (Up r) = neg_ℚ (left_of (p r) (q r))
   net (Down r) = neg_ℚ (left_of (q r) (p r))
   net (Room u) = v (room_name m u)
+  net Sum = neg_ℚ net_sum
   net (Block j) = v (name m (Block j))
   net (Offer n) = v (name m (Offer n))
 
@@ -198,9 +213,20 @@ module _ (m : Parts) (x : Dispatch) (c : Caps) (v : ℕ → Fraction) (market : 
       (room_same u)
       ∙ sym (by_parts m d u)
 
+  -- and its prices come to this
+  rooms_same : sum_by (room_price m e) (reserve_units m) ≡ rooms_sum
+  rooms_same = sum_by-members (room_price m e) (room_price m d) (reserve_units m) listed_same
+
+  limits_same : sum_by (λ r. up_of m e r +ℚ down_of m e r) (rows m) ≡ sum_by left_both_of (rows m)
+  limits_same = sum_by-members (λ r. up_of m e r +ℚ down_of m e r) left_both_of (rows m) (λ r k. ap₂ ◌+ℚ◌ (up_left r k) (down_left r k))
+
+  sum_same : sum_of_prices m e ≡ net_sum
+  sum_same = ap₂ (λ (a b : Fraction). (a +ℚ b) +ℚ d.reserve) limits_same rooms_same
+
   point_meets : MeetsRows s point
   point_meets = record {
     row = by_row m x c market (λ w. point w ≡ activity s point w)
+        (point_at Sum tt ∙ ap neg_ℚ (sym sum_same) ∙ sym (activity-sum m x c market point e (agrees-made m market point)))
         (λ j h.
         point_at (Block j) h ∙ block_worth m x c market v d agrees best.meets best.within j h
         ∙ sym (activity-block m x c market point e (agrees-made m market point) j h ∙ worth_same (block_at m j).unit))
@@ -215,6 +241,25 @@ module _ (m : Parts) (x : Dispatch) (c : Caps) (v : ℕ → Fraction) (market : 
   over : (w : Variable) → IsVariable m w → v (name m w) ≤ℚ high m x c w
   over w is = greatest m x c market v d agrees best.meets best.within w is
 
+  -- no more than the sum of all
+  both_less : (r : Row) → Contains (rows m) r → left_both_of r ≤ℚ (p r +ℚ q r)
+  both_less r k = let row = holds.rows r k in left_both (p r) (q r) row.up.sign row.down.sign
+
+  net_less : net_sum ≤ℚ sum_of_prices m d
+  net_less =
+      let before : Fraction = sum_by (λ r. p r +ℚ q r) (rows m) in
+      let behind : Fraction = sum_by left_both_of (rows m) in
+      by_le1 (before ∷ behind ∷ rooms_sum ∷ d.reserve ∷ []) ((at 1 ⊕ at 2) ⊕ at 3) ((at 0 ⊕ at 2) ⊕ at 3) pone (at 1) (at 0) NonNeg-one
+      (sum_by-≤ left_both_of (λ r. p r +ℚ q r) (rows m) (along (λ r. left_both_of r ≤ℚ (p r +ℚ q r)) (rows m) both_less))
+      refl
+
+  net_least : zero ≤ℚ net_sum
+  net_least = nil_plus (sum_by left_both_of (rows m) +ℚ rooms_sum) d.reserve
+      (nil_plus (sum_by left_both_of (rows m)) rooms_sum
+      (sum_least left_both_of (rows m) (λ r k. nil_plus (left_of (p r) (q r)) (left_of (q r) (p r)) (part_least (p r -ℚ q r)).0 (part_least (q r -ℚ p r)).0))
+      (sum_least (room_price m d) (reserve_units m) (λ u k. let room = holds.rooms u k in room.sign)))
+      holds.need.sign
+
   net_low : (w : Variable) → IsVariable m w → low m x c w ≤ℚ net w
   net_low Energy is = under Energy is
   net_low Reserve is = under Reserve is
@@ -225,6 +270,9 @@ module _ (m : Parts) (x : Dispatch) (c : Caps) (v : ℕ → Fraction) (market : 
       ≤ℚ_trans (low m x c (Down r)) (neg_ℚ (q r)) (neg_ℚ (left_of (q r) (p r))) (subst (λ a. low m x c (Down r) ≤ℚ a) (agrees.down r is) (under (Down r) is))
       (opposite (left_of (q r) (p r)) (q r) (left_most (q r) (p r) row.down.sign row.up.sign))
   net_low (Room u) is = under (Room u) is
+  net_low Sum is = ≤ℚ_trans (neg_ℚ c.most) (neg_ℚ (sum_of_prices m d)) (neg_ℚ net_sum)
+      (subst (λ a. neg_ℚ c.most ≤ℚ a) (sum_worth m x c market v d agrees best.meets best.within) (under Sum is))
+      (opposite net_sum (sum_of_prices m d) net_less)
   net_low (Block j) is = under (Block j) is
   net_low (Offer n) is = under (Offer n) is
 
@@ -237,6 +285,7 @@ module _ (m : Parts) (x : Dispatch) (c : Caps) (v : ℕ → Fraction) (market : 
       opposite (least_price m r (neg_ℚ (flow m x r))) (left_of (q r) (p r))
       (left_least m market r (q r) (p r) (neg_ℚ (flow m x r)) row.down row.up.sign (λ above. subst (λ a. limit m r ≤ℚ a) (sym (twice (flow m x r))) (row.up.reached above)))
   net_high (Room u) is = over (Room u) is
+  net_high Sum is = subst (λ a. neg_ℚ net_sum ≤ℚ a) opposite_nil (opposite zero net_sum net_least)
   net_high (Block j) is = over (Block j) is
   net_high (Offer n) is = over (Offer n) is
 
@@ -251,27 +300,18 @@ module _ (m : Parts) (x : Dispatch) (c : Caps) (v : ℕ → Fraction) (market : 
   least_of u meets within = opposite_back (sum_of_prices m d) (sum_of_prices m (duals_of m u))
       (subst₂ ◌≤ℚ◌ (law_of_the_sum m x c u market) (law_of_the_sum m x c v market) (best.best u meets within))
 
-  abbrev limits_sum : Duals Fraction → Fraction
-  limits_sum f = sum_by (λ r. up_of m f r +ℚ down_of m f r) (rows m)
-
-  rooms_same : sum_by (room_price m e) (reserve_units m) ≡ sum_by (room_price m d) (reserve_units m)
-  rooms_same = sum_by-members (room_price m e) (room_price m d) (reserve_units m) listed_same
-
-  limits_least : limits_sum d ≤ℚ limits_sum e
+  limits_least : sum_by (λ r. p r +ℚ q r) (rows m) ≤ℚ sum_by left_both_of (rows m)
   limits_least =
-      let rooms : Fraction = sum_by (room_price m d) (reserve_units m) in
-      let sums : ((limits_sum d +ℚ rooms) +ℚ d.reserve) ≤ℚ ((limits_sum e +ℚ rooms) +ℚ d.reserve) =
-      subst (λ a. sum_of_prices m d ≤ℚ ((limits_sum e +ℚ a) +ℚ d.reserve)) rooms_same (least_of point point_meets point_bounds) in
-      by_le1 (limits_sum d ∷ limits_sum e ∷ rooms ∷ d.reserve ∷ []) (at 0) (at 1) pone ((at 0 ⊕ at 2) ⊕ at 3) ((at 1 ⊕ at 2) ⊕ at 3) NonNeg-one sums refl
+      let before : Fraction = sum_by (λ r. p r +ℚ q r) (rows m) in
+      let behind : Fraction = sum_by left_both_of (rows m) in
+      let sums : sum_of_prices m d ≤ℚ net_sum = subst (λ a. sum_of_prices m d ≤ℚ a) sum_same (least_of point point_meets point_bounds) in
+      by_le1 (before ∷ behind ∷ rooms_sum ∷ d.reserve ∷ []) (at 0) (at 1) pone ((at 0 ⊕ at 2) ⊕ at 3) ((at 1 ⊕ at 2) ⊕ at 3) NonNeg-one sums refl
 
   one_side : (r : Row) → Contains (rows m) r → (p r ≡ zero) ⊎ (q r ≡ zero)
   one_side r k =
       let row = holds.rows r k in
       one_nil (p r) (q r) row.up.sign row.down.sign
-      (subst (λ a. (p r +ℚ q r) ≤ℚ a) (ap₂ ◌+ℚ◌ (up_left r k) (down_left r k))
-      (each_no_less (λ t. p t +ℚ q t) (λ t. up_of m e t +ℚ down_of m e t) (rows m)
-      (λ t l. let other = holds.rows t l in subst (λ a. a ≤ℚ (p t +ℚ q t)) (sym (ap₂ ◌+ℚ◌ (up_left t l) (down_left t l))) (left_both (p t) (q t) other.up.sign other.down.sign))
-      limits_least r k))
+      (each_no_less (λ t. p t +ℚ q t) left_both_of (rows m) both_less limits_least r k)
 
   sided : (r : Row) → Contains (rows m) r → ((p r ≡ zero) × (q r ≡ zero)) ⊎ IsOneSided (record { row = row_id m r; up = p r; down = q r })
   sided r k =

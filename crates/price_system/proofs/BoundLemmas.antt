@@ -1,15 +1,9 @@
 -- What the bounds of the system of prices say: just what it takes that prices support the dispatch, within the caps.
-use Rattle.std.specs.Prelude.{◌≡◌, ◌≢◌, ◌⊎◌, Bool, true, false, [], ◌∷◌, if◌then◌else◌, refl}
-use Rattle.std.proofs.Common.{ap, sym, ◌∙◌, subst, subst₂, inl, inr}
-use Rattle.fraction_theory.specs.Fraction.{Fraction, neg_ℚ, ◌-ℚ◌}
+use Rattle.std.specs.Prelude.{◌≡◌, Bool, if◌then◌else◌}
+use Rattle.std.proofs.Common.{sym, subst, subst₂, inl, inr}
+use Rattle.fraction_theory.specs.Fraction.{Fraction, neg_ℚ}
 use Rattle.fraction_theory.specs.Order.{◌<ℚ◌, ◌≤ℚ◌}
-use Rattle.fraction_theory.specs.Signs.{sign_of}
-use Rattle.fraction_theory.specs.declared.Sign.{Sign}
-use Rattle.fraction_theory.specs.declared.Sign.TheVariants.{Below, Zero, Above}
-use Rattle.fraction_theory.proofs.FieldLaws.{ring_ℚ}
-use Rattle.fraction_theory.proofs.OrderLaws.{<ℚ-not-≤ℚ, <ℚ-≤ℚ, <ℚ_irrefl, NonNeg-one, by_le1, not-≤ℚ, ≤ℚ-or-<ℚ, ≤ℚ_of_same, ≤ℚ_trans}
-use Rattle.fraction_theory.proofs.Ring.{by_ring, by_ring1, at, pnil, pone, pneg, ◌⊕◌}
-use Rattle.fraction_theory.proofs.SignLaws.{sign_of_is}
+use Rattle.fraction_theory.proofs.OrderLaws.{<ℚ-not-≤ℚ, ≤ℚ-or-<ℚ, ≤ℚ_trans}
 use Rattle.market_model.specs.declared.limits.Row.{Row}
 use Rattle.market_model.specs.declared.participants.Parts.{Parts}
 use Rattle.market_model.specs.declared.participants.Side.{Side}
@@ -19,39 +13,9 @@ use Rattle.market_model.specs.LimitRows.{limit, most_flow, penalty}
 use Rattle.market_model.specs.Market.{IsMarket}
 use Rattle.market_model.specs.Optimality.{Gains, Loses, SideSupported}
 use Rattle.market_model.proofs.Excesses.{penalty_least}
-use Rattle.price_system.specs.PriceSystem.{Caps, are_same, greatest_worth, is_below, is_negative, is_nil, is_zero, least_by, least_price, least_worth, most_by, most_price}
-
--- ---- tests
-pub nil_tells : (x : Fraction) → ((is_nil x ≡ true) × (x ≡ zero)) ⊎ ((is_nil x ≡ false) × (x ≢ zero))
-nil_tells x = by (sign_of x) refl
-  where
-    by : (s : Sign) → s ≡ sign_of x → ((is_zero s ≡ true) × (x ≡ zero)) ⊎ ((is_zero s ≡ false) × (x ≢ zero))
-    by Below e = inr (refl, λ n. <ℚ_irrefl zero (subst (λ t. t <ℚ zero) n (sign_of_is x Below e)))
-    by Zero e = inl (refl, sign_of_is x Zero e)
-    by Above e = inr (refl, λ n. <ℚ_irrefl zero (subst (λ t. zero <ℚ t) n (sign_of_is x Above e)))
-
-less_nil : (x y : Fraction) → x -ℚ y ≡ zero → x ≡ y
-less_nil x y e = by_ring1 ring_ℚ (x ∷ y ∷ []) (at 0) (at 1) pone (at 0 ⊕ pneg (at 1)) pnil e refl
-
-nil_less : (x y : Fraction) → x ≡ y → x -ℚ y ≡ zero
-nil_less x y e = ap (λ t. t -ℚ y) e ∙ by_ring ring_ℚ (y ∷ []) (at 0 ⊕ pneg (at 0)) pnil refl
-
-pub same_tells : (x y : Fraction) → ((are_same x y ≡ true) × (x ≡ y)) ⊎ ((are_same x y ≡ false) × (x ≢ y))
-same_tells x y = elim (nil_tells (x -ℚ y)) [ inl t ↦ inl (t.0, less_nil x y t.1) | inr t ↦ inr (t.0, λ e. t.1 (nil_less x y e)) ]
-
-pub below_tells : (x y : Fraction) → ((is_below x y ≡ true) × (x <ℚ y)) ⊎ ((is_below x y ≡ false) × (y ≤ℚ x))
-below_tells x y = by (sign_of (x -ℚ y)) refl
-  where
-    not_less : zero ≤ℚ (x -ℚ y) → y ≤ℚ x
-    not_less h = by_le1 (x ∷ y ∷ []) (at 1) (at 0) pone pnil (at 0 ⊕ pneg (at 1)) NonNeg-one h refl
-
-    not_more : y ≤ℚ x → zero ≤ℚ (x -ℚ y)
-    not_more h = by_le1 (x ∷ y ∷ []) pnil (at 0 ⊕ pneg (at 1)) pone (at 1) (at 0) NonNeg-one h refl
-
-    by : (s : Sign) → s ≡ sign_of (x -ℚ y) → ((is_negative s ≡ true) × (x <ℚ y)) ⊎ ((is_negative s ≡ false) × (y ≤ℚ x))
-    by Below e = inl (refl, not-≤ℚ y x (λ h. <ℚ-not-≤ℚ (x -ℚ y) zero (sign_of_is (x -ℚ y) Below e) (not_more h)))
-    by Zero e = inr (refl, ≤ℚ_of_same y x (sym (less_nil x y (sign_of_is (x -ℚ y) Zero e))))
-    by Above e = inr (refl, not_less (<ℚ-≤ℚ zero (x -ℚ y) (sign_of_is (x -ℚ y) Above e)))
+use Rattle.limit_screen.specs.Reaching.{are_same}
+use Rattle.limit_screen.proofs.ReachLemmas.{below_tells, same_tells}
+use Rattle.price_system.specs.PriceSystem.{Caps, greatest_worth, least_by, least_price, least_worth, most_by, most_price}
 
 -- ---- a side of a limit
 module _ (m : Parts) (c : Caps) (r : Row) (p f : Fraction) where

@@ -27,7 +27,7 @@ use Rattle.market_system.specs.MarketSystem.{is_among, is_in, same_row}
 use Rattle.market_system.proofs.DualLists.{one_row}
 use Rattle.market_system.proofs.RowOrder.{is_among-in, is_in-in, row_or_not, same_row-itself, same_row-not}
 use Rattle.price_system.specs.PriceSystem.{down_name, duals_of, is_nil, limit_dual, room_dual, room_name, up_name}
-use Rattle.price_system.proofs.BoundLemmas.{nil_tells}
+use Rattle.limit_screen.proofs.ReachLemmas.{nil_tells}
 use Rattle.price_system.proofs.WorthLemmas.{Agrees}
 
 -- ---- plain steps

@@ -5,6 +5,7 @@ pub mod CapLemmas
 pub mod DualLemmas
 pub mod NameLemmas
 pub mod PointLaws
+pub mod SizeLemmas
 pub mod SumLemmas
 pub mod SystemLemmas
 pub mod WorthLemmas

@@ -18,7 +18,9 @@ use Rattle.market_model.proofs.RowMembers.{Contains-flat, Contains-from_flat, Co
 use Rattle.market_system.specs.MarketSystem.{row_place}
 use Rattle.market_system.proofs.RowOrder.{RowsApart, row_name-at}
 use Rattle.market_system.proofs.VariableLaws.{units_ascend}
-use Rattle.price_system.specs.PriceSystem.{Variable, Energy, Reserve, Up, Down, Room, Block, Offer, name, prices, room_place, two_sides, variable_of, variables, worths}
+use Rattle.price_system.specs.PriceSystem.{name, prices, room_place, sum_name, two_sides, variable_of, variables, worths}
+use Rattle.price_system.specs.declared.variables.Variable.{Variable}
+use Rattle.price_system.specs.declared.variables.Variable.TheVariants.{Energy, Reserve, Up, Down, Room, Sum, Block, Offer}
 
 -- what makes a variable one of the system
 abbrev pub IsVariable : Parts → Variable → Type 0
@@ -27,6 +29,7 @@ IsVariable m Reserve = Unit {0}
 IsVariable m (Up r) = Contains (rows m) r
 IsVariable m (Down r) = Contains (rows m) r
 IsVariable m (Room u) = Contains (reserve_units m) u
+IsVariable m Sum = Unit {0}
 IsVariable m (Block j) = j < length m.blocks
 IsVariable m (Offer n) = n < length m.reserve.offers
 
@@ -101,15 +104,20 @@ module _ (m : Parts) (apart : RowsApart m) where
   length-offers : length offers ≡ length m.reserve.offers
   length-offers = length-map Offer (offer_places m) ∙ length-range_with_len 0 (length m.reserve.offers)
 
-  pub length-worths : length (worths m) ≡ length m.blocks + length m.reserve.offers
-  length-worths = length-append blocks offers ∙ Prim.omega (arith, length-blocks, length-offers)
+  pub length-worths : length (worths m) ≡ 1 + length m.blocks + length m.reserve.offers
+  length-worths = Prim.omega (arith, length-append blocks offers, length-blocks, length-offers)
 
   -- a variable of a part, by its place there
   pub price_place : (k : ℕ) → k < length (prices m) → variable_of m k ≡ get_or (prices m) k Energy
   price_place k h = get_or_append_left (prices m) (worths m) Energy k h
 
-  pub worth_place : (k : ℕ) → variable_of m (2 + 2 * length (rows m) + length (reserve_units m) + k) ≡ get_or (worths m) k Energy
+  pub worth_place : (k : ℕ) → variable_of m (sum_name m + k) ≡ get_or (worths m) k Energy
   worth_place k = ap (λ (n : ℕ). variable_of m (n + k)) (sym length-prices) ∙ get_or-append-add (prices m) (worths m) k Energy
+
+  behind_sum : (k : ℕ) → variable_of m (sum_name m + 1 + k) ≡ get_or (blocks ++ offers) k Energy
+  behind_sum k =
+      ap (variable_of m) (let more : sum_name m + 1 + k ≡ sum_name m + (1 + k) = Prim.omega arith in more) ∙ worth_place (1 + k)
+      ∙ get_or-append-add (Sum ∷ []) (blocks ++ offers) k Energy
 
   side_place : (k : ℕ) → k < 2 * length (rows m) → variable_of m (2 + k) ≡ get_or (sides (rows m)) k Energy
   side_place k h =
@@ -131,16 +139,19 @@ module _ (m : Parts) (apart : RowsApart m) where
         ap (variable_of m) (let more : 2 + 2 * k + 1 ≡ 2 + suc (2 * k) = Prim.omega arith in more) ∙ side_place (suc (2 * k)) (Prim.omega (arith, h)) ∙ both.1,
       )
 
+  pub sum_at_place : variable_of m (sum_name m) ≡ Sum
+  sum_at_place = ap (variable_of m) (let same : sum_name m ≡ sum_name m + 0 = Prim.omega arith in same) ∙ worth_place 0
+
   pub block_at_place : (j : ℕ) → j < length m.blocks → variable_of m (name m (Block j)) ≡ Block j
   block_at_place j h =
-      worth_place j ∙ get_or_append_left blocks offers Energy j (Prim.omega (arith, h, length-blocks))
+      behind_sum j ∙ get_or_append_left blocks offers Energy j (Prim.omega (arith, h, length-blocks))
       ∙ get_or-map-range_with_len Block 0 (length m.blocks) j j Energy h (Prim.omega arith)
 
   pub offer_at_place : (n : ℕ) → n < length m.reserve.offers → variable_of m (name m (Offer n)) ≡ Offer n
   offer_at_place n h =
       ap (variable_of m)
-      (let more : name m (Offer n) ≡ 2 + 2 * length (rows m) + length (reserve_units m) + (length blocks + n) = Prim.omega (arith, length-blocks) in more)
-      ∙ worth_place (length blocks + n) ∙ get_or-append-add blocks offers n Energy
+      (let more : name m (Offer n) ≡ sum_name m + 1 + (length blocks + n) = Prim.omega (arith, length-blocks) in more)
+      ∙ behind_sum (length blocks + n) ∙ get_or-append-add blocks offers n Energy
       ∙ get_or-map-range_with_len Offer 0 (length m.reserve.offers) n n Energy h (Prim.omega arith)
 
   -- each is the variable of its name
@@ -150,6 +161,7 @@ module _ (m : Parts) (apart : RowsApart m) where
   variable_at (Up r) is = let here = row_here r is in (up_at (row_place m r) r here.0).0 ∙ ap Up here.1
   variable_at (Down r) is = let here = row_here r is in (up_at (row_place m r) r here.0).1 ∙ ap Down here.1
   variable_at (Room u) is = let here = unit_here u is in room_at (room_place m u) here.0 ∙ get_or-map Room (reserve_units m) (room_place m u) u Energy here.0 ∙ ap Room here.1
+  variable_at Sum is = sum_at_place
   variable_at (Block j) is = block_at_place j is
   variable_at (Offer n) is = offer_at_place n is
 
@@ -167,13 +179,21 @@ module _ (m : Parts) where
   among_worths : (v : Variable) → Contains (worths m) v → Contains (variables m) v
   among_worths v c = Contains-append_right (prices m) (worths m) v c
 
+  pub sum_listed : Contains (worths m) Sum
+  sum_listed = Contains-head Sum (map Block (places (length m.blocks)) ++ map Offer (offer_places m))
+
+  behind_listed : (v : Variable) → Contains (map Block (places (length m.blocks)) ++ map Offer (offer_places m)) v → Contains (worths m) v
+  behind_listed v c = Contains-cons Sum (map Block (places (length m.blocks)) ++ map Offer (offer_places m)) v c
+
   pub block_listed : (j : ℕ) → j < length m.blocks → Contains (worths m) (Block j)
-  block_listed j h = Contains-append_left (map Block (places (length m.blocks))) (map Offer (offer_places m)) (Block j)
-      (Contains-map Block (places (length m.blocks)) j (Contains-places (length m.blocks) j h))
+  block_listed j h = behind_listed (Block j)
+      (Contains-append_left (map Block (places (length m.blocks))) (map Offer (offer_places m)) (Block j)
+      (Contains-map Block (places (length m.blocks)) j (Contains-places (length m.blocks) j h)))
 
   pub offer_listed : (n : ℕ) → n < length m.reserve.offers → Contains (worths m) (Offer n)
-  offer_listed n h = Contains-append_right (map Block (places (length m.blocks))) (map Offer (offer_places m)) (Offer n)
-      (Contains-map Offer (offer_places m) n (Contains-places (length m.reserve.offers) n h))
+  offer_listed n h = behind_listed (Offer n)
+      (Contains-append_right (map Block (places (length m.blocks))) (map Offer (offer_places m)) (Offer n)
+      (Contains-map Offer (offer_places m) n (Contains-places (length m.reserve.offers) n h)))
 
   -- each variable is in the list
   pub listed : (v : Variable) → IsVariable m v → Contains (variables m) v
@@ -184,14 +204,19 @@ module _ (m : Parts) where
   listed (Up r) is = among_prices (Up r) (side_listed (Up r) (Contains-flat two_sides (rows m) r (Up r) is (Contains-head (Up r) (Down r ∷ []))))
   listed (Down r) is = among_prices (Down r) (side_listed (Down r) (Contains-flat two_sides (rows m) r (Down r) is (Contains-cons (Up r) (Down r ∷ []) (Down r) (Contains-head (Down r) []))))
   listed (Room u) is = among_prices (Room u) (price_listed (Room u) (Contains-append_right (sides (rows m)) (map Room (reserve_units m)) (Room u) (Contains-map Room (reserve_units m) u is)))
+  listed Sum is = among_worths Sum sum_listed
   listed (Block j) is = among_worths (Block j) (block_listed j is)
   listed (Offer n) is = among_worths (Offer n) (offer_listed n is)
 
-  -- what holds of each block and offer holds of the rows, and what holds of each variable of the list
-  pub by_worth : (P : Variable → Type 0) → ((j : ℕ) → j < length m.blocks → P (Block j)) → ((n : ℕ) → n < length m.reserve.offers → P (Offer n)) → (v : Variable) → Contains (worths m) v → P v
-  by_worth P block offer v c = elim (Contains-append_cases (map Block (places (length m.blocks))) (map Offer (offer_places m)) v c) [
-    | inl k ↦ let l = Contains-from_map Block (places (length m.blocks)) v k in subst P l.2 (block l.0 (Contains-from_places (length m.blocks) l.0 l.1))
-    | inr k ↦ let l = Contains-from_map Offer (offer_places m) v k in subst P l.2 (offer l.0 (Contains-from_places (length m.reserve.offers) l.0 l.1))
+  -- what holds of the sum, of each block and of each offer holds of the rows, and what holds of each variable of the list
+  pub by_worth : (P : Variable → Type 0) → P Sum → ((j : ℕ) → j < length m.blocks → P (Block j)) → ((n : ℕ) → n < length m.reserve.offers → P (Offer n))
+      → (v : Variable) → Contains (worths m) v → P v
+  by_worth P sum block offer v c = elim (Contains-cases Sum (map Block (places (length m.blocks)) ++ map Offer (offer_places m)) v c) [
+    | inl e ↦ subst P e sum
+    | inr b ↦ elim (Contains-append_cases (map Block (places (length m.blocks))) (map Offer (offer_places m)) v b) [
+      | inl k ↦ let l = Contains-from_map Block (places (length m.blocks)) v k in subst P l.2 (block l.0 (Contains-from_places (length m.blocks) l.0 l.1))
+      | inr k ↦ let l = Contains-from_map Offer (offer_places m) v k in subst P l.2 (offer l.0 (Contains-from_places (length m.reserve.offers) l.0 l.1))
+    ]
   ]
 
   by_side : (P : Variable → Type 0) (r : Row) → P (Up r) → P (Down r) → (v : Variable) → Contains (two_sides r) v → P v
@@ -216,5 +241,5 @@ module _ (m : Parts) where
   pub variable_is : (v : Variable) → Contains (variables m) v → IsVariable m v
   variable_is v c = elim (Contains-append_cases (prices m) (worths m) v c) [
     | inl k ↦ by_price (IsVariable m) tt tt (λ r l. (l, l)) (λ u l. l) v k
-    | inr k ↦ by_worth (IsVariable m) (λ j h. h) (λ n h. h) v k
+    | inr k ↦ by_worth (IsVariable m) tt (λ j h. h) (λ n h. h) v k
   ]

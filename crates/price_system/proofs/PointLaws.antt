@@ -15,11 +15,17 @@ use Rattle.market_model.specs.Market.{IsMarket}
 use Rattle.market_model.specs.Optimality.{BlockSupported, NeedSupported, OfferSupported, ProperDuals, RoomSupported, RowSupported, Supports, down_of, energy_worth, price, reserve_worth, room_price, up_of}
 use Rattle.market_model.specs.Reserves.{offer_price, reserve, reserve_need, reserve_units, room, room_used}
 use Rattle.market_model.proofs.RowMembers.{Contains-from_map, Contains-map}
-use Rattle.price_system.specs.PriceSystem.{Caps, KeepsCaps, Variable, Energy, Reserve, Up, Down, Room, Block, Offer, are_same, high, low, least_price, most_price, most_reserve_price, most_room_price, most_worth, name, point_of, price_system, value_of, variables, worths}
+use Rattle.one_price.specs.FirstPrices.{sum_of_prices}
+use Rattle.limit_screen.specs.Reaching.{are_same}
+use Rattle.price_system.specs.PriceSystem.{Caps, KeepsCaps, high, low, least_price, most_price, most_reserve_price, most_room_price, most_worth, name, point_of, price_system, value_of, variables, worths}
+use Rattle.price_system.specs.declared.variables.Variable.{Variable}
+use Rattle.price_system.specs.declared.variables.Variable.TheVariants.{Energy, Reserve, Up, Down, Room, Sum, Block, Offer}
 use Rattle.price_system.proofs.BoundLemmas.{gains_in, loses_in, side_in, side_least, side_most, used_in, used_most, worth_greatest, worth_least}
-use Rattle.price_system.proofs.CapLemmas.{opposite, opposite_back, opposite_nil, reserve_within, worth_within}
-use Rattle.price_system.proofs.NameLemmas.{IsVariable, block_listed, by_worth, listed, offer_listed, variable_at, variable_is}
-use Rattle.price_system.proofs.WorthLemmas.{Agrees, activity-block, activity-offer, apart, high-at, low-at}
+use Rattle.price_system.proofs.CapLemmas.{down_most, listed_most, prices_least, reserve_within, up_most, worth_within}
+use Rattle.price_system.proofs.CapLemmas.{reserve_most as reserve_in}
+use Rattle.price_system.proofs.NameLemmas.{IsVariable, block_listed, by_worth, listed, offer_listed, sum_listed, variable_at, variable_is}
+use Rattle.price_system.proofs.SizeLemmas.{opposite, opposite_back, opposite_nil}
+use Rattle.price_system.proofs.WorthLemmas.{Agrees, activity-block, activity-offer, activity-sum, apart, high-at, low-at}
 
 module _ (m : Parts) (x : Dispatch) (c : Caps) (market : IsMarket m) where
   abbrev s : System
@@ -37,9 +43,10 @@ module _ (m : Parts) (x : Dispatch) (c : Caps) (market : IsMarket m) where
   unfolding price_system
   by_variable P each w k = let l = Contains-from_map (name m) (variables m) w k in subst P l.2 (each l.0 (variable_is m l.0 l.1))
 
-  pub by_row : (P : ℕ → Type 0) → ((j : ℕ) → j < length m.blocks → P (name m (Block j))) → ((n : ℕ) → n < length m.reserve.offers → P (name m (Offer n))) → (w : ℕ) → Contains s.rows w → P w
+  pub by_row : (P : ℕ → Type 0) → P (name m Sum) → ((j : ℕ) → j < length m.blocks → P (name m (Block j))) → ((n : ℕ) → n < length m.reserve.offers → P (name m (Offer n)))
+      → (w : ℕ) → Contains s.rows w → P w
   unfolding price_system
-  by_row P block offer w k = let l = Contains-from_map (name m) (worths m) w k in subst P l.2 (by_worth m (λ v. P (name m v)) block offer l.0 l.1)
+  by_row P sum block offer w k = let l = Contains-from_map (name m) (worths m) w k in subst P l.2 (by_worth m (λ v. P (name m v)) sum block offer l.0 l.1)
 
   -- ---- duals of a point that meets the rows and is within the bounds
   module _ (v : ℕ → Fraction) (d : Duals Fraction) (agrees : Agrees m v d) (meets : MeetsRows s v) (bounds : InBounds s v) where
@@ -56,6 +63,9 @@ module _ (m : Parts) (x : Dispatch) (c : Caps) (market : IsMarket m) where
     price_least : (w : Variable) (is : IsVariable m w) (p bound : Fraction) → v (name m w) ≡ neg_ℚ p → high m x c w ≡ neg_ℚ bound → bound ≤ℚ p
     price_least w is p bound e k = opposite_back bound p (subst₂ ◌≤ℚ◌ e k (greatest w is))
 
+    pub sum_worth : v (name m Sum) ≡ neg_ℚ (sum_of_prices m d)
+    sum_worth = meets.row (name m Sum) (row_in Sum (sum_listed m)) ∙ activity-sum m x c market v d agrees
+
     pub block_worth : (j : ℕ) → j < length m.blocks → v (name m (Block j)) ≡ energy_worth m d (block_at m j).unit
     block_worth j h = meets.row (name m (Block j)) (row_in (Block j) (block_listed m j h)) ∙ activity-block m x c market v d agrees j h
 
@@ -69,8 +79,8 @@ module _ (m : Parts) (x : Dispatch) (c : Caps) (market : IsMarket m) where
         let under = subst (λ t. low m x c (Block j) ≤ℚ t) (block_worth j h) (least (Block j) h) in
         let over = subst (λ t. t ≤ℚ high m x c (Block j)) (block_worth j h) (greatest (Block j) h) in
         record {
-          full = gains_in (price m j) (most_worth m c u) w (accepted x j) zero (quantity m j) (block_at m j).side under over;
-          empty = loses_in (price m j) (most_worth m c u) w (accepted x j) zero (quantity m j) (block_at m j).side under over;
+          full = gains_in (price m j) (most_worth c) w (accepted x j) zero (quantity m j) (block_at m j).side under over;
+          empty = loses_in (price m j) (most_worth c) w (accepted x j) zero (quantity m j) (block_at m j).side under over;
         }
 
     offer_supported : (n : ℕ) → n < length m.reserve.offers → OfferSupported m x d n
@@ -123,6 +133,7 @@ module _ (m : Parts) (x : Dispatch) (c : Caps) (market : IsMarket m) where
     pub point_meets : MeetsRows s (point_of m d)
     point_meets = record {
       row = by_row (λ w. point_of m d w ≡ activity s (point_of m d) w)
+          (value_at Sum tt ∙ sym (activity-sum m x c market (point_of m d) d point_agrees))
           (λ j h. value_at (Block j) h ∙ sym (activity-block m x c market (point_of m d) d point_agrees j h))
           (λ n h. value_at (Offer n) h ∙ sym (activity-offer m x c market (point_of m d) d point_agrees n h));
     }
@@ -132,8 +143,14 @@ module _ (m : Parts) (x : Dispatch) (c : Caps) (market : IsMarket m) where
       reserve_most = by m.reserve.listed refl
         where
           by : (b : Bool) → m.reserve.listed ≡ b → d.reserve ≤ℚ (if b && are_same (reserve m x) (reserve_need m) then c.most else zero)
-          by true e = used_most c.most d.reserve (reserve m x) (reserve_need m) holds.need.met keeps.reserve
+          by true e = used_most c.most d.reserve (reserve m x) (reserve_need m) holds.need.met (reserve_in m x d market holds c.most keeps.sum)
           by false e = ≤ℚ_of_same d.reserve zero (proper.energy_alone e)
+
+      up_cap : (r : Row) → Contains (rows m) r → up_of m d r ≤ℚ c.most
+      up_cap r k = up_most m x d market holds c.most keeps.sum r k
+
+      down_cap : (r : Row) → Contains (rows m) r → down_of m d r ≤ℚ c.most
+      down_cap r k = down_most m x d market holds c.most keeps.sum r k
 
       nil_most : (p : Fraction) → zero ≤ℚ p → neg_ℚ p ≤ℚ zero
       nil_most p h = subst (λ t. neg_ℚ p ≤ℚ t) opposite_nil (opposite zero p h)
@@ -141,40 +158,42 @@ module _ (m : Parts) (x : Dispatch) (c : Caps) (market : IsMarket m) where
       under : (v : Variable) → IsVariable m v → low m x c v ≤ℚ value_of m d v
       under Energy is = opposite d.energy c.range keeps.energy.below
       under Reserve is = opposite d.reserve (most_reserve_price m x c) reserve_most
-      under (Up r) is = let row = holds.rows r is in let caps = keeps.limits r is in
-          opposite (up_of m d r) (most_price m c r (flow m x r)) (side_most m c r (up_of m d r) (flow m x r) row.up caps.0)
-      under (Down r) is = let row = holds.rows r is in let caps = keeps.limits r is in
-          opposite (down_of m d r) (most_price m c r (neg_ℚ (flow m x r))) (side_most m c r (down_of m d r) (neg_ℚ (flow m x r)) row.down caps.1)
+      under (Up r) is = let row = holds.rows r is in
+          opposite (up_of m d r) (most_price m c r (flow m x r)) (side_most m c r (up_of m d r) (flow m x r) row.up (up_cap r is))
+      under (Down r) is = let row = holds.rows r is in
+          opposite (down_of m d r) (most_price m c r (neg_ℚ (flow m x r))) (side_most m c r (down_of m d r) (neg_ℚ (flow m x r)) row.down (down_cap r is))
       under (Room u) is = let rooms = holds.rooms u is in
-          opposite (room_price m d u) (most_room_price m x c u) (used_most c.most (room_price m d u) (room_used m x u) (room m u) rooms.used_up (keeps.rooms u is))
+          opposite (room_price m d u) (most_room_price m x c u) (used_most c.most (room_price m d u) (room_used m x u) (room m u) rooms.used_up (listed_most m x d market holds c.most keeps.sum u is))
+      under Sum is = opposite (sum_of_prices m d) c.most keeps.sum
       under (Block j) is =
           let u : ℕ = (block_at m j).unit in
           let block = holds.blocks j is in
-          let within = worth_within m x c d market holds keeps u in
-          worth_least (price m j) (most_worth m c u) (energy_worth m d u) (accepted x j) zero (quantity m j) (block_at m j).side block.full block.empty within.above
+          let within = worth_within m x c d market holds keeps j is in
+          worth_least (price m j) (most_worth c) (energy_worth m d u) (accepted x j) zero (quantity m j) (block_at m j).side block.full block.empty within.above
       under (Offer n) is =
           let u : ℕ = (offer_at m n).unit in
           let offer = holds.offers n is in
-          let within = reserve_within m x c d market holds keeps u in
+          let within = reserve_within m x d market holds c.most keeps.sum u in
           worth_least (offer_price m n) c.most (reserve_worth m d u) (reserved x n) zero (reserve_quantity m n) Sell offer.full offer.empty within.above
 
       over : (v : Variable) → IsVariable m v → value_of m d v ≤ℚ high m x c v
       over Energy is = opposite_most c.range d.energy keeps.energy.above
       over Reserve is = nil_most d.reserve holds.need.sign
-      over (Up r) is = let row = holds.rows r is in let caps = keeps.limits r is in
-          opposite (least_price m r (flow m x r)) (up_of m d r) (side_least m c r (up_of m d r) (flow m x r) row.up caps.0)
-      over (Down r) is = let row = holds.rows r is in let caps = keeps.limits r is in
-          opposite (least_price m r (neg_ℚ (flow m x r))) (down_of m d r) (side_least m c r (down_of m d r) (neg_ℚ (flow m x r)) row.down caps.1)
+      over (Up r) is = let row = holds.rows r is in
+          opposite (least_price m r (flow m x r)) (up_of m d r) (side_least m c r (up_of m d r) (flow m x r) row.up (up_cap r is))
+      over (Down r) is = let row = holds.rows r is in
+          opposite (least_price m r (neg_ℚ (flow m x r))) (down_of m d r) (side_least m c r (down_of m d r) (neg_ℚ (flow m x r)) row.down (down_cap r is))
       over (Room u) is = let rooms = holds.rooms u is in nil_most (room_price m d u) rooms.sign
+      over Sum is = nil_most (sum_of_prices m d) (prices_least m x d market holds)
       over (Block j) is =
           let u : ℕ = (block_at m j).unit in
           let block = holds.blocks j is in
-          let within = worth_within m x c d market holds keeps u in
-          worth_greatest (price m j) (most_worth m c u) (energy_worth m d u) (accepted x j) zero (quantity m j) (block_at m j).side block.full block.empty within.below
+          let within = worth_within m x c d market holds keeps j is in
+          worth_greatest (price m j) (most_worth c) (energy_worth m d u) (accepted x j) zero (quantity m j) (block_at m j).side block.full block.empty within.below
       over (Offer n) is =
           let u : ℕ = (offer_at m n).unit in
           let offer = holds.offers n is in
-          let within = reserve_within m x c d market holds keeps u in
+          let within = reserve_within m x d market holds c.most keeps.sum u in
           worth_greatest (offer_price m n) c.most (reserve_worth m d u) (reserved x n) zero (reserve_quantity m n) Sell offer.full offer.empty within.below
 
       pub point_bounds : InBounds s (point_of m d)

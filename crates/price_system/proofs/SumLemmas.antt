@@ -1,51 +1,34 @@
 -- What a point is worth, and the order of its columns.
-use Rattle.std.specs.Prelude.{◌≡◌, ℕ, pos, List, [], ◌∷◌, ◌++◌, map, reverse, refl}
+use Rattle.std.specs.Prelude.{◌≡◌, ℕ, List, [], ◌∷◌, ◌++◌, map, reverse, refl}
 use Rattle.std.specs.List.{flat_map}
 use Rattle.std.proofs.Common.{ap, ap₂, sym, ◌∙◌, append_assoc}
 use Rattle.std.proofs.lemmas.List.{map-append, reverse-append}
 use Rattle.std.proofs.lemmas.List.Concat.{flat_map-append}
-use Rattle.fraction_theory.specs.Fraction.{Fraction, whole, neg_ℚ, ◌+ℚ◌, ◌*ℚ◌}
-use Rattle.fraction_theory.specs.Sums.{sum_by}
-use Rattle.fraction_theory.proofs.FieldLaws.{ring_ℚ}
-use Rattle.fraction_theory.proofs.Ring.{by_ring, at, pnil, pone, pneg, ◌⊕◌, ◌⊗◌}
-use Rattle.fraction_theory.proofs.SumLaws.{sum_by-times}
+use Rattle.fraction_theory.specs.Fraction.{Fraction, neg_ℚ}
 use Rattle.linear_system.specs.Systems.{System, objective}
 use Rattle.market_model.specs.declared.answered.Duals.{Duals}
 use Rattle.market_model.specs.declared.limits.Row.{Row}
 use Rattle.market_model.specs.declared.participants.Parts.{Parts}
 use Rattle.market_model.specs.LimitRows.{rows}
-use Rattle.market_model.specs.Optimality.{down_of, room_price, up_of}
+use Rattle.market_model.specs.Optimality.{room_price}
 use Rattle.market_model.specs.Reserves.{reserve_units}
 use Rattle.market_model.proofs.ListSteps.{map-map}
 use Rattle.one_price.specs.FirstPrices.{limit_prices, room_prices, two_prices}
 use Rattle.price_system.specs.Laws.{LawOfTheOrder, LawOfTheSum}
-use Rattle.price_system.specs.PriceSystem.{Variable, Energy, Reserve, Up, Down, Room, down_name, duals_of, name, price_order, price_system, prices, room_name, up_name}
+use Rattle.price_system.specs.PriceSystem.{down_name, duals_of, name, price_order, price_system, prices, room_name, up_name}
+use Rattle.price_system.specs.declared.variables.Variable.{Variable}
+use Rattle.price_system.specs.declared.variables.Variable.TheVariants.{Energy, Reserve, Up, Down, Room}
 use Rattle.price_system.proofs.BackLemmas.{Contains-from_reverse, flat-members, map-members}
 use Rattle.price_system.proofs.DualLemmas.{agrees-made, down-made, room-made, up-made}
 use Rattle.price_system.proofs.NameLemmas.{sides}
-use Rattle.price_system.proofs.WorthLemmas.{price-at, sum-at}
+use Rattle.price_system.proofs.WorthLemmas.{price-at, sum-priced}
 
 -- ---- the sum
 pub law_of_the_sum : LawOfTheSum
 unfolding objective
 law_of_the_sum m x c v market =
     let s : System = price_system m x c in
-    let d : Duals Fraction = duals_of m v in
-    let agrees = agrees-made m market v in
-    let one : Fraction = whole (pos 1) in
-    let limits : Fraction = sum_by (λ r. up_of m d r +ℚ down_of m d r) (rows m) in
-    let rooms : Fraction = sum_by (room_price m d) (reserve_units m) in
-    sum-at m x c market (λ w. s.price w *ℚ v w) (whole (pos 0) *ℚ v 0) (one *ℚ neg_ℚ d.reserve) (λ r. neg_ℚ one *ℚ (up_of m d r +ℚ down_of m d r)) (λ u. neg_ℚ one *ℚ room_price m d u)
-    (ap (λ t. t *ℚ v 0) (price-at m x c market Energy tt))
-    (ap₂ ◌*ℚ◌ (price-at m x c market Reserve tt) agrees.reserve)
-    (λ r k.
-    ap₂ ◌+ℚ◌ (ap₂ ◌*ℚ◌ (price-at m x c market (Up r) k) (agrees.up r k)) (ap₂ ◌*ℚ◌ (price-at m x c market (Down r) k) (agrees.down r k))
-    ∙ by_ring ring_ℚ (up_of m d r ∷ down_of m d r ∷ []) (pone ⊗ pneg (at 0) ⊕ pone ⊗ pneg (at 1)) (pneg pone ⊗ (at 0 ⊕ at 1)) refl)
-    (λ u k. ap₂ ◌*ℚ◌ (price-at m x c market (Room u) k) (agrees.room u k) ∙ by_ring ring_ℚ (room_price m d u ∷ []) (pone ⊗ pneg (at 0)) (pneg pone ⊗ at 0) refl)
-    ∙ ap₂ (λ (a b : Fraction). (whole (pos 0) *ℚ v 0) +ℚ ((one *ℚ neg_ℚ d.reserve) +ℚ (a +ℚ b)))
-    (sum_by-times (neg_ℚ one) (λ r. up_of m d r +ℚ down_of m d r) (rows m))
-    (sum_by-times (neg_ℚ one) (room_price m d) (reserve_units m))
-    ∙ by_ring ring_ℚ (v 0 ∷ d.reserve ∷ limits ∷ rooms ∷ []) (pnil ⊗ at 0 ⊕ (pone ⊗ pneg (at 1) ⊕ (pneg pone ⊗ at 2 ⊕ pneg pone ⊗ at 3))) (pneg ((at 2 ⊕ at 3) ⊕ at 1)) refl
+    sum-priced m x c market v (duals_of m v) (agrees-made m market v) s.price (price-at m x c market)
 
 -- ---- the order
 map-reverse : {X Y : Type 0} (f : X → Y) (xs : List X) → map f (reverse xs) ≡ reverse (map f xs)

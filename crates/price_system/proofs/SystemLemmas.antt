@@ -17,8 +17,10 @@ use Rattle.market_model.proofs.ChangeLemmas.{same_default}
 use Rattle.market_model.proofs.RowMembers.{Contains-from_map, Contains-map}
 use Rattle.market_system.proofs.RowOrder.{RowsApart}
 use Rattle.price_system.specs.Laws.{LawOfTheSystem}
-use Rattle.price_system.specs.PriceSystem.{Caps, Variable, Energy, Room, name, price_system, prices, variable_of, variables, worths}
-use Rattle.price_system.proofs.NameLemmas.{block_at_place, length-prices, length-worths, offer_at_place, price_place, room_at, row_at, unit_at_place, up_at, worth_place}
+use Rattle.price_system.specs.PriceSystem.{Caps, name, price_system, prices, sum_name, variable_of, variables, worths}
+use Rattle.price_system.specs.declared.variables.Variable.{Variable}
+use Rattle.price_system.specs.declared.variables.Variable.TheVariants.{Energy, Room}
+use Rattle.price_system.proofs.NameLemmas.{block_at_place, length-prices, length-worths, offer_at_place, price_place, room_at, row_at, sum_at_place, unit_at_place, up_at, worth_place}
 use Rattle.price_system.proofs.WorthLemmas.{apart}
 
 abbrev no_row : Row
@@ -52,7 +54,7 @@ module _ (m : Parts) (distinct : RowsApart m) where
       by (suc (suc r)) q lt e i = absurd (Prim.omega (arith, lt))
 
   abbrev count : ℕ
-  count = 2 + 2 * length (rows m) + length (reserve_units m)
+  count = sum_name m
 
   price_named : (k : ℕ) → k < count → Named k
   price_named zero h = refl
@@ -63,10 +65,11 @@ module _ (m : Parts) (distinct : RowsApart m) where
         (named_room (k - 2 * length (rows m)) (Prim.omega (arith, ge, h)))
   ]
 
-  worth_named : (k : ℕ) → k < length m.blocks + length m.reserve.offers → Named (count + k)
-  worth_named k h = elim (cases_lt k (length m.blocks)) [
-    | inl lt ↦ ap (name m) (block_at_place m distinct k lt)
-    | inr ge ↦ subst Named (let same : count + length m.blocks + (k - length m.blocks) ≡ count + k = Prim.omega (arith, ge) in same)
+  worth_named : (k : ℕ) → k < 1 + length m.blocks + length m.reserve.offers → Named (count + k)
+  worth_named zero h = subst Named (let same : count ≡ count + 0 = Prim.omega arith in same) (ap (name m) (sum_at_place m distinct))
+  worth_named (suc k) h = elim (cases_lt k (length m.blocks)) [
+    | inl lt ↦ subst Named (let same : count + 1 + k ≡ count + suc k = Prim.omega arith in same) (ap (name m) (block_at_place m distinct k lt))
+    | inr ge ↦ subst Named (let same : count + 1 + length m.blocks + (k - length m.blocks) ≡ count + suc k = Prim.omega (arith, ge) in same)
         (ap (name m) (offer_at_place m distinct (k - length m.blocks) (Prim.omega (arith, ge, h))))
   ]
 
@@ -84,7 +87,7 @@ module _ (m : Parts) (distinct : RowsApart m) where
   all_names : (k : ℕ) → k < length (map (name m) (variables m)) → get_or (map (name m) (variables m)) k 0 ≡ k
   all_names k h =
       let inside : k < length (variables m) = Prim.omega (arith, h, length-map (name m) (variables m)) in
-      let all : k < count + (length m.blocks + length m.reserve.offers) = Prim.omega (arith, inside, length-append (prices m) (worths m), length-prices m distinct, length-worths m distinct) in
+      let all : k < count + (1 + length m.blocks + length m.reserve.offers) = Prim.omega (arith, inside, length-append (prices m) (worths m), length-prices m distinct, length-worths m distinct) in
       get_or-map (name m) (variables m) k Energy 0 inside ∙ elim (cases_lt k count) [
         | inl lt ↦ price_named k lt
         | inr ge ↦ subst Named (let same : count + (k - count) ≡ k = Prim.omega (arith, ge) in same) (worth_named (k - count) (Prim.omega (arith, ge, all)))

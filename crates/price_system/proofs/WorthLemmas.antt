@@ -1,5 +1,5 @@
 -- What the rows of the system of prices make of a point: what MW are worth at the prices of which its columns are the opposites.
-use Rattle.std.specs.Prelude.{◌≡◌, ◌≢◌, ℕ, ◌+◌, ◌<◌, pos, Bool, true, false, List, [], ◌∷◌, length, map, if◌then◌else◌, Contains, refl}
+use Rattle.std.specs.Prelude.{◌≡◌, ◌≢◌, ℕ, ◌<◌, pos, Bool, true, false, List, [], ◌∷◌, length, map, if◌then◌else◌, Contains, refl}
 use Rattle.std.proofs.Common.{arith, ap, ap₂, sym, ◌∙◌, inl, inr}
 use Rattle.std.proofs.lemmas.Bool.Decides.{eqb_tells}
 use Rattle.std.proofs.lemmas.List.{map-append}
@@ -8,7 +8,7 @@ use Rattle.fraction_theory.specs.Sums.{sum_by}
 use Rattle.fraction_theory.proofs.FieldLaws.{ring_ℚ}
 use Rattle.fraction_theory.proofs.ListSums.{sum_by-members}
 use Rattle.fraction_theory.proofs.Ring.{by_ring, at, pnil, pone, pneg, ◌⊕◌, ◌⊗◌}
-use Rattle.fraction_theory.proofs.SumLaws.{sum_by-append, sum_by-nil, total-Product}
+use Rattle.fraction_theory.proofs.SumLaws.{sum_by-append, sum_by-nil, sum_by-times, total-Product}
 use Rattle.linear_system.specs.Systems.{System, activity}
 use Rattle.market_model.specs.declared.answered.Duals.{Duals}
 use Rattle.market_model.specs.declared.limits.Row.{Row}
@@ -27,7 +27,10 @@ use Rattle.market_system.proofs.DualLists.{reserve_unit-below, rows_apart}
 use Rattle.market_system.proofs.RowOrder.{RowsApart}
 use Rattle.market_system.proofs.RowSums.{sum_by-alone}
 use Rattle.market_system.proofs.VariableLaws.{units_ascend}
-use Rattle.price_system.specs.PriceSystem.{Caps, Variable, Energy, Reserve, Up, Down, Room, Block, Offer, block_name, coefficient, column_price, down_name, high, low, name, offer_name, price_system, room_name, up_name}
+use Rattle.one_price.specs.FirstPrices.{sum_of_prices}
+use Rattle.price_system.specs.PriceSystem.{Caps, block_name, coefficient, column_price, down_name, high, low, name, offer_name, price_system, room_name, sum_name, up_name}
+use Rattle.price_system.specs.declared.variables.Variable.{Variable}
+use Rattle.price_system.specs.declared.variables.Variable.TheVariants.{Energy, Reserve, Up, Down, Room, Sum, Block, Offer}
 use Rattle.price_system.proofs.NameLemmas.{IsVariable, sides, variable_at}
 
 -- the columns of a point are the opposites of the prices of duals
@@ -130,6 +133,29 @@ module _ (m : Parts) (x : Dispatch) (c : Caps) (market : IsMarket m) where
           where
             none : offers_reserve m u ≡ false → room_price m d u ≡ zero
             none f = Prim.rw f refl
+
+    -- where each column counts at its price they come to the opposite of the sum of all prices but energy's
+    pub sum-priced : (weight : ℕ → Fraction) → ((j : Variable) → IsVariable m j → weight (name m j) ≡ column_price j)
+        → sum_by (λ w. weight w *ℚ v w) s.columns ≡ neg_ℚ (sum_of_prices m d)
+    sum-priced weight priced =
+        let one : Fraction = whole (pos 1) in
+        let limits : Fraction = sum_by (λ r. up_of m d r +ℚ down_of m d r) (rows m) in
+        let rooms : Fraction = sum_by (room_price m d) (reserve_units m) in
+        sum-at (λ w. weight w *ℚ v w) (zero *ℚ v 0) (one *ℚ neg_ℚ d.reserve) (λ r. neg_ℚ one *ℚ (up_of m d r +ℚ down_of m d r)) (λ u. neg_ℚ one *ℚ room_price m d u)
+        (ap (λ t. t *ℚ v 0) (priced Energy tt))
+        (ap₂ ◌*ℚ◌ (priced Reserve tt) agrees.reserve)
+        (λ r k.
+        ap₂ ◌+ℚ◌ (ap₂ ◌*ℚ◌ (priced (Up r) k) (agrees.up r k)) (ap₂ ◌*ℚ◌ (priced (Down r) k) (agrees.down r k))
+        ∙ by_ring ring_ℚ (up_of m d r ∷ down_of m d r ∷ []) (pone ⊗ pneg (at 0) ⊕ pone ⊗ pneg (at 1)) (pneg pone ⊗ (at 0 ⊕ at 1)) refl)
+        (λ u k. ap₂ ◌*ℚ◌ (priced (Room u) k) (agrees.room u k) ∙ by_ring ring_ℚ (room_price m d u ∷ []) (pone ⊗ pneg (at 0)) (pneg pone ⊗ at 0) refl)
+        ∙ ap₂ (λ (a b : Fraction). (zero *ℚ v 0) +ℚ ((one *ℚ neg_ℚ d.reserve) +ℚ (a +ℚ b)))
+        (sum_by-times (neg_ℚ one) (λ r. up_of m d r +ℚ down_of m d r) (rows m))
+        (sum_by-times (neg_ℚ one) (room_price m d) (reserve_units m))
+        ∙ by_ring ring_ℚ (v 0 ∷ d.reserve ∷ limits ∷ rooms ∷ []) (pnil ⊗ at 0 ⊕ (pone ⊗ pneg (at 1) ⊕ (pneg pone ⊗ at 2 ⊕ pneg pone ⊗ at 3))) (pneg ((at 2 ⊕ at 3) ⊕ at 1)) refl
+
+    pub activity-sum : activity s v (sum_name m) ≡ neg_ℚ (sum_of_prices m d)
+    unfolding activity
+    activity-sum = sum-priced (s.coefficient (name m Sum)) (λ j is. coefficient-at Sum j tt is)
 
     -- what limits take of a unit's worth
     abbrev taken : ℕ → Row → Fraction

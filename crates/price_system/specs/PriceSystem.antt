@@ -1,16 +1,13 @@
 -- The prices that support a dispatch of a market, as the points of a linear system. Its columns are the opposites of prices, so that the most of
--- a column is the least of a price: energy's, that of reserve, those of limits and those of rooms. Its rows are what a MW of each block's unit is
--- worth at them, and a MW of the reserve of each offer.
+-- a column is the least of a price: energy's, that of reserve, those of limits and those of rooms. Its rows are the sum of all but energy's, what a
+-- MW of each block's unit is worth at them, and a MW of the reserve of each offer.
 -- Sources: Schweppe, Caramanis, Tabors and Bohn, Spot Pricing of Electricity, for the prices; Chvátal, Linear Programming, for complementary
 -- slackness, which the bounds say. The form is own.
-use Rattle.std.specs.Prelude.{ℕ, ◌+◌, ◌*◌, pos, Bool, true, false, List, [], ◌∷◌, ◌++◌, ◌==◌, ◌&&◌, if◌then◌else◌, length, map, reverse, Contains, slice_index_or}
+use Rattle.std.specs.Prelude.{ℕ, ◌+◌, ◌*◌, ◌<◌, pos, Bool, List, [], ◌∷◌, ◌++◌, ◌==◌, ◌&&◌, if◌then◌else◌, length, map, reverse, Contains, slice_index_or}
 use Rattle.std.specs.List.{flat_map, position_or_len}
-use Rattle.fraction_theory.specs.Fraction.{Fraction, whole, neg_ℚ, ◌+ℚ◌, ◌-ℚ◌, ◌*ℚ◌}
+use Rattle.fraction_theory.specs.Fraction.{Fraction, whole, neg_ℚ, ◌+ℚ◌, ◌*ℚ◌}
 use Rattle.fraction_theory.specs.Order.{◌≤ℚ◌}
 use Rattle.fraction_theory.specs.Signs.{abs_ℚ, sign_of}
-use Rattle.fraction_theory.specs.Sums.{sum_by}
-use Rattle.fraction_theory.specs.declared.Sign.{Sign}
-use Rattle.fraction_theory.specs.declared.Sign.TheVariants.{Below, Zero, Above}
 use Rattle.linear_system.specs.Systems.{System}
 use Rattle.market_model.specs.declared.answered.Dual.{Dual}
 use Rattle.market_model.specs.declared.answered.Duals.{Duals}
@@ -25,19 +22,13 @@ use Rattle.market_model.specs.LimitRows.{flow, limit, most_flow, penalty, row_id
 use Rattle.market_model.specs.Optimality.{down_of, energy_worth, price, reserve_worth, room_price, up_of}
 use Rattle.market_model.specs.Overrun.{Within}
 use Rattle.market_model.specs.Reserves.{offer_places, offer_price, reserve, reserve_need, reserve_units, room, room_used}
+use Rattle.limit_screen.specs.Reaching.{are_same, is_below, is_zero}
 use Rattle.market_system.specs.MarketSystem.{at_unit, row_place}
+use Rattle.one_price.specs.FirstPrices.{sum_of_prices}
+use Rattle.price_system.specs.declared.variables.Variable.{Variable}
+use Rattle.price_system.specs.declared.variables.Variable.TheVariants.{Energy, Reserve, Up, Down, Room, Sum, Block, Offer}
 
 -- ---- variables
--- columns: the prices of energy, of reserve, of a limit's two sides, and of a unit's room; rows: what a MW of a block and of an offer is worth
-pub data Variable : Type 0 where
-  Energy : Variable
-  Reserve : Variable
-  Up : Row → Variable
-  Down : Row → Variable
-  Room : ℕ → Variable
-  Block : ℕ → Variable
-  Offer : ℕ → Variable
-
 -- The prices of all limits of the market, and of the rooms of all units that offer reserve. Bounds hold at 0 those that have to be 0, which a
 -- program may leave out.
 abbrev pub two_sides : Row → List Variable
@@ -47,7 +38,7 @@ abbrev pub prices : Parts → List Variable
 prices m = (Energy ∷ Reserve ∷ []) ++ (flat_map two_sides (rows m) ++ map Room (reserve_units m))
 
 abbrev pub worths : Parts → List Variable
-worths m = map Block (places (length m.blocks)) ++ map Offer (offer_places m)
+worths m = Sum ∷ (map Block (places (length m.blocks)) ++ map Offer (offer_places m))
 
 abbrev pub variables : Parts → List Variable
 variables m = prices m ++ worths m
@@ -66,8 +57,11 @@ down_name m r = up_name m r + 1
 abbrev pub room_name : Parts → ℕ → ℕ
 room_name m u = 2 + 2 * length (rows m) + room_place m u
 
+abbrev pub sum_name : Parts → ℕ
+sum_name m = 2 + 2 * length (rows m) + length (reserve_units m)
+
 abbrev pub block_name : Parts → ℕ → ℕ
-block_name m j = 2 + 2 * length (rows m) + length (reserve_units m) + j
+block_name m j = sum_name m + 1 + j
 
 abbrev pub offer_name : Parts → ℕ → ℕ
 offer_name m n = block_name m (length m.blocks) + n
@@ -79,6 +73,7 @@ name m Reserve = 1
 name m (Up r) = up_name m r
 name m (Down r) = down_name m r
 name m (Room u) = room_name m u
+name m Sum = sum_name m
 name m (Block j) = block_name m j
 name m (Offer n) = offer_name m n
 
@@ -100,6 +95,7 @@ energy_coefficient m u Reserve = zero
 energy_coefficient m u (Up r) = unit_factor m r u
 energy_coefficient m u (Down r) = neg_ℚ (unit_factor m r u)
 energy_coefficient m u (Room w) = at_unit u w (whole (pos 1))
+energy_coefficient m u Sum = zero
 energy_coefficient m u (Block j) = zero
 energy_coefficient m u (Offer n) = zero
 
@@ -109,18 +105,9 @@ reserve_coefficient u Reserve = neg_ℚ (whole (pos 1))
 reserve_coefficient u (Up r) = zero
 reserve_coefficient u (Down r) = zero
 reserve_coefficient u (Room w) = at_unit u w (whole (pos 1))
+reserve_coefficient u Sum = zero
 reserve_coefficient u (Block j) = zero
 reserve_coefficient u (Offer n) = zero
-
--- of a row and a column
-abbrev pub coefficient : Parts → Variable → Variable → Fraction
-coefficient m (Block j) v = energy_coefficient m (block_at m j).unit v
-coefficient m (Offer n) v = reserve_coefficient (offer_at m n).unit v
-coefficient m Energy v = zero
-coefficient m Reserve v = zero
-coefficient m (Up r) v = zero
-coefficient m (Down r) v = zero
-coefficient m (Room u) v = zero
 
 -- each column counts alike but energy's, so that the best points are those of the least sum of prices without energy's
 abbrev pub column_price : Variable → Fraction
@@ -129,34 +116,31 @@ column_price Reserve = whole (pos 1)
 column_price (Up r) = whole (pos 1)
 column_price (Down r) = whole (pos 1)
 column_price (Room u) = whole (pos 1)
+column_price Sum = zero
 column_price (Block j) = zero
 column_price (Offer n) = zero
 
+-- of a row and a column
+abbrev pub coefficient : Parts → Variable → Variable → Fraction
+coefficient m Sum v = column_price v
+coefficient m (Block j) v = energy_coefficient m (block_at m j).unit v
+coefficient m (Offer n) v = reserve_coefficient (offer_at m n).unit v
+coefficient m Energy v = zero
+coefficient m Reserve v = zero
+coefficient m (Up r) v = zero
+coefficient m (Down r) v = zero
+coefficient m (Room u) v = zero
+
 -- ---- bounds
--- the most that the prices of limits, of rooms and of reserve may be, and the greatest size of energy's
+-- The most that all prices but energy's may add up to, a size that the factor of no block's unit is above, and the greatest size of energy's price.
 pub record Caps : Type 0 where
   pub most : Fraction
+  pub factor : Fraction
   pub range : Fraction
 
--- whether a number is 0, two are the same, and one is below another
-abbrev pub is_zero : Sign → Bool
-is_zero Below = false
-is_zero Zero = true
-is_zero Above = false
-
+-- whether a number is 0
 abbrev pub is_nil : Fraction → Bool
 is_nil x = is_zero (sign_of x)
-
-abbrev pub are_same : Fraction → Fraction → Bool
-are_same x y = is_nil (x -ℚ y)
-
-abbrev pub is_negative : Sign → Bool
-is_negative Below = true
-is_negative Zero = false
-is_negative Above = false
-
-abbrev pub is_below : Fraction → Fraction → Bool
-is_below x y = is_negative (sign_of (x -ℚ y))
 
 -- The price of a side of a limit, where the flow towards it is f: at least 0, and at least the penalty where the flow exceeds the limit; at most 0
 -- where it is below the limit, at most the cap where it has just used up the excess, and else at most the penalty.
@@ -175,8 +159,8 @@ abbrev pub most_reserve_price : Parts → Dispatch → Caps → Fraction
 most_reserve_price m x c = if m.reserve.listed && are_same (reserve m x) (reserve_need m) then c.most else zero
 
 -- the most that a MW of a unit may be worth, up or down, at prices within the caps
-abbrev pub most_worth : Parts → Caps → ℕ → Fraction
-most_worth m c u = (c.range +ℚ c.most *ℚ sum_by (λ r. abs_ℚ (unit_factor m r u)) (rows m)) +ℚ c.most
+abbrev pub most_worth : Caps → Fraction
+most_worth c = c.range +ℚ c.most *ℚ (whole (pos 1) +ℚ c.factor)
 
 -- the least and the most that it may be at a block or an offer of a price: that, or the cap where it is free
 abbrev pub least_by : Bool → Fraction → Fraction → Fraction
@@ -200,8 +184,9 @@ low m x c Reserve = neg_ℚ (most_reserve_price m x c)
 low m x c (Up r) = neg_ℚ (most_price m c r (flow m x r))
 low m x c (Down r) = neg_ℚ (most_price m c r (neg_ℚ (flow m x r)))
 low m x c (Room u) = neg_ℚ (most_room_price m x c u)
+low m x c Sum = neg_ℚ c.most
 low m x c (Block j) =
-    least_worth (block_at m j).side (are_same (accepted x j) zero) (are_same (accepted x j) (quantity m j)) (price m j) (most_worth m c (block_at m j).unit)
+    least_worth (block_at m j).side (are_same (accepted x j) zero) (are_same (accepted x j) (quantity m j)) (price m j) (most_worth c)
 low m x c (Offer n) = least_worth Sell (are_same (reserved x n) zero) (are_same (reserved x n) (reserve_quantity m n)) (offer_price m n) c.most
 
 abbrev pub high : Parts → Dispatch → Caps → Variable → Fraction
@@ -210,8 +195,9 @@ high m x c Reserve = zero
 high m x c (Up r) = neg_ℚ (least_price m r (flow m x r))
 high m x c (Down r) = neg_ℚ (least_price m r (neg_ℚ (flow m x r)))
 high m x c (Room u) = zero
+high m x c Sum = zero
 high m x c (Block j) =
-    greatest_worth (block_at m j).side (are_same (accepted x j) zero) (are_same (accepted x j) (quantity m j)) (price m j) (most_worth m c (block_at m j).unit)
+    greatest_worth (block_at m j).side (are_same (accepted x j) zero) (are_same (accepted x j) (quantity m j)) (price m j) (most_worth c)
 high m x c (Offer n) = greatest_worth Sell (are_same (reserved x n) zero) (are_same (reserved x n) (reserve_quantity m n)) (offer_price m n) c.most
 
 -- ---- the system
@@ -250,15 +236,20 @@ value_of m d Reserve = neg_ℚ d.reserve
 value_of m d (Up r) = neg_ℚ (up_of m d r)
 value_of m d (Down r) = neg_ℚ (down_of m d r)
 value_of m d (Room u) = neg_ℚ (room_price m d u)
+value_of m d Sum = neg_ℚ (sum_of_prices m d)
 value_of m d (Block j) = energy_worth m d (block_at m j).unit
 value_of m d (Offer n) = reserve_worth m d (offer_at m n).unit
 
 abbrev pub point_of : Parts → Duals Fraction → ℕ → Fraction
 point_of m d w = value_of m d (variable_of m w)
 
+-- a size that the factor of no block's unit for a row of the market is above
+pub record IsFactorSize (m : Parts) (size : Fraction) : Type 0 where
+  pub sign : zero ≤ℚ size
+  pub most : (r : Row) (j : ℕ) → Contains (rows m) r → j < length m.blocks → abs_ℚ (unit_factor m r (block_at m j).unit) ≤ℚ size
+
 -- prices within the caps
 pub record KeepsCaps (m : Parts) (c : Caps) (d : Duals Fraction) : Type 0 where
+  pub factor : IsFactorSize m c.factor
   pub energy : Within c.range d.energy
-  pub reserve : d.reserve ≤ℚ c.most
-  pub limits : (r : Row) → Contains (rows m) r → (up_of m d r ≤ℚ c.most) × (down_of m d r ≤ℚ c.most)
-  pub rooms : (u : ℕ) → Contains (reserve_units m) u → room_price m d u ≤ℚ c.most
+  pub sum : sum_of_prices m d ≤ℚ c.most

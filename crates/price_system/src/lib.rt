@@ -2,3 +2,6 @@
 #![tactic(auto)]
 
 pub mod laws;
+mod variables;
+
+pub use variables::Variable;
