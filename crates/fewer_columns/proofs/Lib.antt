@@ -1,0 +1,2 @@
+mod FewerLemmas
+mod OrderLemmas
