@@ -114,6 +114,7 @@ pub fn start<N: Exact>(
 ) -> Result<Dict<N>, Stop<N>>
     requires { (x : Dispatch) × AreReached market.now x reached.now }
     ensures holds { (x : Dispatch) → AreReached market.now x reached.now → IfOk result (HoldsPrices market.now x) }
+    ensures others { IfOk result (λ dict. dict.others ≡ dict.columns) }
     ensures stops { (x : Dispatch) → AreReached market.now x reached.now → IfErr result (StopsBy N.value (IsEntriesRefusal market.now x N.bound)) }
 {
     let _lines = market.lines();
