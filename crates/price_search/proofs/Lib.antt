@@ -1,0 +1,11 @@
+mod BoundLists
+mod CapLemmas
+mod CapSums
+mod EnergyLemmas
+mod FactorLemmas
+mod FirstLemmas
+mod KeptLemmas
+mod PosedLemmas
+mod ReadingLemmas
+mod RowLemmas
+mod SettlingLemmas

@@ -1,0 +1,12 @@
+use Rattle.limit_screen.proofs.ReachLemmas.{not_less}
+use Rattle.price_search.proofs.BoundLists.{is_lower, not_lower}
+use Rattle.price_search.proofs.posing.is_less.Goals as goal
+
+pub returns-in-Less : goal.returns-in-Less
+returns-in-Less g c = is_lower (g.N.Exact.value c.args.left) (g.N.Exact.value c.args.right) c.in-Less.ensures
+
+pub returns-in-Equal : goal.returns-in-Equal
+returns-in-Equal g c =
+    let l = g.N.Exact.value c.args.left in
+    let r = g.N.Exact.value c.args.right in
+    not_lower l r (not_less c.order.result l r c.order.ensures c.in-Equal.is)

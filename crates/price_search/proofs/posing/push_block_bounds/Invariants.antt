@@ -1,0 +1,14 @@
+use Rattle.std.proofs.Common.{◌++◌, List, map}
+use Rattle.market_model.specs.Dispatch.{places}
+use Rattle.price_system.specs.declared.variables.Variable.{Variable}
+use Rattle.price_system.specs.declared.variables.Variable.TheVariants.{Block}
+use Rattle.price_search.specs.Points.{caps_at}
+use Rattle.price_search.specs.PriceBounds.{AreBounds, dispatch_at}
+use Rattle.price_search.proofs.posing.push_block_bounds.Given as goal
+
+abbrev pub invariant-loop-place : goal.invariant-loop-place
+invariant-loop-place g l =
+    let value = g.N.Exact.value in
+    let x = dispatch_at value l.fn.point in
+    let c = caps_at value l.fn.caps in
+    (vs : List Variable) → AreBounds value l.market x c vs l.initial.bounds → AreBounds value l.market x c (vs ++ map Block (places l.place)) l.bounds
