@@ -1,0 +1,2 @@
+pub mod PrintLawProofs
+pub mod PrintLemmas

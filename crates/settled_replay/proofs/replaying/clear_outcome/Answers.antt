@@ -1,0 +1,32 @@
+use Rattle.std.proofs.Common.{◌≡◌, subst, ◌∙◌}
+use Rattle.market_model.specs.declared.participants.Parts.{Parts}
+use Rattle.market_model.specs.Valued.{outcome_at}
+use Rattle.market_dict.specs.Takings.{limits_of}
+use Rattle.edit_replay.specs.declared.step_outcome.StepOutcome.TheVariants as reply
+use Rattle.edit_replay.proofs.KeptLemmas.{takes_at}
+use Rattle.settled_replay.specs.PrintedReplays.{PrintsClear}
+use Rattle.settled_replay.proofs.PrintLemmas.{kept_too, prints_at}
+use Rattle.settled_replay.proofs.replaying.clear_outcome.Goals as goal
+
+pub settled_outcome-requires-clause-right : goal.settled_outcome-requires-clause-right
+settled_outcome-requires-clause-right g c =
+    rw (c.market.ensures, c.clear.ensures.market) (g.N.Exact.bound, limits_of c.args.session.now.kept.taken.takings, c.in_ok-outcome.ensures.clear.right)
+
+pub returns-clause-reply : goal.returns-clause-reply
+returns-clause-reply g c =
+    let value = g.N.Exact.value in
+    let m = c.args.session.now.market in
+    let before = c.args.session.now.kept.taken.takings in
+    let after = c.clear.new.self.kept.taken.takings in
+    let o = c.in_ok-outcome.outcome in
+    let p = c.in_ok-settled_outcome.field-0 in
+    let same : c.market.result.now ≡ m = c.market.ensures ∙ c.clear.ensures.market in
+    let settled = c.in_ok-settled_outcome.ensures in (
+      reply.Clear (outcome_at value o),
+      (c.in_ok-outcome.ensures.clear, takes_at value m before after o c.in_ok-outcome.ensures.takings),
+      subst (λ (n : Parts). PrintsClear g.N.Exact.bound n (outcome_at value o) (outcome_at value p)) same
+          (prints_at value g.N.Exact.bound c.market.result.now o p settled.right settled.dispatch settled.settled),
+    )
+
+pub returns-clause-kept : goal.returns-clause-kept
+returns-clause-kept g c = kept_too c.in_ok-outcome.outcome c.in_ok-settled_outcome.field-0 c.clear.new.self.kept c.in_ok-settled_outcome.ensures.dispatch c.in_ok-outcome.ensures.kept
