@@ -1,4 +1,4 @@
-//! Tests of `price_search`: which of the duals that support a cleared dispatch are to be printed, first and after edits.
+//! Tests of `settled_replay`: which of the duals that support a cleared dispatch are to be printed, first and after edits.
 #![tactic(auto)]
 
 #[cfg(test)]

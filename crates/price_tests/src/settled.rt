@@ -2,16 +2,13 @@
 
 ghost use Rattle.std.specs.Prelude.{All, IfOk};
 ghost use Rattle.edit_table.specs.EditTable.{IsStep};
-ghost use Rattle.market_model.specs.Fitting.{FitsMarket};
-ghost use Rattle.market_model.specs.RightAnswers.{IsRight};
-ghost use Rattle.market_model.specs.Valued.{answer_at};
 
 use crate::markets::{Records, market_of};
 use edit_replay::{Session, StepOutcome, Steps, steps};
 use exact_fraction::Exact;
 use market_data::PRICE_ONE;
-use market_model::{Answer, Dual, Duals, Market, Memory, Outcome, RoomDual, RowId, Stop};
-use price_search::first_duals;
+use market_model::{Dual, Duals, Outcome, Price, RoomDual, RowId};
+use settled_replay::settled_replay;
 use std::alloc::Global;
 use std::cmp::Ordering;
 use std::fmt::Debug;
@@ -83,59 +80,41 @@ fn are_duals<N: Exact>(duals: &Duals<N>, wanted: &Wanted) -> bool {
         && are_rooms(duals.rooms.slice(), wanted.rooms, per)
 }
 
-/// The duals that are to be printed with an answer.
-fn settled<N: Exact>(
-    alloc: Global,
-    market: &Market,
-    answer: &Answer<N>,
-) -> Result<Duals<N>, Stop<N>>
-    requires fits { FitsMarket market.now answer.now }
-    requires right { IsRight market.now (answer_at N.value answer.now) }
-{
-    first_duals(
-        alloc,
-        market,
-        answer.dispatch.slice(),
-        answer.reserve.slice(),
-        &answer.duals,
-    )
-}
-
-/// Whether the duals that are to be printed of the next clear are these.
-fn clears_to<N: Exact + Debug>(
-    session: &mut Session<N>,
-    alloc: Global,
-    wanted: &Wanted,
-) -> Result<bool, Fail> {
-    match session.clear(alloc)? {
-        Outcome::Cleared(answer) => {
-            let duals = settled(alloc, session.market(), &answer)?;
-            Ok(are_duals(&duals, wanted))
-        }
-        Outcome::Infeasible(_) | Outcome::Range(_) => Ok(false),
+/// Whether the first bus, which is the reference, has the price of energy.
+fn is_at_reference<N: Exact>(prices: &[Price<N>], wanted: &Wanted) -> bool {
+    match prices.first() {
+        Some(price) => is(price.total, wanted.energy, wanted.per),
+        None => false,
     }
 }
 
-/// Whether each of some steps is done, and each clear among them comes to an answer.
-fn does<N: Exact>(session: &mut Session<N>, alloc: Global, steps: &Steps) -> Result<bool, Memory>
-    requires { All IsStep steps.now }
-{
-    let outcomes = session.replay(alloc, steps)?;
-    for outcome in outcomes.slice() {
+/// Whether each of some steps was done, and each clear among them came to an answer.
+fn are_done<N: Exact>(outcomes: &[StepOutcome<N>]) -> bool {
+    for outcome in outcomes {
         match outcome {
             StepOutcome::Accepted | StepOutcome::Clear(Outcome::Cleared(_)) => {}
-            _ => return Ok(false),
+            _ => return false,
         }
     }
-    Ok(true)
+    true
 }
 
-/// The steps of a row.
+/// Whether the last of some steps was a clear that came to an answer with these prices.
+fn ends_with<N: Exact>(outcomes: &[StepOutcome<N>], wanted: &Wanted) -> bool {
+    match outcomes.last() {
+        Some(StepOutcome::Clear(Outcome::Cleared(answer))) => {
+            are_duals(&answer.duals, wanted) && is_at_reference(answer.prices.slice(), wanted)
+        }
+        _ => false,
+    }
+}
+
+/// The steps of a row, and a clear behind them.
 fn steps_of(alloc: Global, row: &Row) -> Result<Steps, Fail>
     ensures { IfOk result (All IsStep) }
 {
     let Row { steps: records, .. } = *row;
-    let text = format!(in alloc; "op,target,side,block,value\n{records}")?;
+    let text = format!(in alloc; "op,target,side,block,value\n{records}clear,,,,\n")?;
     Ok(steps(alloc, text.as_bytes())?)
 }
 
@@ -143,8 +122,8 @@ fn steps_of(alloc: Global, row: &Row) -> Result<Steps, Fail>
 fn holds<N: Exact + Debug>(alloc: Global, row: &Row) -> Result<bool, Fail> {
     let steps = steps_of(alloc, row)?;
     let mut session: Session<N> = Session::new(market_of(alloc, &row.records)?);
-    let done = does(&mut session, alloc, &steps)?;
-    Ok(done && clears_to(&mut session, alloc, &row.wanted)?)
+    let outcomes = settled_replay(&mut session, alloc, &steps)?;
+    Ok(are_done(outcomes.slice()) && ends_with(outcomes.slice(), &row.wanted))
 }
 
 /// The first row that does not.
