@@ -118,12 +118,13 @@ fn steps_of(alloc: Global, row: &Row) -> Result<Steps, Fail>
     Ok(steps(alloc, text.as_bytes())?)
 }
 
-/// Whether a row comes to what is wanted.
+/// Whether a row comes to what is wanted, and no settling was refused.
 fn holds<N: Exact + Debug>(alloc: Global, row: &Row) -> Result<bool, Fail> {
     let steps = steps_of(alloc, row)?;
     let mut session: Session<N> = Session::new(market_of(alloc, &row.records)?);
-    let outcomes = settled_replay(&mut session, alloc, &steps)?;
-    Ok(are_done(outcomes.slice()) && ends_with(outcomes.slice(), &row.wanted))
+    let replay = settled_replay(&mut session, alloc, &steps)?;
+    let outcomes = replay.outcomes.slice();
+    Ok(!replay.is_passed && are_done(outcomes) && ends_with(outcomes, &row.wanted))
 }
 
 /// The first row that does not.

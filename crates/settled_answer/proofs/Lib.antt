@@ -1,1 +1,2 @@
 pub mod SettledLemmas
+pub mod SettledOutcomes

@@ -1,7 +1,7 @@
 -- Which answers are settled: those that have the first prices of their dispatch, or for which a number becomes too large where these are looked
--- for or settled.
+-- for or settled; and whether one did.
 -- Source: own.
-use Rattle.std.specs.Prelude.{◌≡◌, ℕ}
+use Rattle.std.specs.Prelude.{◌≡◌, ℕ, Option, None, Some}
 use Rattle.fraction_theory.specs.Fraction.{Fraction}
 use Rattle.exact_fraction.specs.declared.Passed.{Passed}
 use Rattle.limit_screen.specs.Flows.{IsFlowsRefusal}
@@ -13,9 +13,12 @@ use Rattle.market_model.specs.declared.participants.Parts.{Parts}
 use Rattle.market_model.specs.Optimality.{ArePricesOf}
 use Rattle.market_model.specs.RightAnswers.{dispatch_in}
 use Rattle.market_model.specs.SumTables.{IsRefusedInBusPrices}
+use Rattle.market_model.specs.Valued.{answer_at, duals_at, outcome_at, passed_at}
 use Rattle.one_price.specs.FirstPrices.{AreFirstDuals}
 use Rattle.price_search.specs.Settling.{IsPriceRefusal}
 use Rattle.settlement.specs.Refusals.{IsMoneyRefusal}
+use Rattle.settled_answer.specs.declared.settling.SettledAnswer.{SettledAnswer}
+use Rattle.settled_answer.specs.declared.settling.SettledOutcome.{SettledOutcome}
 
 -- an operation refused on the way from an answer to the settled one: where the first duals of its dispatch are looked for, from its own, in
 -- the bus prices that the first ones make, in the flows of the dispatch, or in its settlement at those prices
@@ -27,21 +30,46 @@ pub data IsSettlingRefusal (bound : ℕ) (m : Parts) (a : Answer Fraction) (p : 
       → IsMoneyRefusal m (dispatch_in a) price d bound p → IsSettlingRefusal bound m a p
 
 -- an answer has the first duals of its dispatch, or where numbers of a type with this bound became too large on the way to them, others
-pub data IsSettled (bound : ℕ) (m : Parts) (a : Answer Fraction) : Type 0 where
-  first : AreFirstDuals m (dispatch_in a) a.duals → IsSettled bound m a
-  refused : (p : Passed Fraction) → IsSettlingRefusal bound m a p → IsSettled bound m a
+pub data IsSettledAnswer (bound : ℕ) (m : Parts) (a : Answer Fraction) : Type 0 where
+  first : AreFirstDuals m (dispatch_in a) a.duals → IsSettledAnswer bound m a
+  refused : (p : Passed Fraction) → IsSettlingRefusal bound m a p → IsSettledAnswer bound m a
 
 -- an answer in an outcome is
 abbrev pub IsSettledOutcome : ℕ → Parts → Outcome Fraction → Type 0
-IsSettledOutcome bound m (outcome.Cleared a) = IsSettled bound m a
+IsSettledOutcome bound m (outcome.Cleared a) = IsSettledAnswer bound m a
 IsSettledOutcome bound m (outcome.Infeasible f) = Unit {0}
 IsSettledOutcome bound m (outcome.Range p) = Unit {0}
 
--- an outcome is an answer that has the first duals of its dispatch
+-- an answer in an outcome has the first duals of its dispatch
 abbrev pub HasFirstPrices : Parts → Outcome Fraction → Type 0
 HasFirstPrices m (outcome.Cleared a) = AreFirstDuals m (dispatch_in a) a.duals
-HasFirstPrices m (outcome.Infeasible f) = ⊥
-HasFirstPrices m (outcome.Range p) = ⊥
+HasFirstPrices m (outcome.Infeasible f) = Unit {0}
+HasFirstPrices m (outcome.Range p) = Unit {0}
+
+-- an outcome is an answer, and the operation refused on the way from it to the settled one
+abbrev pub IsOutcomeRefusal : ℕ → Parts → Outcome Fraction → Passed Fraction → Type 0
+IsOutcomeRefusal bound m (outcome.Cleared a) p = IsSettlingRefusal bound m a p
+IsOutcomeRefusal bound m (outcome.Infeasible f) p = ⊥
+IsOutcomeRefusal bound m (outcome.Range q) p = ⊥
+
+-- ---- what settling comes to
+-- an answer and the one made of it: with no operation that passed, the first duals of its dispatch, and with one the same answer, and that
+-- operation is refused on the way from it
+abbrev pub SettlesAnswer : {N : Type 0} → (N → Fraction) → ℕ → Parts → Answer N → Answer N → Option (Passed N) → Type 0
+SettlesAnswer value bound m before after None = AreFirstDuals m (dispatch_in (answer_at value after)) (duals_at value after.duals)
+SettlesAnswer value bound m before after (Some p) = (after ≡ before) × IsSettlingRefusal bound m (answer_at value before) (passed_at value p)
+
+-- what an answer is settled to
+abbrev pub IsSettled : {N : Type 0} → (N → Fraction) → ℕ → Parts → Answer N → SettledAnswer N → Type 0
+IsSettled value bound m before s = SettlesAnswer value bound m before s.answer s.passed
+
+-- the same of an outcome: with no operation that passed, an answer in it has the first duals, and with one it is the same outcome
+abbrev pub SettlesTo : {N : Type 0} → (N → Fraction) → ℕ → Parts → Outcome N → Outcome N → Option (Passed N) → Type 0
+SettlesTo value bound m before after None = HasFirstPrices m (outcome_at value after)
+SettlesTo value bound m before after (Some p) = (after ≡ before) × IsOutcomeRefusal bound m (outcome_at value before) (passed_at value p)
+
+abbrev pub SettlesOutcome : {N : Type 0} → (N → Fraction) → ℕ → Parts → Outcome N → SettledOutcome N → Type 0
+SettlesOutcome value bound m before s = SettlesTo value bound m before s.outcome s.passed
 
 -- ---- what settling leaves as it is
 -- the second of two answers has the dispatch and the welfare of the first

@@ -6,4 +6,4 @@ pub mod laws;
 mod repricing;
 mod settling;
 
-pub use settling::{settled, settled_outcome};
+pub use settling::{SettledAnswer, SettledOutcome, settled, settled_outcome};

@@ -1,44 +1,64 @@
 //! The answer and the outcome that are to be printed.
 
-ghost use Rattle.std.specs.Prelude.{◌≡◌, ◌⊎◌, ℕ, List, IfOk};
+ghost use Rattle.std.specs.Prelude.{ℕ, List, IfOk};
 ghost use Rattle.market_model.specs.declared.limits.Row.{Row};
 ghost use Rattle.market_model.specs.Fitting.{FitsMarket, FitsOutcome};
-ghost use Rattle.market_model.specs.RightAnswers.{IsRight, dispatch_in};
-ghost use Rattle.market_model.specs.Valued.{answer_at, duals_at, outcome_at};
+ghost use Rattle.market_model.specs.RightAnswers.{IsRight};
+ghost use Rattle.market_model.specs.Valued.{answer_at, outcome_at};
 ghost use Rattle.market_system.specs.Outcomes.{IsRightOutcome};
-ghost use Rattle.one_price.specs.FirstPrices.{AreFirstDuals};
-ghost use Rattle.settled_answer.specs.Settled.{HasFirstPrices, IsSettled, IsSettledOutcome, KeepsDispatch, KeepsOutcome};
+ghost use Rattle.settled_answer.specs.Settled.{IsSettled, KeepsDispatch, KeepsOutcome, SettlesOutcome};
 
 use crate::repricing::repriced;
-use exact_fraction::Exact;
+use exact_fraction::{Exact, Passed};
 use market_model::{Answer, Market, Memory, Outcome, Stop};
 use std::alloc::Global;
 
+/// The answer that is to be printed, and the operation whose outcome passed the bound on the way to the first prices, where one did; then the
+/// answer is the one that was handed in.
+#[derive(Drop)]
+pub struct SettledAnswer<N> {
+    pub answer: Answer<N>,
+    pub passed: Option<Passed<N>>,
+}
+
+/// The outcome that is to be printed, and the operation whose outcome passed the bound on the way to the first prices of an answer, where one
+/// did; then the outcome is the one that was handed in.
+#[derive(Drop)]
+pub struct SettledOutcome<N> {
+    pub outcome: Outcome<N>,
+    pub passed: Option<Passed<N>>,
+}
+
 /// Of a right answer that which is to be printed: the same dispatch with its first prices, and with the bus prices and the settlement that
-/// these make. Where a number passes the bound of its type on the way, the answer as it was.
+/// these make. Where a number passes the bound of its type on the way, the answer as it was, with the operation that did.
 pub fn settled<N: Exact>(
     alloc: Global,
     market: &Market,
     answer: Answer<N>,
-) -> Result<Answer<N>, Memory>
+) -> Result<SettledAnswer<N>, Memory>
     requires right { IsRight market.now (answer_at N.value answer) }
     requires fits { FitsMarket market.now answer }
-    ensures fits { IfOk result (FitsMarket market.now) }
-    ensures right { IfOk result (λ settled. IsRight market.now (answer_at N.value settled)) }
-    ensures dispatch { IfOk result (KeepsDispatch answer) }
-    ensures settled { IfOk result (λ settled. IsSettled N.bound market.now (answer_at N.value settled)) }
-    ensures kept { IfOk result (λ settled. AreFirstDuals market.now (dispatch_in (answer_at N.value settled)) (duals_at N.value settled.duals) ⊎ (settled ≡ answer)) }
+    ensures fits { IfOk result (λ settled. FitsMarket market.now settled.answer) }
+    ensures right { IfOk result (λ settled. IsRight market.now (answer_at N.value settled.answer)) }
+    ensures dispatch { IfOk result (λ settled. KeepsDispatch answer settled.answer) }
+    ensures settled { IfOk result (IsSettled N.value N.bound market.now answer) }
 {
     match repriced(alloc, market, &answer) {
-        Ok(made) => Ok(Answer {
-            dispatch: answer.dispatch,
-            reserve: answer.reserve,
-            duals: made.duals,
-            prices: made.prices,
-            welfare: answer.welfare,
-            money: made.money,
+        Ok(made) => Ok(SettledAnswer {
+            answer: Answer {
+                dispatch: answer.dispatch,
+                reserve: answer.reserve,
+                duals: made.duals,
+                prices: made.prices,
+                welfare: answer.welfare,
+                money: made.money,
+            },
+            passed: None,
         }),
-        Err(Stop::Passed(_)) => Ok(answer),
+        Err(Stop::Passed(passed)) => Ok(SettledAnswer {
+            answer,
+            passed: Some(passed),
+        }),
         Err(Stop::Memory) => Err(Memory),
     }
 }
@@ -48,18 +68,29 @@ pub fn settled_outcome<N: Exact>(
     alloc: Global,
     market: &Market,
     outcome: Outcome<N>,
-) -> Result<Outcome<N>, Memory>
+) -> Result<SettledOutcome<N>, Memory>
     requires right { (bound : ℕ) × (taken : List Row) × IsRightOutcome bound market.now taken (outcome_at N.value outcome) }
     requires fits { FitsOutcome market.now outcome }
-    ensures fits { IfOk result (FitsOutcome market.now) }
-    ensures right { (bound : ℕ) (taken : List Row) → IsRightOutcome bound market.now taken (outcome_at N.value outcome) → IfOk result (λ settled. IsRightOutcome bound market.now taken (outcome_at N.value settled)) }
-    ensures dispatch { IfOk result (KeepsOutcome outcome) }
-    ensures settled { IfOk result (λ settled. IsSettledOutcome N.bound market.now (outcome_at N.value settled)) }
-    ensures kept { IfOk result (λ settled. HasFirstPrices market.now (outcome_at N.value settled) ⊎ (settled ≡ outcome)) }
+    ensures fits { IfOk result (λ settled. FitsOutcome market.now settled.outcome) }
+    ensures right { (bound : ℕ) (taken : List Row) → IsRightOutcome bound market.now taken (outcome_at N.value outcome) → IfOk result (λ settled. IsRightOutcome bound market.now taken (outcome_at N.value settled.outcome)) }
+    ensures dispatch { IfOk result (λ settled. KeepsOutcome outcome settled.outcome) }
+    ensures settled { IfOk result (SettlesOutcome N.value N.bound market.now outcome) }
 {
     match outcome {
-        Outcome::Cleared(answer) => Ok(Outcome::Cleared(settled(alloc, market, answer)?)),
-        Outcome::Infeasible(farkas) => Ok(Outcome::Infeasible(farkas)),
-        Outcome::Range(passed) => Ok(Outcome::Range(passed)),
+        Outcome::Cleared(answer) => {
+            let made = settled(alloc, market, answer)?;
+            Ok(SettledOutcome {
+                outcome: Outcome::Cleared(made.answer),
+                passed: made.passed,
+            })
+        }
+        Outcome::Infeasible(farkas) => Ok(SettledOutcome {
+            outcome: Outcome::Infeasible(farkas),
+            passed: None,
+        }),
+        Outcome::Range(passed) => Ok(SettledOutcome {
+            outcome: Outcome::Range(passed),
+            passed: None,
+        }),
     }
 }

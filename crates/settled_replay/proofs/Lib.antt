@@ -1,2 +1,3 @@
 pub mod PrintLawProofs
 pub mod PrintLemmas
+pub mod RefusalLemmas

@@ -68,7 +68,7 @@ printed_last bound m (y ∷ steps) s [] printed o p none is = absurd none
 printed_last bound m (y ∷ steps) s (x ∷ inner) [] o p none is = absurd none
 printed_last bound m (y ∷ steps) s (x ∷ inner) (q ∷ printed) o p are is = (are.0, printed_last bound (stepped m y) steps s inner printed o p are.1 is)
 
-printed_count : (bound : ℕ) (m : Parts) (steps : List Step) (inner printed : List (StepOutcome Fraction)) → ArePrinted bound m steps inner printed → length printed ≡ length steps
+pub printed_count : (bound : ℕ) (m : Parts) (steps : List Step) (inner printed : List (StepOutcome Fraction)) → ArePrinted bound m steps inner printed → length printed ≡ length steps
 printed_count bound m [] [] [] are = refl
 printed_count bound m [] [] (p ∷ printed) none = absurd none
 printed_count bound m [] (o ∷ inner) printed none = absurd none

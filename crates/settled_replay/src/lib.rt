@@ -4,4 +4,4 @@
 pub mod laws;
 mod replaying;
 
-pub use replaying::settled_replay;
+pub use replaying::{SettledReplay, settled_replay};
