@@ -55,7 +55,7 @@ apart_down p a b size h k =
     by_le2 (p ∷ a ∷ b ∷ size ∷ []) ((at 0 ⊕ pneg (at 3 ⊕ at 3)) ⊕ at 2) (at 0 ⊕ at 1) pone (pneg (at 3)) (at 1) pone (at 2) (at 3) NonNeg-one h.above NonNeg-one k.below refl
 
 -- ---- caps by duals
-module _ (m : Parts) (x : Dispatch) (e f : Duals Fraction) (c : Caps) (market : IsMarket m) (holds : Supports m x e) (caps : AreCapsBy m e c)
+module _ (m : Parts) (x : Dispatch) (e f : Duals Fraction) (c : Caps) (market : IsMarket m) (holds : Supports m x e) (caps : AreCapsBy m x e c)
     (fits : Supports m x f) (less : sum_of_prices m f ≤ℚ sum_of_prices m e) where
   abbrev size : Fraction
   size = share c.most c.factor

@@ -103,7 +103,7 @@ module _ (m : Parts) (x : Dispatch) (e : Duals Fraction) (c : Caps) (v : ℕ →
   supported = law_of_points m x c v market first.best.meets first.best.within
 
   -- the point of duals within the caps with the same sum is a best one
-  module _ (g : Duals Fraction) (g_is : ProperDuals m g) (fits : Supports m x g) (keeps : KeepsCaps m c g) (same : sum_of_prices m g ≡ sum_of_prices m d) where
+  module _ (g : Duals Fraction) (g_is : ProperDuals m g) (fits : Supports m x g) (keeps : KeepsCaps m x c g) (same : sum_of_prices m g ≡ sum_of_prices m d) where
     of_g : IsPointOf m x c g (point_of m g)
     of_g = law_of_duals m x c g market g_is fits keeps
 

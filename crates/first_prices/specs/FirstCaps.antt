@@ -18,8 +18,8 @@ share most factor = most *ℚ (whole (pos 1) +ℚ factor)
 
 -- Caps from duals that support the dispatch: the sum of their prices, and beyond their price of energy what two sets of prices of at most that sum
 -- make of a MW.
-pub record AreCapsBy (m : Parts) (e : Duals Fraction) (c : Caps) : Type 0 where
-  pub factors : IsFactorSize m c.factor
+pub record AreCapsBy (m : Parts) (x : Dispatch) (e : Duals Fraction) (c : Caps) : Type 0 where
+  pub factors : IsFactorSize m x c.factor
   pub sums : sum_of_prices m e ≤ℚ c.most
   pub range : (abs_ℚ e.energy +ℚ (share c.most c.factor +ℚ share c.most c.factor)) ≤ℚ c.range
 
@@ -27,7 +27,7 @@ pub record AreCapsBy (m : Parts) (e : Duals Fraction) (c : Caps) : Type 0 where
 -- at a price of energy within the caps these duals support the dispatch
 pub record FitsAt (m : Parts) (x : Dispatch) (c : Caps) (f : Duals Fraction) (p : Fraction) : Type 0 where
   pub supported : Supports m x (with_energy f p)
-  pub keeps : KeepsCaps m c (with_energy f p)
+  pub keeps : KeepsCaps m x c (with_energy f p)
 
 -- and so do all that support it with a sum of prices of at most that of e, each at some price
 abbrev pub LoseNothing : Parts → Dispatch → Duals Fraction → Caps → Type 0

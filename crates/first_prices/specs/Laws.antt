@@ -14,7 +14,7 @@ use Rattle.first_prices.specs.FirstCaps.{AreCapsBy, HasFirstPrices, LoseNothing}
 
 -- caps by duals lose nothing
 abbrev pub LawOfCaps : Type 0
-LawOfCaps = (m : Parts) (x : Dispatch) (e : Duals Fraction) (c : Caps) → IsMarket m → Supports m x e → AreCapsBy m e c → LoseNothing m x e c
+LawOfCaps = (m : Parts) (x : Dispatch) (e : Duals Fraction) (c : Caps) → IsMarket m → Supports m x e → AreCapsBy m x e c → LoseNothing m x e c
 
 -- for caps that lose nothing of proper duals that support the dispatch, the first best point has the first prices
 abbrev pub LawOfFirstPoints : Type 0
@@ -23,5 +23,5 @@ LawOfFirstPoints = (m : Parts) (x : Dispatch) (e : Duals Fraction) (c : Caps) (v
 
 -- so with the price of energy that blocks tell they are the duals that are printed
 abbrev pub LawOfFirstDuals : Type 0
-LawOfFirstDuals = (m : Parts) (x : Dispatch) (e : Duals Fraction) (c : Caps) (v : ℕ → Fraction) (p : Fraction) → IsMarket m → ProperDuals m e → Supports m x e → AreCapsBy m e c
+LawOfFirstDuals = (m : Parts) (x : Dispatch) (e : Duals Fraction) (c : Caps) (v : ℕ → Fraction) (p : Fraction) → IsMarket m → ProperDuals m e → Supports m x e → AreCapsBy m x e c
     → IsFirstBest (price_system m x c) (price_order m) v → IsEnergyByMargins m x (duals_of m v) p → AreFirstDuals m x (with_energy (duals_of m v) p)

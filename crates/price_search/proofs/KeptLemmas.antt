@@ -1,15 +1,12 @@
 -- Which columns of the system of prices are kept, and that the others have to be 0.
-use Rattle.std.specs.Prelude.{◌≡◌, ℕ, Bool, true, false, cond, if◌then◌else◌, List, [], ◌∷◌, ◌++◌, filter, map, not, Contains, refl}
+use Rattle.std.specs.Prelude.{◌≡◌, ℕ, Bool, true, false, cond, if◌then◌else◌, List, [], ◌∷◌, ◌++◌, filter, map, Contains, refl}
 use Rattle.std.specs.List.{flat_map}
 use Rattle.std.proofs.Common.{ap, ap₂, sym, ◌∙◌, subst, inl, inr}
 use Rattle.std.proofs.lemmas.List.Elements.{Contains-append_cases, Contains-append_left, Contains-append_right, filter-append}
 use Rattle.fraction_theory.specs.Fraction.{Fraction, neg_ℚ}
-use Rattle.fraction_theory.specs.Order.{◌<ℚ◌, ◌≤ℚ◌}
-use Rattle.fraction_theory.specs.Signs.{abs_ℚ}
+use Rattle.fraction_theory.specs.Order.{◌<ℚ◌}
 use Rattle.fraction_theory.proofs.ListSums.{Contains-cons, Contains-filter, Contains-from_filter, Contains-head}
-use Rattle.fraction_theory.proofs.OrderLaws.{<ℚ-not-≤ℚ, <ℚ-≤ℚ, NonNeg-one, by_le1, ≤ℚ-<ℚ_trans, ≤ℚ_of_same, ≤ℚ_total, ≤ℚ_trans}
-use Rattle.fraction_theory.proofs.Ring.{at, pneg, pnil, pone}
-use Rattle.fraction_theory.proofs.SignLaws.{abs_above, abs_below, abs_opposite}
+use Rattle.fraction_theory.proofs.OrderLaws.{<ℚ-not-≤ℚ, <ℚ-≤ℚ}
 use Rattle.linear_dict.proofs.NameLemmas.{among-not, among-tells}
 use Rattle.limit_rows.proofs.ApartLemmas.{names_apart}
 use Rattle.limit_screen.specs.Reaching.{are_same, reaches, uses_up}
@@ -27,13 +24,14 @@ use Rattle.fewer_columns.specs.Fewer.{MayLeave, fewer}
 use Rattle.price_system.specs.PriceSystem.{Caps, high, least_price, low, most_price, name, price_system, prices, two_sides, variable_of, worths}
 use Rattle.price_system.specs.declared.variables.Variable.{Variable}
 use Rattle.price_system.specs.declared.variables.Variable.TheVariants.{Energy, Reserve, Up, Down, Room, Sum, Block, Offer}
+use Rattle.price_system.proofs.BoundLemmas.{flow_below, opposite_below}
 use Rattle.price_system.proofs.NameLemmas.{IsVariable, variable_at, variable_is}
 use Rattle.price_system.proofs.SizeLemmas.{opposite_nil}
 use Rattle.price_system.proofs.SystemLemmas.{is_system}
 use Rattle.price_system.proofs.WorthLemmas.{high-at, low-at}
 use Rattle.price_dict.specs.Reached.{columns_put, is_kept, reached_system}
 
--- ---- plain lists and sizes
+-- ---- plain lists
 filter-mapped : {X : Type 0} (f : X → ℕ) (p : ℕ → Bool) (q : X → Bool) (xs : List X) → ((x : X) → Contains xs x → p (f x) ≡ q x) → filter p (map f xs) ≡ map f (filter q xs)
 filter-mapped f p q [] same = refl
 filter-mapped f p q (x ∷ xs) same =
@@ -44,23 +42,7 @@ filter-mapped f p q (x ∷ xs) same =
     by true = refl
     by false = refl
 
-pub at_most_size : (f : Fraction) → f ≤ℚ abs_ℚ f
-at_most_size f = elim (≤ℚ_total zero f) [
-  | inl h ↦ ≤ℚ_of_same f (abs_ℚ f) (sym (abs_above f h))
-  | inr h ↦ subst (λ t. f ≤ℚ t) (sym (abs_below f h))
-      (≤ℚ_trans f zero (neg_ℚ f) h (by_le1 (f ∷ []) pnil (pneg (at 0)) pone (at 0) pnil NonNeg-one h refl))
-]
-
-pub opposite_at_most : (f : Fraction) → neg_ℚ f ≤ℚ abs_ℚ f
-opposite_at_most f = subst (λ t. neg_ℚ f ≤ℚ t) (abs_opposite f) (at_most_size (neg_ℚ f))
-
--- ---- a flow that does not reach its limit
-below_limit : (f l : Fraction) → reaches f l ≡ false → abs_ℚ f <ℚ l
-below_limit f l e = elim (below_tells (abs_ℚ f) l) [
-  | inl t ↦ t.1
-  | inr t ↦ let wrong : true ≡ false = sym (ap not t.0) ∙ e in absurd cc
-]
-
+-- ---- a flow below its limit
 module _ (m : Parts) (c : Caps) (r : Row) (f : Fraction) (less : f <ℚ limit m r) where
   most_nil : most_price m c r f ≡ zero
   most_nil = elim (below_tells f (limit m r)) [
@@ -121,10 +103,9 @@ module _ (m : Parts) (x : Dispatch) where
   low_nil c Energy e = absurd cc
   low_nil c Reserve e = absurd cc
   low_nil c (Up r) e =
-      ap neg_ℚ (most_nil m c r (flow m x r) (≤ℚ-<ℚ_trans (flow m x r) (abs_ℚ (flow m x r)) (limit m r) (at_most_size (flow m x r)) (below_limit (flow m x r) (limit m r) e))) ∙ opposite_nil
+      ap neg_ℚ (most_nil m c r (flow m x r) (flow_below (flow m x r) (limit m r) e)) ∙ opposite_nil
   low_nil c (Down r) e =
-      ap neg_ℚ (most_nil m c r (neg_ℚ (flow m x r)) (≤ℚ-<ℚ_trans (neg_ℚ (flow m x r)) (abs_ℚ (flow m x r)) (limit m r) (opposite_at_most (flow m x r)) (below_limit (flow m x r) (limit m r) e)))
-      ∙ opposite_nil
+      ap neg_ℚ (most_nil m c r (neg_ℚ (flow m x r)) (opposite_below (flow m x r) (limit m r) e)) ∙ opposite_nil
   low_nil c (Room u) e = ap (λ (b : Bool). neg_ℚ (if b then c.most else zero)) e ∙ opposite_nil
   low_nil c Sum e = absurd cc
   low_nil c (Block j) e = absurd cc
@@ -134,10 +115,9 @@ module _ (m : Parts) (x : Dispatch) where
   high_nil c Energy e = absurd cc
   high_nil c Reserve e = absurd cc
   high_nil c (Up r) e =
-      ap neg_ℚ (least_nil m c r (flow m x r) (≤ℚ-<ℚ_trans (flow m x r) (abs_ℚ (flow m x r)) (limit m r) (at_most_size (flow m x r)) (below_limit (flow m x r) (limit m r) e))) ∙ opposite_nil
+      ap neg_ℚ (least_nil m c r (flow m x r) (flow_below (flow m x r) (limit m r) e)) ∙ opposite_nil
   high_nil c (Down r) e =
-      ap neg_ℚ (least_nil m c r (neg_ℚ (flow m x r)) (≤ℚ-<ℚ_trans (neg_ℚ (flow m x r)) (abs_ℚ (flow m x r)) (limit m r) (opposite_at_most (flow m x r)) (below_limit (flow m x r) (limit m r) e)))
-      ∙ opposite_nil
+      ap neg_ℚ (least_nil m c r (neg_ℚ (flow m x r)) (opposite_below (flow m x r) (limit m r) e)) ∙ opposite_nil
   high_nil c (Room u) e = refl
   high_nil c Sum e = absurd cc
   high_nil c (Block j) e = absurd cc

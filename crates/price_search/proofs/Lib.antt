@@ -2,10 +2,10 @@ mod BoundLists
 mod CapLemmas
 mod CapSums
 mod EnergyLemmas
-mod FactorLemmas
 mod FirstLemmas
 mod KeptLemmas
 mod PosedLemmas
 mod ReadingLemmas
 mod RowLemmas
 mod SettlingLemmas
+mod GreatestLemmas

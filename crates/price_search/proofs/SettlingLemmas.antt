@@ -44,7 +44,7 @@ use Rattle.price_system.proofs.CapLemmas.{most_least}
 use Rattle.price_system.proofs.DualLemmas.{agrees-made}
 use Rattle.price_system.proofs.NameLemmas.{block_at_place, block_listed, length-worths, worth_place}
 use Rattle.price_system.proofs.PointLaws.{block_worth}
-use Rattle.price_system.proofs.SizeLemmas.{first_most, nil_plus}
+use Rattle.price_system.proofs.SizeLemmas.{at_most_size, first_most, nil_plus, opposite_at_most}
 use Rattle.price_dict.specs.Holding.{HoldsPrices}
 use Rattle.price_dict.specs.Reached.{AreReached, columns_put, is_kept, is_reached, reached_rows, reached_system}
 use Rattle.price_search.specs.declared.point.PricePoint.{PricePoint}
@@ -54,7 +54,7 @@ use Rattle.price_search.specs.Points.{IsPointOf}
 use Rattle.price_search.specs.PriceBounds.{ArePriceBounds}
 use Rattle.price_search.specs.Searching.{AsksFirst, HoldsFirstPrices}
 use Rattle.price_search.specs.Settling.{HasCaps, IsPointRefusal, IsSupportedWithin, of_pair}
-use Rattle.price_search.proofs.KeptLemmas.{at_most_size, opposite_at_most, put_is_kept}
+use Rattle.price_search.proofs.KeptLemmas.{put_is_kept}
 
 -- ---- flows are the same whatever reserve is accepted beside
 module _ (m : Parts) (blocks reserve : List Fraction) where
@@ -88,7 +88,7 @@ nil_share most factor h k =
     by_le2 (most ∷ factor ∷ []) pnil (at 0 ⊗ (pone ⊕ at 1)) pone pnil (at 0) (at 0) pnil (at 1) NonNeg-one h (NonNeg_from most h) k refl
 
 -- the duals that they are by keep them
-pub by_keep : (m : Parts) (x : Dispatch) (e : Duals Fraction) (c : Caps) → IsMarket m → Supports m x e → AreCapsBy m e c → KeepsCaps m c e
+pub by_keep : (m : Parts) (x : Dispatch) (e : Duals Fraction) (c : Caps) → IsMarket m → Supports m x e → AreCapsBy m x e c → KeepsCaps m x c e
 by_keep m x e c market supported caps =
     let part : Fraction = share c.most c.factor in
     let sign = nil_share c.most c.factor (most_least m x e market supported c.most caps.sums) caps.factors.sign in

@@ -1,6 +1,6 @@
 -- The caps of prices, by duals that support the dispatch.
 -- Source: own.
-use Rattle.std.specs.Prelude.{◌≡◌, ℕ, ℤ, pos, ◌+ℤ◌, List, [], ◌∷◌, ◌++◌, map}
+use Rattle.std.specs.Prelude.{◌≡◌, ℕ, ℤ, pos, ◌+ℤ◌, List, [], ◌∷◌, ◌++◌, map, Contains, length, ◌<◌}
 use Rattle.std.specs.List.{flat_map}
 use Rattle.fraction_theory.specs.Fraction.{Fraction, whole, ◌+ℚ◌}
 use Rattle.fraction_theory.specs.Signs.{abs_ℚ}
@@ -14,13 +14,36 @@ use Rattle.market_model.specs.declared.answered.RoomDual.{RoomDual}
 use Rattle.market_model.specs.NamedSums.{IsRefusal, IsRefusedIn}
 use Rattle.first_prices.specs.FirstCaps.{share}
 use Rattle.price_system.specs.PriceSystem.{Caps}
+use Rattle.fraction_theory.specs.Order.{◌≤ℚ◌}
+use Rattle.market_model.specs.declared.limits.Row.{Row}
+use Rattle.market_model.specs.declared.participants.Parts.{Parts}
+use Rattle.market_model.specs.Dispatch.{Dispatch, block_at, zero}
+use Rattle.market_model.specs.LimitRows.{unit_factor}
+use Rattle.price_dict.specs.Reached.{reached_rows}
+use Rattle.price_dict.specs.Refusals.{IsEntriesRefusal}
 
 -- ---- factors
--- A size that the factor of no unit for a row of any market is above. It is at most 1000 for a row with no loss, or after the loss of another unit,
--- and at most 1000 + 1000 * 1000 after the loss of a branch. After the loss of the unit itself it is a sum over those that take its output, at most
--- 5000, of at most 1000 each. Ten million is above all of them.
-abbrev pub most_unit_factor : ℕ
-most_unit_factor = 10000000
+-- the greater of two numbers
+pub record IsGreater (a b greater : Fraction) : Type 0 where
+  pub left : a ≤ℚ greater
+  pub right : b ≤ℚ greater
+  pub least : (g : Fraction) → a ≤ℚ g → b ≤ℚ g → greater ≤ℚ g
+
+-- the size of the factor of a block's unit for a row
+abbrev pub factor_size : Parts → Row → ℕ → Fraction
+factor_size m r j = abs_ℚ (unit_factor m r (block_at m j).unit)
+
+-- the greatest of a number and the sizes of the factors of the units of so many blocks, from the first, for a row
+pub record IsGreatestWith (m : Parts) (r : Row) (count : ℕ) (x greatest : Fraction) : Type 0 where
+  pub number : x ≤ℚ greatest
+  pub each : (j : ℕ) → j < count → factor_size m r j ≤ℚ greatest
+  pub least : (g : Fraction) → x ≤ℚ g → ((j : ℕ) → j < count → factor_size m r j ≤ℚ g) → greatest ≤ℚ g
+
+-- the greatest size of a factor of a block's unit for these rows, and 0 where there is none
+pub record IsGreatestFactor (m : Parts) (rs : List Row) (greatest : Fraction) : Type 0 where
+  pub sign : zero ≤ℚ greatest
+  pub each : (r : Row) (j : ℕ) → Contains rs r → j < length m.blocks → factor_size m r j ≤ℚ greatest
+  pub least : (g : Fraction) → zero ≤ℚ g → ((r : Row) (j : ℕ) → Contains rs r → j < length m.blocks → factor_size m r j ≤ℚ g) → greatest ≤ℚ g
 
 -- ---- prices
 -- those of the limits that duals name, each up and then down, and those of rooms
@@ -44,23 +67,28 @@ pub data IsRoundedUp (x r : Fraction) : Type 0 where
 abbrev pub IsMost : Duals Fraction → Fraction → Type 0
 IsMost d most = IsRoundedUp (total (named_price_terms d)) most
 
--- ---- caps
--- what prices that add up to so much make of a MW
-abbrev pub unit_share : Fraction → Fraction
-unit_share most = share most (whole (pos most_unit_factor))
+-- that of factors for rows that are reached, which is rounded up too
+abbrev pub IsFactor : Parts → Dispatch → Fraction → Type 0
+IsFactor m x factor = (f : Fraction) × IsGreatestFactor m (reached_rows m x) f × IsRoundedUp f factor
 
--- Those that are taken for duals. Their sum and the size of their price of energy are rounded up to whole numbers where `floor` gives one.
-pub record ArePriceCaps (d : Duals Fraction) (c : Caps) : Type 0 where
+-- ---- caps
+-- Those that are taken for duals. Their sum, the greatest size of a factor, and the size of their price of energy are rounded up to whole numbers
+-- where `floor` gives one.
+pub record ArePriceCaps (m : Parts) (x : Dispatch) (d : Duals Fraction) (c : Caps) : Type 0 where
   pub most : IsMost d c.most
-  pub factor : c.factor ≡ whole (pos most_unit_factor)
+  pub factor : IsFactor m x c.factor
   pub energy : Fraction
   pub sized : IsRoundedUp (abs_ℚ d.energy) energy
-  pub range : c.range ≡ energy +ℚ (unit_share c.most +ℚ unit_share c.most)
+  pub range : c.range ≡ energy +ℚ (share c.most c.factor +ℚ share c.most c.factor)
 
 -- ---- refusals
--- an operation refused in the sum of prices, for what they make of a MW, for twice that, or where this is added to the size of the price of energy
-pub data IsCapsRefusal (d : Duals Fraction) (bound : ℕ) (p : Passed Fraction) : Type 0 where
-  of_sum : IsRefusedIn (named_price_terms d) bound p → IsCapsRefusal d bound p
-  of_share : (most : Fraction) → IsMost d most → IsRefusal Times most (whole (pos 1) +ℚ whole (pos most_unit_factor)) bound p → IsCapsRefusal d bound p
-  of_shares : (most : Fraction) → IsMost d most → IsRefusal Plus (unit_share most) (unit_share most) bound p → IsCapsRefusal d bound p
-  of_range : (most : Fraction) → IsMost d most → (energy : Fraction) → IsRoundedUp (abs_ℚ d.energy) energy → IsRefusal Plus energy (unit_share most +ℚ unit_share most) bound p → IsCapsRefusal d bound p
+-- An operation refused in the sum of prices, where a factor of a row that is reached is added up, for one more than the greatest, for what prices make
+-- of a MW, for twice that, or where this is added to the size of the price of energy.
+pub data IsCapsRefusal (m : Parts) (x : Dispatch) (d : Duals Fraction) (bound : ℕ) (p : Passed Fraction) : Type 0 where
+  of_sum : IsRefusedIn (named_price_terms d) bound p → IsCapsRefusal m x d bound p
+  of_factor : IsEntriesRefusal m x bound p → IsCapsRefusal m x d bound p
+  of_more : (factor : Fraction) → IsFactor m x factor → IsRefusal Plus (whole (pos 1)) factor bound p → IsCapsRefusal m x d bound p
+  of_share : (most factor : Fraction) → IsMost d most → IsFactor m x factor → IsRefusal Times most (whole (pos 1) +ℚ factor) bound p → IsCapsRefusal m x d bound p
+  of_shares : (most factor : Fraction) → IsMost d most → IsFactor m x factor → IsRefusal Plus (share most factor) (share most factor) bound p → IsCapsRefusal m x d bound p
+  of_range : (most factor energy : Fraction) → IsMost d most → IsFactor m x factor → IsRoundedUp (abs_ℚ d.energy) energy
+      → IsRefusal Plus energy (share most factor +ℚ share most factor) bound p → IsCapsRefusal m x d bound p

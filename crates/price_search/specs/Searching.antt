@@ -29,7 +29,7 @@ pub record AsksFirst {N : Type 0} (value : N → Fraction) (m : Parts) (x : Disp
   pub duals : Duals Fraction
   pub proper : ProperDuals m duals
   pub supported : Supports m x duals
-  pub within : KeepsCaps m c duals
+  pub within : KeepsCaps m x c duals
 
 -- it holds the system of prices, with a best point of it
 pub record HoldsBestPrices (m : Parts) (x : Dispatch) (c : Caps) (d : Dictionary) : Type 0 where

@@ -25,14 +25,14 @@ pub record IsSupportedWithin (m : Parts) (x : Dispatch) (c : Caps) : Type 0 wher
   pub duals : Duals Fraction
   pub proper : ProperDuals m duals
   pub supported : Supports m x duals
-  pub within : KeepsCaps m c duals
+  pub within : KeepsCaps m x c duals
 
 -- some proper duals support it of which the caps lose nothing
 pub record HasCaps (m : Parts) (x : Dispatch) (c : Caps) : Type 0 where
   pub duals : Duals Fraction
   pub proper : ProperDuals m duals
   pub supported : Supports m x duals
-  pub caps : AreCapsBy m duals c
+  pub caps : AreCapsBy m x duals c
 
 -- an operation refused where it is found what the dispatch reaches: in its flows, in the flow of a row, or in what a unit uses of its room
 pub data IsReachRefusal (m : Parts) (x : Dispatch) (bound : ℕ) (p : Passed Fraction) : Type 0 where
@@ -46,13 +46,13 @@ pub data IsPointRefusal (m : Parts) (x : Dispatch) (c : Caps) (bound : ℕ) (p :
   of_bounds : IsBoundsRefusal m x c bound p → IsPointRefusal m x c bound p
   of_pair : IsSystemPair (reached_system m x c) bound p.op p.left p.right → IsPointRefusal m x c bound p
 
--- on the way to the prices that are to be printed
+-- where by caps the prices that are to be printed are found
 pub data IsSearchRefusal (m : Parts) (x : Dispatch) (c : Caps) (bound : ℕ) (p : Passed Fraction) : Type 0 where
-  of_reach : IsReachRefusal m x bound p → IsSearchRefusal m x c bound p
   of_point : IsPointRefusal m x c bound p → IsSearchRefusal m x c bound p
   of_energy : (v : ℕ → Fraction) → IsFirstBest (price_system m x c) (price_order m) v → IsEnergyRefusal m x (duals_of m v) bound p → IsSearchRefusal m x c bound p
 
--- by caps that are made of duals which support the dispatch
+-- on the way to them: in what is reached, or in or by caps that are made of duals which support the dispatch
 pub data IsPriceRefusal (m : Parts) (x : Dispatch) (e : Duals Fraction) (bound : ℕ) (p : Passed Fraction) : Type 0 where
-  of_caps : IsCapsRefusal e bound p → IsPriceRefusal m x e bound p
-  of_search : (c : Caps) → ArePriceCaps e c → IsSearchRefusal m x c bound p → IsPriceRefusal m x e bound p
+  of_reach : IsReachRefusal m x bound p → IsPriceRefusal m x e bound p
+  of_caps : IsCapsRefusal m x e bound p → IsPriceRefusal m x e bound p
+  of_search : (c : Caps) → ArePriceCaps m x e c → IsSearchRefusal m x c bound p → IsPriceRefusal m x e bound p

@@ -1,22 +1,27 @@
 //! The caps of the prices that support a dispatch, by duals that support it.
 
-ghost use Rattle.std.specs.Prelude.{◌≡◌, ◌++◌, IfErr, IfOk, List, map};
+ghost use Rattle.std.specs.Prelude.{◌≡◌, ◌++◌, Contains, IfErr, IfOk, List, length, map};
 ghost use Rattle.fraction_theory.specs.Fraction.{Fraction};
 ghost use Rattle.fraction_theory.specs.Order.{◌≤ℚ◌};
 ghost use Rattle.fraction_theory.specs.Sums.{Term, total};
 ghost use Rattle.first_prices.specs.FirstCaps.{AreCapsBy};
+ghost use Rattle.market_model.specs.declared.limits.Row.{Row};
+ghost use Rattle.market_model.specs.Dispatch.{Dispatch};
+ghost use Rattle.market_model.specs.LimitRows.{rows};
 ghost use Rattle.market_model.specs.NamedSums.{IsRefusedIn};
 ghost use Rattle.market_model.specs.Optimality.{ProperDuals};
+ghost use Rattle.market_model.specs.SumTables.{FactorSum, IsRefusedAmong};
 ghost use Rattle.market_model.specs.Valued.{dual_at, duals_at, passed_at, room_dual_at};
-ghost use Rattle.price_search.specs.Caps.{ArePriceCaps, IsCapsRefusal, IsRoundedUp, limit_price_terms, named_price_terms, room_price_terms};
+ghost use Rattle.price_dict.specs.Reached.{AreReached};
+ghost use Rattle.price_search.specs.Caps.{ArePriceCaps, IsCapsRefusal, IsGreater, IsGreatestFactor, IsGreatestWith, IsRoundedUp, limit_price_terms, named_price_terms, room_price_terms};
 ghost use Rattle.price_search.specs.Points.{caps_at};
 
 use crate::point::PriceCaps;
 use exact_fraction::{Exact, Passed, exact_sum, size};
-use market_model::{Dual, Duals, Market, RoomDual, datum};
-
-/// A size that the factor of no unit for a row of any market is above.
-const MOST_UNIT_FACTOR: i64 = 10_000_000;
+use limit_rows::unit_factor;
+use market_model::{Dual, Duals, Market, RoomDual, Row, datum};
+use price_dict::Reached;
+use std::cmp::Ordering;
 
 /// What the prices of these limits add up to.
 fn sum_of_limits<N: Exact>(limits: &[Dual<N>]) -> Result<N, Passed<N>>
@@ -71,26 +76,70 @@ fn rounded_up<N: Exact>(number: N) -> N
     }
 }
 
-/// The caps of the prices that support a dispatch, by duals that support it: the sum of their prices, and beyond their price of energy twice what
-/// prices of that sum make of a MW. The sum and the size of the price of energy are rounded up to whole numbers where `floor` gives one, so that what
-/// is reckoned with them has fewer digits.
+/// The greater of two numbers.
+fn greater<N: Exact>(left: N, right: N) -> N
+    ensures { IsGreater (N.value left) (N.value right) (N.value result) }
+{
+    match left.order(right) {
+        Ordering::Less => right,
+        Ordering::Equal | Ordering::Greater => left,
+    }
+}
+
+/// The greatest of a number and the sizes of the factors of blocks' units for a row.
+fn greatest_with<N: Exact>(market: &Market, row: Row, number: N) -> Result<N, Passed<N>>
+    requires { Contains (rows market.now) row }
+    ensures greatest { IfOk result (λ greatest. IsGreatestWith market.now row (length market.now.blocks) (N.value number) (N.value greatest)) }
+    ensures stops { IfErr result (λ passed. IsRefusedAmong (FactorSum market.now row) N.bound (passed_at N.value passed)) }
+{
+    let _lines = market.lines();
+    let mut greatest = number;
+    for place in 0..market.blocks().len() {
+        let factor: N = unit_factor(market, row, market.blocks().at(place).unit)?;
+        greatest = greater(greatest, size(factor));
+    }
+    Ok(greatest)
+}
+
+/// The greatest size of a factor of a block's unit for these rows, and 0 where there is none.
+fn greatest_factor<N: Exact>(market: &Market, reached: &[Row]) -> Result<N, Passed<N>>
+    requires { (r : Row) → Contains reached.now r → Contains (rows market.now) r }
+    ensures greatest { IfOk result (λ greatest. IsGreatestFactor market.now reached.now (N.value greatest)) }
+    ensures stops { IfErr result (λ passed. (r : Row) × Contains reached.now r × IsRefusedAmong (FactorSum market.now r) N.bound (passed_at N.value passed)) }
+{
+    let mut greatest = datum(0);
+    for row in reached {
+        greatest = greatest_with(market, *row, greatest)?;
+    }
+    Ok(greatest)
+}
+
+/// The caps of the prices that support a dispatch, by duals that support it, where this is reached: the sum of their prices, the greatest size of a
+/// factor of a block's unit for a limit that is reached, and beyond their price of energy twice what prices of that sum make of a MW. The sum, the
+/// size of a factor and that of the price of energy are rounded up to whole numbers where `floor` gives one, so that what is reckoned with them has
+/// fewer digits.
 pub(crate) fn price_caps<N: Exact>(
     market: &Market,
+    reached: &Reached,
     duals: &Duals<N>,
 ) -> Result<PriceCaps<N>, Passed<N>>
-    ensures caps { ProperDuals market.now (duals_at N.value duals.now) → IfOk result (λ caps. AreCapsBy market.now (duals_at N.value duals.now) (caps_at N.value caps)) }
-    ensures told { IfOk result (λ caps. ArePriceCaps (duals_at N.value duals.now) (caps_at N.value caps)) }
-    ensures stops { IfErr result (λ passed. IsCapsRefusal (duals_at N.value duals.now) N.bound (passed_at N.value passed)) }
+    requires { (x : Dispatch) × AreReached market.now x reached.now }
+    ensures caps { (x : Dispatch) → AreReached market.now x reached.now → ProperDuals market.now (duals_at N.value duals.now) → IfOk result (λ caps. AreCapsBy market.now x (duals_at N.value duals.now) (caps_at N.value caps)) }
+    ensures told { (x : Dispatch) → AreReached market.now x reached.now → IfOk result (λ caps. ArePriceCaps market.now x (duals_at N.value duals.now) (caps_at N.value caps)) }
+    ensures stops { (x : Dispatch) → AreReached market.now x reached.now → IfErr result (λ passed. IsCapsRefusal market.now x (duals_at N.value duals.now) N.bound (passed_at N.value passed)) }
 {
     let _lines = market.lines();
     let most = rounded_up(sum_of_prices(duals)?);
-    let share = most.times(datum(1 + MOST_UNIT_FACTOR))?;
+    let greatest = greatest_factor(market, reached.rows.slice())?;
+    let factor = rounded_up(greatest);
+    let all = exact_sum(datum(1), factor)?;
+    let share = most.times(all)?;
     let shares = exact_sum(share, share)?;
     let energy = rounded_up(size(duals.energy));
     let range = exact_sum(energy, shares)?;
     Ok(PriceCaps {
         most,
-        factor: datum(MOST_UNIT_FACTOR),
+        factor,
         range,
     })
 }

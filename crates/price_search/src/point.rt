@@ -16,8 +16,8 @@ pub struct PricePoint<'a, N> {
     pub reached: &'a Reached,
 }
 
-/// The most that all prices but that of energy may add up to, a size that the factor of no block's unit is above, and the greatest size of the price
-/// of energy. Prices are in 10^-6 a MWh.
+/// The most that all prices but that of energy may add up to, a size that the factor of no block's unit is above for a limit that is reached, and the
+/// greatest size of the price of energy. Prices are in 10^-6 a MWh.
 #[derive(Clone, Copy, Debug)]
 pub struct PriceCaps<N> {
     pub most: N,

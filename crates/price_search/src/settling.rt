@@ -78,32 +78,21 @@ fn first_point_dict<N: Exact>(
     first_prices_dict(alloc, dict, posing.prices.slice(), posing.bounds.slice())
 }
 
-/// Of the duals that support a dispatch those that are to be printed, by caps that lose none of them.
-pub(crate) fn first_duals_within<N: Exact>(
+/// Of the duals that support the dispatch of a point those that are to be printed, by caps that lose none of them.
+fn first_duals_within<N: Exact>(
     alloc: Global,
     market: &Market,
-    accepted: &[N],
-    reserved: &[N],
+    point: PricePoint<'_, N>,
     caps: PriceCaps<N>,
 ) -> Result<Duals<N>, Stop<N>>
-    requires accepted { length accepted.now ≡ length market.now.blocks }
-    requires reserved { length reserved.now ≡ length market.now.reserve.offers }
-    requires caps { HasCaps market.now (dispatch_with (map N.value accepted.now) (map N.value reserved.now)) (caps_at N.value caps) }
-    ensures first { IfOk result (λ duals. AreFirstDuals market.now (dispatch_with (map N.value accepted.now) (map N.value reserved.now)) (duals_at N.value duals)) }
-    ensures stops { IfErr result (StopsBy N.value (IsSearchRefusal market.now (dispatch_with (map N.value accepted.now) (map N.value reserved.now)) (caps_at N.value caps) N.bound)) }
+    requires { (x : Dispatch) × IsPointOf N.value market.now x point × HasCaps market.now x (caps_at N.value caps) }
+    ensures first { (x : Dispatch) → IsPointOf N.value market.now x point.entry → HasCaps market.now x (caps_at N.value caps) → IfOk result (λ duals. AreFirstDuals market.now x (duals_at N.value duals)) }
+    ensures stops { (x : Dispatch) → IsPointOf N.value market.now x point.entry → IfErr result (StopsBy N.value (IsSearchRefusal market.now x (caps_at N.value caps) N.bound)) }
 {
     let _lines = market.lines();
-    let flows = flows_made(alloc, market, accepted)?;
-    let reached = reached_at(alloc, market, accepted, reserved, &flows)?;
-    let point = PricePoint {
-        accepted,
-        reserved,
-        flows: &flows,
-        reached: &reached,
-    };
     let dict = first_point_dict(alloc, market, point, caps)?;
-    let duals = duals_shown(alloc, market, &dict, &reached)?;
-    let energy = energy_price(market, accepted, &dict, duals.energy)?;
+    let duals = duals_shown(alloc, market, &dict, point.reached)?;
+    let energy = energy_price(market, point.accepted, &dict, duals.energy)?;
     Ok(Duals { energy, ..duals })
 }
 
@@ -125,6 +114,14 @@ pub fn first_duals<N: Exact>(
     ensures first { IfOk result (λ found. AreFirstDuals market.now (dispatch_with (map N.value accepted.now) (map N.value reserved.now)) (duals_at N.value found)) }
     ensures stops { IfErr result (StopsBy N.value (IsPriceRefusal market.now (dispatch_with (map N.value accepted.now) (map N.value reserved.now)) (duals_at N.value duals.now) N.bound)) }
 {
-    let caps = price_caps(market, duals)?;
-    first_duals_within(alloc, market, accepted, reserved, caps)
+    let flows = flows_made(alloc, market, accepted)?;
+    let reached = reached_at(alloc, market, accepted, reserved, &flows)?;
+    let point = PricePoint {
+        accepted,
+        reserved,
+        flows: &flows,
+        reached: &reached,
+    };
+    let caps = price_caps(market, &reached, duals)?;
+    first_duals_within(alloc, market, point, caps)
 }

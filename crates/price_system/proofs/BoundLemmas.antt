@@ -1,9 +1,9 @@
 -- What the bounds of the system of prices say: just what it takes that prices support the dispatch, within the caps.
-use Rattle.std.specs.Prelude.{◌≡◌, Bool, if◌then◌else◌}
-use Rattle.std.proofs.Common.{sym, subst, subst₂, inl, inr}
+use Rattle.std.specs.Prelude.{◌≡◌, Bool, if◌then◌else◌, not, true, false}
+use Rattle.std.proofs.Common.{sym, subst, subst₂, inl, inr, ap, ◌∙◌}
 use Rattle.fraction_theory.specs.Fraction.{Fraction, neg_ℚ}
 use Rattle.fraction_theory.specs.Order.{◌<ℚ◌, ◌≤ℚ◌}
-use Rattle.fraction_theory.proofs.OrderLaws.{<ℚ-not-≤ℚ, ≤ℚ-or-<ℚ, ≤ℚ_trans}
+use Rattle.fraction_theory.proofs.OrderLaws.{<ℚ-not-≤ℚ, ≤ℚ-or-<ℚ, ≤ℚ_trans, ≤ℚ-<ℚ_trans}
 use Rattle.market_model.specs.declared.limits.Row.{Row}
 use Rattle.market_model.specs.declared.participants.Parts.{Parts}
 use Rattle.market_model.specs.declared.participants.Side.{Side}
@@ -13,9 +13,24 @@ use Rattle.market_model.specs.LimitRows.{limit, most_flow, penalty}
 use Rattle.market_model.specs.Market.{IsMarket}
 use Rattle.market_model.specs.Optimality.{Gains, Loses, SideSupported}
 use Rattle.market_model.proofs.Excesses.{penalty_least}
-use Rattle.limit_screen.specs.Reaching.{are_same}
+use Rattle.limit_screen.specs.Reaching.{are_same, reaches}
 use Rattle.limit_screen.proofs.ReachLemmas.{below_tells, same_tells}
 use Rattle.price_system.specs.PriceSystem.{Caps, greatest_worth, least_by, least_price, least_worth, most_by, most_price}
+use Rattle.fraction_theory.specs.Signs.{abs_ℚ}
+use Rattle.price_system.proofs.SizeLemmas.{at_most_size, opposite_at_most}
+
+-- ---- a flow that does not reach its limit
+below_limit : (f l : Fraction) → reaches f l ≡ false → abs_ℚ f <ℚ l
+below_limit f l e = elim (below_tells (abs_ℚ f) l) [
+  | inl t ↦ t.1
+  | inr t ↦ let wrong : true ≡ false = sym (ap not t.0) ∙ e in absurd cc
+]
+
+pub flow_below : (f l : Fraction) → reaches f l ≡ false → f <ℚ l
+flow_below f l e = ≤ℚ-<ℚ_trans f (abs_ℚ f) l (at_most_size f) (below_limit f l e)
+
+pub opposite_below : (f l : Fraction) → reaches f l ≡ false → neg_ℚ f <ℚ l
+opposite_below f l e = ≤ℚ-<ℚ_trans (neg_ℚ f) (abs_ℚ f) l (opposite_at_most f) (below_limit f l e)
 
 -- ---- a side of a limit
 module _ (m : Parts) (c : Caps) (r : Row) (p f : Fraction) where

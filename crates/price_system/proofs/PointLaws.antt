@@ -138,7 +138,7 @@ module _ (m : Parts) (x : Dispatch) (c : Caps) (market : IsMarket m) where
           (λ n h. value_at (Offer n) h ∙ sym (activity-offer m x c market (point_of m d) d point_agrees n h));
     }
 
-    module _ (proper : ProperDuals m d) (holds : Supports m x d) (keeps : KeepsCaps m c d) where
+    module _ (proper : ProperDuals m d) (holds : Supports m x d) (keeps : KeepsCaps m x c d) where
       reserve_most : d.reserve ≤ℚ most_reserve_price m x c
       reserve_most = by m.reserve.listed refl
         where

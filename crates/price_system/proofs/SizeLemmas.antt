@@ -7,9 +7,9 @@ use Rattle.fraction_theory.specs.Signs.{abs_ℚ}
 use Rattle.fraction_theory.specs.Sums.{sum_by}
 use Rattle.fraction_theory.proofs.FieldLaws.{ring_ℚ}
 use Rattle.fraction_theory.proofs.ListSums.{Contains-cases, Contains-cons, Contains-head}
-use Rattle.fraction_theory.proofs.OrderLaws.{NonNeg-one, NonNeg_from, by_le1, by_le2, ≤ℚ_refl, ≤ℚ_total, ≤ℚ_trans}
+use Rattle.fraction_theory.proofs.OrderLaws.{NonNeg-one, NonNeg_from, by_le1, by_le2, ≤ℚ_refl, ≤ℚ_total, ≤ℚ_trans, ≤ℚ_of_same}
 use Rattle.fraction_theory.proofs.Ring.{by_ring, at, pnil, pone, pneg, ◌⊕◌, ◌⊗◌}
-use Rattle.fraction_theory.proofs.SignLaws.{abs_above, abs_below}
+use Rattle.fraction_theory.proofs.SignLaws.{abs_above, abs_below, abs_opposite}
 use Rattle.market_model.specs.Dispatch.{zero}
 use Rattle.market_model.specs.Overrun.{Within}
 
@@ -22,6 +22,17 @@ opposite_back x y h = by_le1 (x ∷ y ∷ []) (at 0) (at 1) pone (pneg (at 1)) (
 
 pub opposite_nil : neg_ℚ zero ≡ zero
 opposite_nil = by_ring ring_ℚ [] (pneg pnil) pnil refl
+
+-- ---- a number and its opposite are at most its size
+pub at_most_size : (f : Fraction) → f ≤ℚ abs_ℚ f
+at_most_size f = elim (≤ℚ_total zero f) [
+  | inl h ↦ ≤ℚ_of_same f (abs_ℚ f) (sym (abs_above f h))
+  | inr h ↦ subst (λ t. f ≤ℚ t) (sym (abs_below f h))
+      (≤ℚ_trans f zero (neg_ℚ f) h (by_le1 (f ∷ []) pnil (pneg (at 0)) pone (at 0) pnil NonNeg-one h refl))
+]
+
+pub opposite_at_most : (f : Fraction) → neg_ℚ f ≤ℚ abs_ℚ f
+opposite_at_most f = subst (λ t. neg_ℚ f ≤ℚ t) (abs_opposite f) (at_most_size (neg_ℚ f))
 
 -- ---- sums and differences
 pub nil_plus : (a b : Fraction) → zero ≤ℚ a → zero ≤ℚ b → zero ≤ℚ (a +ℚ b)

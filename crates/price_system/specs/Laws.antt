@@ -25,7 +25,7 @@ pub record IsPointOf (m : Parts) (x : Dispatch) (c : Caps) (d : Duals Fraction) 
   pub back : duals_of m v ≡ d
 
 abbrev pub LawOfDuals : Type 0
-LawOfDuals = (m : Parts) (x : Dispatch) (c : Caps) (d : Duals Fraction) → IsMarket m → ProperDuals m d → Supports m x d → KeepsCaps m c d
+LawOfDuals = (m : Parts) (x : Dispatch) (c : Caps) (d : Duals Fraction) → IsMarket m → ProperDuals m d → Supports m x d → KeepsCaps m x c d
     → IsPointOf m x c d (point_of m d)
 
 abbrev pub LawOfTheSum : Type 0
@@ -34,7 +34,7 @@ LawOfTheSum = (m : Parts) (x : Dispatch) (c : Caps) (v : ℕ → Fraction) → I
 -- The duals of a best point are proper, and no proper duals within the caps that support the dispatch have a lesser sum of prices.
 pub record HasLeastPrices (m : Parts) (x : Dispatch) (c : Caps) (v : ℕ → Fraction) : Type 0 where
   pub proper : ProperDuals m (duals_of m v)
-  pub least : (e : Duals Fraction) → ProperDuals m e → Supports m x e → KeepsCaps m c e → sum_of_prices m (duals_of m v) ≤ℚ sum_of_prices m e
+  pub least : (e : Duals Fraction) → ProperDuals m e → Supports m x e → KeepsCaps m x c e → sum_of_prices m (duals_of m v) ≤ℚ sum_of_prices m e
 
 abbrev pub LawOfBestPoints : Type 0
 LawOfBestPoints = (m : Parts) (x : Dispatch) (c : Caps) (v : ℕ → Fraction) → IsMarket m → IsBest (price_system m x c) v → HasLeastPrices m x c v

@@ -3,7 +3,7 @@
 -- MW of each block's unit is worth at them, and a MW of the reserve of each offer.
 -- Sources: Schweppe, Caramanis, Tabors and Bohn, Spot Pricing of Electricity, for the prices; Chvátal, Linear Programming, for complementary
 -- slackness, which the bounds say. The form is own.
-use Rattle.std.specs.Prelude.{ℕ, ◌+◌, ◌*◌, ◌<◌, pos, Bool, List, [], ◌∷◌, ◌++◌, ◌==◌, ◌&&◌, if◌then◌else◌, length, map, reverse, Contains, slice_index_or}
+use Rattle.std.specs.Prelude.{◌≡◌, ℕ, ◌+◌, ◌*◌, ◌<◌, pos, Bool, true, List, [], ◌∷◌, ◌++◌, ◌==◌, ◌&&◌, if◌then◌else◌, length, map, reverse, Contains, slice_index_or}
 use Rattle.std.specs.List.{flat_map, position_or_len}
 use Rattle.fraction_theory.specs.Fraction.{Fraction, whole, neg_ℚ, ◌+ℚ◌, ◌*ℚ◌}
 use Rattle.fraction_theory.specs.Order.{◌≤ℚ◌}
@@ -22,7 +22,7 @@ use Rattle.market_model.specs.LimitRows.{flow, limit, most_flow, penalty, row_id
 use Rattle.market_model.specs.Optimality.{down_of, energy_worth, price, reserve_worth, room_price, up_of}
 use Rattle.market_model.specs.Overrun.{Within}
 use Rattle.market_model.specs.Reserves.{offer_places, offer_price, reserve, reserve_need, reserve_units, room, room_used}
-use Rattle.limit_screen.specs.Reaching.{are_same, is_below, is_zero}
+use Rattle.limit_screen.specs.Reaching.{are_same, is_below, is_zero, reaches}
 use Rattle.market_system.specs.MarketSystem.{at_unit, row_place}
 use Rattle.one_price.specs.FirstPrices.{sum_of_prices}
 use Rattle.price_system.specs.declared.variables.Variable.{Variable}
@@ -132,7 +132,8 @@ coefficient m (Down r) v = zero
 coefficient m (Room u) v = zero
 
 -- ---- bounds
--- The most that all prices but energy's may add up to, a size that the factor of no block's unit is above, and the greatest size of energy's price.
+-- The most that all prices but energy's may add up to, a size that the factor of no block's unit is above for a row that is reached, and the
+-- greatest size of energy's price.
 pub record Caps : Type 0 where
   pub most : Fraction
   pub factor : Fraction
@@ -243,13 +244,14 @@ value_of m d (Offer n) = reserve_worth m d (offer_at m n).unit
 abbrev pub point_of : Parts → Duals Fraction → ℕ → Fraction
 point_of m d w = value_of m d (variable_of m w)
 
--- a size that the factor of no block's unit for a row of the market is above
-pub record IsFactorSize (m : Parts) (size : Fraction) : Type 0 where
+-- A size that the factor of no block's unit is above for a row that is reached. The prices of other rows have to be 0.
+pub record IsFactorSize (m : Parts) (x : Dispatch) (size : Fraction) : Type 0 where
   pub sign : zero ≤ℚ size
-  pub most : (r : Row) (j : ℕ) → Contains (rows m) r → j < length m.blocks → abs_ℚ (unit_factor m r (block_at m j).unit) ≤ℚ size
+  pub most : (r : Row) (j : ℕ) → Contains (rows m) r → reaches (flow m x r) (limit m r) ≡ true → j < length m.blocks
+      → abs_ℚ (unit_factor m r (block_at m j).unit) ≤ℚ size
 
 -- prices within the caps
-pub record KeepsCaps (m : Parts) (c : Caps) (d : Duals Fraction) : Type 0 where
-  pub factor : IsFactorSize m c.factor
+pub record KeepsCaps (m : Parts) (x : Dispatch) (c : Caps) (d : Duals Fraction) : Type 0 where
+  pub factor : IsFactorSize m x c.factor
   pub energy : Within c.range d.energy
   pub sum : sum_of_prices m d ≤ℚ c.most
