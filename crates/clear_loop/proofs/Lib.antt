@@ -2,6 +2,7 @@ pub mod AnswerLemmas
 pub mod BoundLemmas
 pub mod BrokenLemmas
 pub mod CountLemmas
+pub mod EndLemmas
 pub mod FarkasSums
 pub mod FrameLemmas
 pub mod HandLemmas

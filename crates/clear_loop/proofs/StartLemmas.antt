@@ -1,15 +1,10 @@
 -- A start that fits the frame of a market, and what a clear makes of it.
-use Rattle.std.specs.Prelude.{◌≡◌, ℕ, List, [], All, Option, Some, None, IsSome, Result, Ok, Err, Contains}
+use Rattle.std.specs.Prelude.{◌≡◌, ℕ, List, [], All, Option, Some, None, IsSome, Contains}
 use Rattle.std.proofs.Common.{ap, sym, subst, refl, ◌∙◌}
 use Rattle.fraction_theory.specs.Fraction.{Fraction}
 use Rattle.linear_dict.specs.Dictionaries.{Dictionary, choice_of}
-use Rattle.market_model.specs.declared.answered.Answer.{Answer}
-use Rattle.market_model.specs.declared.answered.Farkas.{Farkas}
 use Rattle.market_model.specs.declared.participants.Parts.{Parts}
-use Rattle.market_model.specs.declared.limits.Row.{Row}
 use Rattle.market_model.specs.Market.{IsMarket}
-use Rattle.market_model.specs.Valued.{duals_at}
-use Rattle.market_system.specs.Growth.{Growth, PricesOnly}
 use Rattle.market_system.specs.SolvedLaws.{AreRows}
 use Rattle.market_system.proofs.GrowthLaws.{growth_none}
 use Rattle.market_model.specs.Stops.{StopsBy}
@@ -18,20 +13,15 @@ use Rattle.market_dict.specs.Holding.{HoldsMarket}
 use Rattle.market_dict.specs.Refusals.{IsBoundsRefusal}
 use Rattle.market_dict.specs.PricesAndBounds.{ArePricesAndBounds}
 use Rattle.market_model.specs.declared.stops.Stop.{Stop}
-use Rattle.market_model.specs.declared.stops.Stop.TheVariants as stop
 use Rattle.market_dict.specs.declared.posing.PricesAndBounds.{PricesAndBounds}
 use Rattle.market_dict.specs.Takings.{AreTakings, IsTaking, limits_of}
 use Rattle.market_dict.specs.declared.taking.Taking.{Taking}
 use Rattle.market_dict.proofs.HoldingLaws.{holds_choice}
 use Rattle.market_dict.proofs.TakingLists.{no_takings}
-use Rattle.clear_loop.specs.Clearing.{ClearComesTo, KeepsStart, Takes}
-use Rattle.clear_loop.specs.Faults.{fault_of}
-use Rattle.clear_loop.specs.Keeping.{AreListed, Kept, FitsFrame, IsStartOf, cold, untaken}
-use Rattle.clear_loop.specs.Rounds.{HoldsStart, IsEnd, IsEnded, IsInHand, StopsInRange}
+use Rattle.clear_loop.specs.Keeping.{AreListed, Kept, FitsFrame, IsStartOf, untaken}
+use Rattle.clear_loop.specs.Rounds.{HoldsStart, IsInHand, StopsInRange}
 use Rattle.clear_loop.specs.Starts.{kept_as, taken_in}
-use Rattle.clear_loop.specs.declared.fault.ClearFault.TheVariants as why
 use Rattle.clear_loop.specs.declared.hand.TakenInOrder.{TakenInOrder}
-use Rattle.clear_loop.specs.declared.rounds.Ended.{Ended}
 use Rattle.clear_loop.proofs.HandLemmas.{all_takings}
 use Rattle.clear_loop.proofs.StopLemmas.{pair_stop, terms_stop}
 
@@ -87,30 +77,3 @@ module _ (m : Parts) (k : Kept) (w : Option Dictionary) (t : Option TakenInOrder
       posing = subst (λ (us : List Taking). ArePricesAndBounds worth m us posing) listed are;
       listed = start_listed m taken k.dict first_fits;
     }
-
--- ---- how a clear ends
--- where it is stopped nothing is kept
-pub stopped_keeps : {N : Type 0} (s : Stop N) (after : Kept) → after ≡ cold → KeepsStart (Err (fault_of s)) after
-stopped_keeps (stop.Passed p) after none = none
-stopped_keeps stop.Memory after none = none
-
--- and nothing is taken
-pub stopped_takes : {N : Type 0} (m : Parts) (before : List Taking) (s : Stop N) (after : Kept) → after ≡ cold → Takes m before (Err (fault_of s)) after.taken.takings
-stopped_takes m before (stop.Passed p) after none = ap (λ (k : Kept). k.taken.takings) none
-stopped_takes m before stop.Memory after none = ap (λ (k : Kept). k.taken.takings) none
-
-module _ {N : Type 0} (worth : N → Fraction) (bound : ℕ) (m : Parts) (before after : List Row) (are : AreRows m before) where
-  pub stopped_clear : (s : Stop N) → after ≡ [] → StopsInRange worth bound m before s → ClearComesTo worth bound m before (Err (fault_of s)) after
-  stopped_clear (stop.Passed p) none range = record { rows = are; right = range; taken = none; priced = tt }
-  stopped_clear stop.Memory none range = tt
-
-  module _ (e : Ended N) (ended : IsEnded worth m e) (grown : Growth m before (limits_of e.taken.takings)) (same : after ≡ limits_of e.taken.takings) where
-    pub answered_clear : (a : Answer N) → e.answer ≡ Ok a → ClearComesTo worth bound m before (Ok a) after
-    answered_clear a is =
-        let end : IsEnd worth m (limits_of e.taken.takings) (Ok a) = subst (λ (r : Result (Answer N) (Farkas N)). IsEnd worth m (limits_of e.taken.takings) r) is ended.end in
-        record { rows = are; right = (end.1, end.2); taken = subst (Growth m before) (sym same) grown; priced = subst (λ g. PricesOnly m g (duals_at worth a.duals)) (sym same) end.3 }
-
-    pub infeasible_clear : (f : Farkas N) → e.answer ≡ Err f → ClearComesTo worth bound m before (Err (why.Infeasible f)) after
-    infeasible_clear f is =
-        let end : IsEnd worth m (limits_of e.taken.takings) (Err f) = subst (λ (r : Result (Answer N) (Farkas N)). IsEnd worth m (limits_of e.taken.takings) r) is ended.end in
-        record { rows = are; right = end.0; taken = subst (Growth m before) (sym same) grown; priced = subst (λ g. PricesOnly m g (duals_at worth f.duals)) (sym same) end.1 }

@@ -4,15 +4,8 @@ use Rattle.plain_list.specs.declared.Memory.{Memory}
 use Rattle.market_model.specs.declared.answered.Answer.{Answer}
 use Rattle.market_model.specs.declared.answered.Outcome.{Outcome}
 use Rattle.market_model.specs.declared.answered.Outcome.TheVariants as outcome
-use Rattle.market_model.specs.declared.stops.Stop.{Stop}
-use Rattle.market_model.specs.declared.stops.Stop.TheVariants as stop
 use Rattle.clear_loop.specs.declared.fault.ClearFault.{ClearFault}
 use Rattle.clear_loop.specs.declared.fault.ClearFault.TheVariants as why
-
--- the fault that a stop is
-abbrev pub fault_of : {N : Type 0} → Stop N → ClearFault N
-fault_of (stop.Passed p) = why.Range p
-fault_of stop.Memory = why.Memory
 
 -- the outcome of a clear, where there was memory
 abbrev pub outcome_of : {N : Type 0} → Result (Answer N) (ClearFault N) → Result (Outcome N) Memory

@@ -4,5 +4,6 @@ pub mod Faults
 pub mod Growing
 pub mod Keeping
 pub mod Laws
+pub mod Reached
 pub mod Rounds
 pub mod Starts

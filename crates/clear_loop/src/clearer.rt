@@ -1,22 +1,29 @@
 //! What clears markets, with what it keeps from one to the next.
 
 ghost use Rattle.std.specs.Prelude.{◌≡◌, ◌<◌, List, length, map, slice_get, Some, IfOk, IfErr, false};
-ghost use Rattle.market_model.specs.Fitting.{FitsMarket};
+ghost use Rattle.market_model.specs.Fitting.{FitsMarket, FitsOutcome};
 ghost use Rattle.market_model.specs.LimitRows.{row_id};
+ghost use Rattle.market_model.specs.Valued.{outcome_at};
+ghost use Rattle.market_system.specs.Growth.{Growth};
+ghost use Rattle.market_system.specs.Outcomes.{IsClear};
+ghost use Rattle.limit_screen.specs.Reaching.{IsReachOf};
+ghost use Rattle.market_dict.specs.Chosen.{IsChosenOutcome};
 ghost use Rattle.market_dict.specs.Takings.{limits_of};
-ghost use Rattle.clear_loop.specs.Clearing.{ClearComesTo, KeepsStart, Takes};
+ghost use Rattle.clear_loop.specs.Clearing.{ClearComesTo, KeepsAfter, KeepsStart, Takes, TakesAfter};
+ghost use Rattle.clear_loop.specs.Growing.{Grown};
 ghost use Rattle.clear_loop.specs.Keeping.{FitsFrame, Kept, cold};
-ghost use Rattle.clear_loop.specs.Rounds.{HoldsStart, IsInHand, StopsInRange};
+ghost use Rattle.clear_loop.specs.Rounds.{HoldsStart, IsEnded, IsInHand, StopsInRange};
 
-use crate::fault::ClearFault;
+use crate::fault::{ClearFault, cleared};
 use crate::hand::{Hand, TakenInOrder, started, taken_or_none};
 use crate::merit::start_at_margin;
+use crate::reached::{ReachedOutcome, outcome_at_end};
 use crate::rounds::{Ended, all_rounds};
 use dual_restart::Warm;
 use exact_fraction::Exact;
 use linear_dict::Dict;
 use market_dict::prices_and_bounds;
-use market_model::{Answer, Market, RowId, Stop};
+use market_model::{Answer, Market, Outcome, RowId, Stop};
 use plain_list::Memory;
 use std::alloc::Global;
 use std::marker::Model;
@@ -99,6 +106,22 @@ fn first_hand<N: Exact>(
     })
 }
 
+/// How a clear ends that starts from what a clearer keeps.
+fn rounds_from<N: Exact>(
+    alloc: Global,
+    market: &Market,
+    clearer: Clearer<N>,
+) -> Result<Ended<N>, Stop<N>>
+    requires { FitsFrame market.now clearer }
+    ensures ended { IfOk result (IsEnded N.value market.now) }
+    ensures taken { IfOk result (λ ended. Growth market.now (limits_of clearer.taken.takings) (limits_of ended.taken.takings)) }
+    ensures grown { IfOk result (λ ended. Grown market.now clearer.taken.takings ended.taken.takings) }
+    ensures stops { IfErr result (StopsInRange N.value N.bound market.now (limits_of clearer.taken.takings)) }
+{
+    let hand = first_hand(alloc, market, clearer)?;
+    all_rounds(alloc, market, hand)
+}
+
 impl<N: Exact> Clearer<N> {
     /// Nothing is kept yet, so the first clear starts without limits. Takes no memory.
     pub fn new(market: &Market) -> Clearer<N>
@@ -142,18 +165,41 @@ impl<N: Exact> Clearer<N> {
         ensures takings { Takes market.now self.old.taken.takings result self.new.taken.takings }
         ensures kept { KeepsStart result self.new }
     {
+        match self.clear_reached(alloc, market) {
+            Ok(reached) => cleared(reached.outcome),
+            Err(Memory) => Err(ClearFault::Memory),
+        }
+    }
+
+    /// What a clear comes to, with what its dispatch carries and reaches where it is an answer. Its last look at the limits of the market tells
+    /// this. The rest as in `clear`.
+    pub fn clear_reached(
+        &mut self,
+        alloc: Global,
+        market: &Market,
+    ) -> Result<ReachedOutcome<N>, Memory>
+        requires frame { FitsFrame market.now self.old }
+        ensures fits { IfOk result (λ reached. FitsOutcome market.now reached.outcome) }
+        ensures clear { IfOk result (λ reached. IsClear N.bound market.now self.old.taken.rows (outcome_at N.value reached.outcome) self.new.taken.rows) }
+        ensures takings { IfOk result (λ reached. TakesAfter market.now self.old.taken.takings reached.outcome self.new.taken.takings) }
+        ensures kept { IfOk result (λ reached. KeepsAfter reached.outcome self.new) }
+        ensures frame { FitsFrame market.now self.new }
+        ensures memory { IfErr result (λ _. self.new ≡ cold) }
+        ensures reach { IfOk result (λ reached. IsReachOf N.value market.now reached.outcome reached.reach) }
+        ensures chosen { IfOk result (λ reached. IsChosenOutcome market.now (outcome_at N.value reached.outcome)) }
+    {
         let _lines = market.lines();
         let before = std::mem::replace(self, unused());
-        let hand = first_hand(alloc, market, before)?;
-        let Ended {
-            dict,
-            taken,
-            answer,
-        } = all_rounds(alloc, market, hand)?;
-        *self = keeping(dict, taken);
-        match answer {
-            Ok(answer) => Ok(answer),
-            Err(farkas) => Err(ClearFault::Infeasible(farkas)),
+        match rounds_from(alloc, market, before) {
+            Ok(Ended { dict, taken, end }) => {
+                *self = keeping(dict, taken);
+                Ok(outcome_at_end(end))
+            }
+            Err(Stop::Passed(passed)) => Ok(ReachedOutcome {
+                outcome: Outcome::Range(passed),
+                reach: None,
+            }),
+            Err(Stop::Memory) => Err(Memory),
         }
     }
 }

@@ -1,10 +1,10 @@
 //! Why a market was not cleared.
 
-ghost use Rattle.std.specs.Prelude.{◌≡◌};
-ghost use Rattle.clear_loop.specs.Faults.{fault_of, outcome_of};
+ghost use Rattle.std.specs.Prelude.{◌≡◌, Ok};
+ghost use Rattle.clear_loop.specs.Faults.{outcome_of};
 
 use exact_fraction::Passed;
-use market_model::{Answer, Farkas, Memory, Outcome, Stop};
+use market_model::{Answer, Farkas, Memory, Outcome};
 
 /// Why a market was not cleared.
 #[derive(Drop, Debug)]
@@ -16,17 +16,6 @@ pub enum ClearFault<N> {
     Memory,
 }
 
-impl<N> From<Stop<N>> for ClearFault<N> {
-    ghost from_gives = { λ stop fault. fault ≡ fault_of stop };
-
-    fn from(stop: Stop<N>) -> ClearFault<N> {
-        match stop {
-            Stop::Passed(passed) => ClearFault::Range(passed),
-            Stop::Memory => ClearFault::Memory,
-        }
-    }
-}
-
 /// What a clear came to. That nothing is feasible, and that numbers became too large, are outcomes as an answer is.
 pub fn outcome<N>(cleared: Result<Answer<N>, ClearFault<N>>) -> Result<Outcome<N>, Memory>
     ensures { result ≡ outcome_of cleared }
@@ -36,5 +25,16 @@ pub fn outcome<N>(cleared: Result<Answer<N>, ClearFault<N>>) -> Result<Outcome<N
         Err(ClearFault::Infeasible(farkas)) => Ok(Outcome::Infeasible(farkas)),
         Err(ClearFault::Range(passed)) => Ok(Outcome::Range(passed)),
         Err(ClearFault::Memory) => Err(Memory),
+    }
+}
+
+/// The answer that a clear came to, or why it came to none.
+pub(crate) fn cleared<N>(outcome: Outcome<N>) -> Result<Answer<N>, ClearFault<N>>
+    ensures { outcome_of result ≡ Ok outcome }
+{
+    match outcome {
+        Outcome::Cleared(answer) => Ok(answer),
+        Outcome::Infeasible(farkas) => Err(ClearFault::Infeasible(farkas)),
+        Outcome::Range(passed) => Err(ClearFault::Range(passed)),
     }
 }

@@ -11,6 +11,7 @@ mod fault;
 mod hand;
 pub mod laws;
 mod merit;
+mod reached;
 mod rounds;
 mod sameness;
 mod screen;
@@ -18,3 +19,4 @@ mod worths;
 
 pub use clearer::Clearer;
 pub use fault::{ClearFault, outcome};
+pub use reached::ReachedOutcome;

@@ -7,6 +7,7 @@ ghost use Rattle.market_model.specs.Infeasibility.{IsFarkas};
 ghost use Rattle.market_model.specs.Valued.{duals_at, farkas_at};
 ghost use Rattle.market_system.specs.Growth.{Growth};
 ghost use Rattle.limit_screen.specs.Flows.{flows_at};
+ghost use Rattle.limit_screen.specs.Reaching.{IsReach};
 ghost use Rattle.market_dict.specs.Findings.{IsFirstFound, IsFound, IsStuckBy};
 ghost use Rattle.market_dict.specs.PricesAndBounds.{ArePricesAndBounds};
 ghost use Rattle.market_dict.specs.Takings.{limits_of};
@@ -19,13 +20,15 @@ ghost use Rattle.clear_loop.specs.Rounds.{KeepsAll, HoldsStart, IsEnded, IsInHan
 use crate::answering::answer_of;
 use crate::bounding::farkas_bound;
 use crate::hand::{Hand, TakenInOrder, with_taking};
+use crate::reached::ReachedAnswer;
 use crate::sameness::are_same;
 use crate::screen::{Screened, screened_at};
 use dual_restart::Warm;
 use exact_fraction::Exact;
+use limit_screen::Reach;
 use linear_dict::Dict;
 use market_dict::{First, Found, PricesAndBounds, duals, go_first, solve};
-use market_model::{Answer, Duals, Farkas, Market, Stop};
+use market_model::{Duals, Farkas, Market, Stop};
 use plain_list::List;
 use std::alloc::Global;
 
@@ -34,7 +37,7 @@ use std::alloc::Global;
 pub(crate) struct Ended<N: Exact> {
     pub dict: Dict<N>,
     pub taken: TakenInOrder,
-    pub answer: Result<Answer<N>, Farkas<N>>,
+    pub end: Result<ReachedAnswer<N>, Farkas<N>>,
 }
 
 /// What a round comes to.
@@ -84,29 +87,36 @@ fn bound_of<N: Exact>(
     }
 }
 
-/// The end with an answer, of the best dispatch that goes first, where it keeps all limits and rooms.
+/// The end with an answer, of the best dispatch that goes first, where it keeps all limits and rooms. What it carries and reaches is handed on.
 fn answered<N: Exact>(
     alloc: Global,
     market: &Market,
     first: First<N>,
     taken: TakenInOrder,
-    flows: &[N],
+    reach: Reach<N>,
 ) -> Result<Ended<N>, Stop<N>>
     requires first { IsFirstFound N.value market.now taken.takings first }
     requires listed { AreListed market.now taken }
     requires kept { KeepsAll market.now (limits_of taken.takings) (dispatch_with (map N.value first.dispatch) (map N.value first.reserve)) }
-    requires flows { map N.value flows.now ≡ flows_at market.now (dispatch_with (map N.value first.dispatch) (map N.value first.reserve)) }
+    requires reach { IsReach N.value market.now (dispatch_with (map N.value first.dispatch) (map N.value first.reserve)) reach }
     ensures ended { IfOk result (IsEnded N.value market.now) }
     ensures taken { IfOk result (λ ended. ended.taken ≡ taken) }
     ensures stops { IfErr result (StopsInRange N.value N.bound market.now (limits_of taken.takings)) }
 {
     let _lines = market.lines();
     let duals = duals(alloc, market, &first.dict)?;
-    let answer = answer_of(alloc, market, first.dispatch, first.reserve, flows, duals)?;
+    let answer = answer_of(
+        alloc,
+        market,
+        first.dispatch,
+        first.reserve,
+        &reach.flows,
+        duals,
+    )?;
     Ok(Ended {
         dict: first.dict,
         taken,
-        answer: Ok(answer),
+        end: Ok(ReachedAnswer { answer, reach }),
     })
 }
 
@@ -135,7 +145,7 @@ fn after_first<N: Exact>(
         Screened::Worst(taking) => Ok(Round::Grown(with_taking(
             alloc, market, first.dict, posing, taken, taking,
         )?)),
-        Screened::Within(flows) => Ok(Round::Done(answered(alloc, market, first, taken, &flows)?)),
+        Screened::Within(reach) => Ok(Round::Done(answered(alloc, market, first, taken, reach)?)),
     }
 }
 
@@ -163,10 +173,10 @@ fn after_best<N: Exact>(
         Screened::Worst(taking) => Ok(Round::Grown(with_taking(
             alloc, market, dict, posing, taken, taking,
         )?)),
-        Screened::Within(flows) => {
+        Screened::Within(reach) => {
             let first = go_first(alloc, market, dict)?;
             if are_same(blocks, first.dispatch.slice()) && are_same(offers, first.reserve.slice()) {
-                Ok(Round::Done(answered(alloc, market, first, taken, &flows)?))
+                Ok(Round::Done(answered(alloc, market, first, taken, reach)?))
             } else {
                 after_first(alloc, market, first, posing, taken)
             }
@@ -197,7 +207,7 @@ fn one_round<N: Exact>(alloc: Global, market: &Market, hand: Hand<N>) -> Result<
             Ok(Round::Done(Ended {
                 dict,
                 taken,
-                answer: Err(Farkas { duals, bound }),
+                end: Err(Farkas { duals, bound }),
             }))
         }
     }

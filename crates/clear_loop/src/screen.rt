@@ -6,7 +6,7 @@ ghost use Rattle.market_model.specs.Stops.{StopsBy};
 ghost use Rattle.clear_loop.specs.Rounds.{IsLookRefusal, IsScreened};
 
 use exact_fraction::Exact;
-use limit_screen::{flows_made, whole_parts, worst_room_by_uses, worst_row_by_parts};
+use limit_screen::{Reach, RowLook, flows_made, look_at_rows, whole_parts, worst_room_by_uses};
 use market_dict::Taking;
 use market_model::{Market, Row, Stop};
 use std::alloc::Global;
@@ -17,9 +17,8 @@ pub(crate) enum Screened<N> {
     /// Of the limits that are not kept that which is passed by the most, and the first of those in the market's order; where all limits
     /// are kept, so of the rooms.
     Worst(Taking),
-    /// All limits and rooms are kept. What each bus puts in, then what each line carries, and then what each lost unit puts out, in
-    /// 10^-9 MW.
-    Within(Vec<N>),
+    /// All limits and rooms are kept. What the dispatch carries, and the limits that it reaches.
+    Within(Reach<N>),
 }
 
 /// A look at all limits and then at all rooms, at the accepted MW of blocks and of offers of reserve. Some limits are taken: of these the
@@ -39,11 +38,14 @@ pub(crate) fn screened_at<N: Exact>(
     let _lines = market.lines();
     let by_place = flows_made(alloc, market, dispatch)?;
     let parts = whole_parts(alloc, market, &by_place)?;
-    match worst_row_by_parts(market, &by_place, &parts, taken)? {
-        Some(row) => Ok(Screened::Worst(Taking::Limit(row))),
-        None => match worst_room_by_uses(alloc, market, dispatch, reserve)? {
+    match look_at_rows(alloc, market, &by_place, &parts, taken)? {
+        RowLook::Worst(row) => Ok(Screened::Worst(Taking::Limit(row))),
+        RowLook::Kept(rows) => match worst_room_by_uses(alloc, market, dispatch, reserve)? {
             Some(unit) => Ok(Screened::Worst(Taking::Room(unit))),
-            None => Ok(Screened::Within(by_place)),
+            None => Ok(Screened::Within(Reach {
+                flows: by_place,
+                rows,
+            })),
         },
     }
 }

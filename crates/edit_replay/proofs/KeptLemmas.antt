@@ -1,19 +1,18 @@
 -- What is kept has its limits as rows too, and what a clear takes goes by its outcome whatever its numbers are.
-use Rattle.std.specs.Prelude.{◌≡◌, ℕ, List, Option, Some, None, Result}
+use Rattle.std.specs.Prelude.{◌≡◌, ℕ, List, Option, Some, None}
 use Rattle.std.proofs.Common.{ap, subst, sym, ◌∙◌}
 use Rattle.fraction_theory.specs.Fraction.{Fraction}
 use Rattle.linear_dict.specs.Dictionaries.{Dictionary}
-use Rattle.market_model.specs.declared.answered.Answer.{Answer}
 use Rattle.market_model.specs.declared.answered.Outcome.{Outcome}
 use Rattle.market_model.specs.declared.answered.Outcome.TheVariants as outcome
 use Rattle.market_model.specs.declared.limits.Row.{Row}
 use Rattle.market_model.specs.declared.participants.Parts.{Parts}
 use Rattle.market_model.specs.Valued.{outcome_at}
+use Rattle.market_system.specs.Outcomes.{IsClear}
 use Rattle.market_dict.specs.Takings.{limits_of}
 use Rattle.market_dict.specs.declared.taking.Taking.{Taking}
-use Rattle.clear_loop.specs.Clearing.{ClearComesTo, TakesAfter}
+use Rattle.clear_loop.specs.Clearing.{TakesAfter}
 use Rattle.clear_loop.specs.Keeping.{FitsFrame, IsStartOf, Kept}
-use Rattle.clear_loop.specs.declared.fault.ClearFault.{ClearFault}
 use Rattle.clear_loop.specs.declared.hand.TakenInOrder.{TakenInOrder}
 
 -- the rows of a start are the limits among what is taken
@@ -22,11 +21,11 @@ rows_of_start m t None is = ap (λ (u : TakenInOrder). u.rows) is ∙ sym (ap (�
 rows_of_start m t (Some d) is = is.1.rows
 
 -- so a clear from the rows of one start to those of another is one from limits to limits
-pub comes_by_limits : {N : Type 0} (value : N → Fraction) (bound : ℕ) (m : Parts) (old new : Kept) (cleared : Result (Answer N) (ClearFault N)) → FitsFrame m old → FitsFrame m new
-    → ClearComesTo value bound m old.taken.rows cleared new.taken.rows → ClearComesTo value bound m (limits_of old.taken.takings) cleared (limits_of new.taken.takings)
-comes_by_limits value bound m old new cleared before after comes =
-    subst (λ (g : List Row). ClearComesTo value bound m (limits_of old.taken.takings) cleared g) (rows_of_start m new.taken new.dict after)
-    (subst (λ (g : List Row). ClearComesTo value bound m g cleared new.taken.rows) (rows_of_start m old.taken old.dict before) comes)
+pub clear_by_limits : (bound : ℕ) (m : Parts) (old new : Kept) (o : Outcome Fraction) → FitsFrame m old → FitsFrame m new → IsClear bound m old.taken.rows o new.taken.rows
+    → IsClear bound m (limits_of old.taken.takings) o (limits_of new.taken.takings)
+clear_by_limits bound m old new o before after clear =
+    subst (λ (g : List Row). IsClear bound m (limits_of old.taken.takings) o g) (rows_of_start m new.taken new.dict after)
+    (subst (λ (g : List Row). IsClear bound m g o new.taken.rows) (rows_of_start m old.taken old.dict before) clear)
 
 -- what is taken goes by which outcome it is, and not by its numbers
 pub takes_at : {N : Type 0} (value : N → Fraction) (m : Parts) (before after : List Taking) (o : Outcome N) → TakesAfter m before o after → TakesAfter m before (outcome_at value o) after

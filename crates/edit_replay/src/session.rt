@@ -7,6 +7,8 @@ ghost use Rattle.market_model.specs.Fitting.{FitsOutcome};
 ghost use Rattle.market_model.specs.Frame.{SameFrame};
 ghost use Rattle.market_model.specs.Valued.{outcome_at};
 ghost use Rattle.market_system.specs.Outcomes.{IsClear};
+ghost use Rattle.limit_screen.specs.Reaching.{IsReachOf};
+ghost use Rattle.market_dict.specs.Chosen.{IsChosenOutcome};
 ghost use Rattle.market_dict.specs.Takings.{limits_of};
 ghost use Rattle.offer_book.specs.Edits.{answer, judge, number_of, step_of};
 ghost use Rattle.edit_table.specs.EditTable.{IsStep};
@@ -15,7 +17,7 @@ ghost use Rattle.clear_loop.specs.Keeping.{FitsFrame, cold};
 ghost use Rattle.edit_replay.specs.Replays.{FitsStep, IsEditedPart, IsReplay, IsReply, KeepsStep, KeepsSteps, edited_by, stepped, step_outcome_at};
 
 use crate::step_outcome::{Outcomes, StepOutcome, replied};
-use clear_loop::{Clearer, outcome};
+use clear_loop::{Clearer, ReachedOutcome};
 use edit_table::{Step, Steps};
 use exact_fraction::Exact;
 use market_model::{List, Market, Memory, Outcome};
@@ -78,7 +80,6 @@ impl<N: Exact> Session<N> {
 
     /// Clears the market as it is now, from the limits and rooms that the clear before took. After an answer, and where nothing is feasible,
     /// those taken are kept; where numbers became too large, or memory was refused, nothing is, and the next clear starts without any.
-    #[tactic(auto, using(crate::proofs::KeptLemmas::comes_by_limits))]
     pub fn clear(&mut self, alloc: Global) -> Result<Outcome<N>, Memory>
         ensures market { self.new.market ≡ self.old.market }
         ensures clear { IfOk result (λ outcome. IsClear N.bound self.old.market (limits_of self.old.kept.taken.takings) (outcome_at N.value outcome) (limits_of self.new.kept.taken.takings)) }
@@ -87,7 +88,22 @@ impl<N: Exact> Session<N> {
         ensures kept { IfOk result (λ outcome. KeepsAfter outcome self.new.kept) }
         ensures memory { IfErr result (λ _. self.new.kept ≡ cold) }
     {
-        outcome(self.clearer.clear(alloc, &self.market))
+        let reached = self.clear_reached(alloc)?;
+        Ok(reached.outcome)
+    }
+
+    /// What a clear of the market as it is now comes to, with what its dispatch carries and reaches where it is an answer. The rest as in `clear`.
+    pub fn clear_reached(&mut self, alloc: Global) -> Result<ReachedOutcome<N>, Memory>
+        ensures market { self.new.market ≡ self.old.market }
+        ensures clear { IfOk result (λ reached. IsClear N.bound self.old.market (limits_of self.old.kept.taken.takings) (outcome_at N.value reached.outcome) (limits_of self.new.kept.taken.takings)) }
+        ensures fits { IfOk result (λ reached. FitsOutcome self.old.market reached.outcome) }
+        ensures takings { IfOk result (λ reached. TakesAfter self.old.market self.old.kept.taken.takings reached.outcome self.new.kept.taken.takings) }
+        ensures kept { IfOk result (λ reached. KeepsAfter reached.outcome self.new.kept) }
+        ensures memory { IfErr result (λ _. self.new.kept ≡ cold) }
+        ensures reach { IfOk result (λ reached. IsReachOf N.value self.old.market reached.outcome reached.reach) }
+        ensures chosen { IfOk result (λ reached. IsChosenOutcome self.old.market (outcome_at N.value reached.outcome)) }
+    {
+        self.clearer.clear_reached(alloc, &self.market)
     }
 
     /// Does one step.

@@ -1,6 +1,7 @@
 pub mod BoundLemmas
 pub mod Casts
 pub mod PartLemmas
+pub mod LookLemmas
 pub mod ReachLemmas
 pub mod ScreenLemmas
 pub mod TakenLemmas

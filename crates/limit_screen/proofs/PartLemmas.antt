@@ -30,7 +30,7 @@ each_more is xs x before last place y e = elim (cases_lt place (length xs)) [
 ]
 
 -- what holds of the number that is there
-pub of_some : {X : Type 0} (p : X → Type 0) (o : Option X) → IfSome o p → (x : X) → o ≡ Some x → p x
+of_some : {X : Type 0} (p : X → Type 0) (o : Option X) → IfSome o p → (x : X) → o ≡ Some x → p x
 of_some p None h x e = Prim.cc
 of_some p (Some y) h x e = subst p (same_Some y x e) h
 

@@ -1,5 +1,5 @@
 -- The worst of some rows, with one row more.
-use Rattle.std.specs.Prelude.{◌≡◌, ℕ, ℤ, ◌+◌, ◌-◌, ◌<◌, pos, List, [], ◌∷◌, ◌++◌, map, length, All, Option, Some, None, Contains, refl}
+use Rattle.std.specs.Prelude.{◌≡◌, ℕ, ◌+◌, ◌-◌, ◌<◌, pos, List, [], ◌∷◌, ◌++◌, map, length, All, Option, Some, None, Contains, refl}
 use Rattle.std.specs.List.{slice_get}
 use Rattle.std.proofs.Common.{zero, suc, arith, inl, inr, ap, sym, subst, ◌∙◌, get_or, drop, take}
 use Rattle.std.proofs.lemmas.List.{length-append, drop-map, take-map, take_rest, drop_at}
@@ -29,7 +29,6 @@ use Rattle.market_model.proofs.RowMembers.{at_places}
 use Rattle.limit_screen.specs.declared.screening.RowOverrun.{RowOverrun}
 use Rattle.market_model.specs.Market.{IsMarket}
 use Rattle.market_model.proofs.Excesses.{within_most}
-use Rattle.limit_screen.specs.Bounds.{IsLeastOf}
 use Rattle.limit_screen.specs.Flows.{carried_at, flows_at, LawOfRowFlows}
 use Rattle.limit_screen.specs.Screening.{AllKeep, IsWorstOf}
 
@@ -122,12 +121,10 @@ module _ {N : Type 0} (value : N → Fraction) (m : Parts) (taken : List Row) (f
       ((place, old_worst (λ s. IsBeyond m taken s (f s)) (λ s. overrun m s (f s)) rs r place b.row worst (λ beyond. absurd (beyond keeps))), is, low)
 
   -- one whose overrun is not above a number that is not above that of the worst changes nothing
-  pub no_worse : (worst : Option (RowOverrun N)) (most : ℤ) → IsMarket m → IsLeastOf worst most → IsWorstOf value m taken f rs worst → overrun m r (f r) ≤ℚ whole most → IsWorstOf value m taken f (rs ++ r ∷ []) worst
-  no_worse None most market is before less = kept None before (keeps_limit m taken r (f r) market (subst (λ n. overrun m r (f r) ≤ℚ whole n) is less))
-  no_worse (Some b) most market is ((place, worst), same, low) less =
+  pub no_worse : (b : RowOverrun N) → IsWorstOf value m taken f rs (Some b) → overrun m r (f r) ≤ℚ whole b.least → IsWorstOf value m taken f (rs ++ r ∷ []) (Some b)
+  no_worse b ((place, worst), same, low) less =
       let under : whole b.least ≤ℚ overrun m b.row (f b.row) = subst (λ t. whole b.least ≤ℚ t) same low in
-      let most_under : overrun m r (f r) ≤ℚ whole b.least = subst (λ n. overrun m r (f r) ≤ℚ whole n) is less in
-      ((place, old_worst (λ s. IsBeyond m taken s (f s)) (λ s. overrun m s (f s)) rs r place b.row worst (λ _. ≤ℚ_trans (overrun m r (f r)) (whole b.least) (overrun m b.row (f b.row)) most_under under)), same, low)
+      ((place, old_worst (λ s. IsBeyond m taken s (f s)) (λ s. overrun m s (f s)) rs r place b.row worst (λ _. ≤ℚ_trans (overrun m r (f r)) (whole b.least) (overrun m b.row (f b.row)) less under)), same, low)
 
 -- ---- the flows of a dispatch
 module _ (m : Parts) (x : Dispatch) (fs : List Fraction) (puts : fs ≡ flows_at m x) where

@@ -1,7 +1,7 @@
 -- Whole numbers by which it is told that a limit is far from being passed.
 -- Shewchuk, Adaptive Precision Floating-Point Arithmetic and Fast Robust Geometric Predicates, 1997: a test is answered by numbers that are
 -- cheap and near, with how near they are, and by the exact ones only where these cannot tell. Here the cheap numbers are whole ones.
-use Rattle.std.specs.Prelude.{◌≡◌, ℕ, ◌+◌, ◌<◌, ◌≤◌, ◌^◌, ℤ, pos, ◌+ℤ◌, neg_ℤ, unsigned_abs, List, Option, Some, None, length, slice_index_or}
+use Rattle.std.specs.Prelude.{◌≡◌, ℕ, ◌+◌, ◌<◌, ◌≤◌, ◌^◌, ℤ, pos, negsuc, ◌+ℤ◌, ◌≤ℤ◌, neg_ℤ, unsigned_abs, List, Option, Some, None, length, slice_index_or}
 use Rattle.std.specs.List.{slice_get}
 use Rattle.fraction_theory.specs.Fraction.{Fraction, whole, ◌*ℚ◌}
 use Rattle.fraction_theory.specs.Order.{◌≤ℚ◌}
@@ -52,7 +52,7 @@ pub record IsSmall (near : NearFlow) : Type 0 where
   pub above : 0 < near.one
   pub most : near.one ≤ pickup_one
 
--- the whole number that is told of the overrun of the worst row so far; 0 where there is none
-abbrev pub IsLeastOf : {N : Type 0} → Option (RowOverrun N) → ℤ → Type 0
-IsLeastOf None n = n ≡ pos 0
-IsLeastOf (Some b) n = n ≡ b.least
+-- where the worst row so far passes its limit, and by how much at the least, the same; where there is none, less than 0
+abbrev pub IsToldMost : {N : Type 0} → Option (RowOverrun N) → ℤ → Type 0
+IsToldMost None n = n ≤ℤ negsuc 0
+IsToldMost (Some b) n = n ≡ b.least

@@ -86,13 +86,12 @@ fn near_flow_with(own: i64, factor: i64, part: i64, one: u64) -> NearFlow
 }
 
 /// The flow of a row, by the whole parts of what is carried. Nothing where one of them is missing.
-pub(crate) fn near_flow(market: &Market, parts: Option<&WholeParts>, row: Row) -> Option<NearFlow>
+pub(crate) fn near_flow(market: &Market, parts: &WholeParts, row: Row) -> Option<NearFlow>
     requires line { row.line < length market.now.lines }
     requires lost { IsCauseOf market.now row.cause }
-    ensures near { (c : Carried) → IfSome parts.entry (λ parts. AreWholeParts market.now c parts.now) → IfSome result (IsNearFlow (flow_by market.now c row)) }
+    ensures near { (c : Carried) → AreWholeParts market.now c parts.now → IfSome result (IsNearFlow (flow_by market.now c row)) }
     ensures small { IfSome result IsSmall }
 {
-    let parts = parts?;
     let own = part_at(&parts.carried, row.line)?;
     match row.cause {
         Cause::Base => Some(near_flow_with(own, 0, own, FACTOR_ONE)),

@@ -5,6 +5,7 @@
 mod bounds;
 mod flowing;
 pub mod laws;
+mod looking;
 mod parts;
 mod reaching;
 mod screening;
@@ -13,7 +14,8 @@ mod taking;
 mod uses;
 
 pub use flowing::{bus_injections, carried_flows, flows, flows_made};
+pub use looking::{RowLook, look_at_rows};
 pub use parts::{WholeParts, whole_parts};
-pub use reaching::{reached_rows, used_up};
-pub use screening::{beyond, worst, worst_row, worst_row_by_parts};
+pub use reaching::{Reach, used_up};
+pub use screening::{beyond, worst, worst_row};
 pub use sharing::{rooms, worst_room, worst_room_by_uses};

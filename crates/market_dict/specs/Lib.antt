@@ -1,3 +1,4 @@
+pub mod Chosen
 pub mod Findings
 pub mod Holding
 pub mod Kinds

@@ -1,4 +1,4 @@
-use Rattle.std.proofs.Common.{Err, ap, ap₂, ◌≡◌, ◌∙◌, map, subst, sym}
+use Rattle.std.proofs.Common.{Err, ap, ap₂, ◌≡◌, ◌∙◌, map, subst, sym, true}
 use Rattle.std.proofs.lemmas.Result.{err_from_is_err_and}
 use Rattle.linear_dict.specs.Dictionaries.{choice_of}
 use Rattle.market_model.specs.Dispatch.{Dispatch, dispatch_with}
@@ -8,7 +8,7 @@ use Rattle.market_system.specs.MarketSystem.{choice_duals}
 use Rattle.market_system.proofs.GrowthLaws.{growth_none}
 use Rattle.market_dict.specs.Takings.{IsTaking, limits_of, taken_of}
 use Rattle.clear_loop.specs.Growing.{IsNew, IsPassedTaking}
-use Rattle.limit_screen.specs.Flows.{flows_at}
+use Rattle.limit_screen.specs.Reaching.{IsReach}
 use Rattle.clear_loop.specs.Rounds.{IsLookRefusal, IsScreened, KeepsAll}
 use Rattle.clear_loop.specs.declared.screen.Screened.TheVariants as screened
 use Rattle.clear_loop.proofs.BrokenLemmas.{worst_new, worst_passed, worst_taking}
@@ -16,7 +16,7 @@ use Rattle.clear_loop.proofs.SolvedLemmas.{best_for}
 use Rattle.clear_loop.proofs.StopLemmas.{look_stop, pair_stop}
 use Rattle.clear_loop.proofs.rounds.after_best.Given.{Over}
 use Rattle.clear_loop.proofs.rounds.after_best.Goals as goal
-use Rattle.clear_loop.proofs.rounds.after_best.Goals.{After-deref, In-Within, In-Worst}
+use Rattle.clear_loop.proofs.rounds.after_best.Goals.{After-are_same-then-are_same, In-Within, In-Worst}
 
 pub returns-in_err-taking-clause-stops : goal.returns-in_err-taking-clause-stops
 returns-in_err-taking-clause-stops g c =
@@ -82,9 +82,9 @@ after_first-requires-clause-first g c = c.in_ok-first-in-Within.ensures.first c.
 pub answered-requires-clause-first : goal.answered-requires-clause-first
 answered-requires-clause-first g c = c.in_ok-first-in-Within.ensures.first c.args.taken.takings c.requires.found.0
 
--- all is kept, and the flows are those of the dispatch
+-- all is kept, and it is held what the dispatch carries and reaches
 all_within : (g : Over) (c : In-Within g) → let m = c.args.market.now in let x = dispatch_with (map g.N.Exact.value c.args.dispatch) (map g.N.Exact.value c.args.reserve) in
-    KeepsAll m (limits_of c.args.taken.takings) x × (map g.N.Exact.value c.in-Within.flows.items ≡ flows_at m x)
+    KeepsAll m (limits_of c.args.taken.takings) x × IsReach g.N.Exact.value m x c.in-Within.reach
 all_within g c =
     let value = g.N.Exact.value in
     let m = c.args.market.now in
@@ -95,20 +95,20 @@ all_within g c =
     (subst (λ y. IsScreened value m c.slice.result.now y c.in_ok-taking.field-0) (ap₂ (λ xs rs. dispatch_with (map value xs) (map value rs)) c.slice-blocks.ensures c.slice-offers.ensures) c.in_ok-taking.ensures.screened))
 
 -- the dispatch that goes first is that which was looked at
-same_dispatch : (g : Over) (c : After-deref g) → let value = g.N.Exact.value in
+same_dispatch : (g : Over) (c : After-are_same-then-are_same g) → c.are_same-then-are_same.result ≡ true → let value = g.N.Exact.value in
     dispatch_with (map value c.args.dispatch) (map value c.args.reserve) ≡ dispatch_with (map value c.in_ok-first-in-Within.first.dispatch) (map value c.in_ok-first-in-Within.first.reserve)
-same_dispatch g c =
+same_dispatch g c same =
     let value = g.N.Exact.value in
     ap₂ dispatch_with
     (ap (map value) (sym c.slice-blocks.ensures) ∙ c.are_same.ensures c.if-are_same.true ∙ ap (map value) c.slice-in-Within.ensures)
-    (ap (map value) (sym c.slice-offers.ensures) ∙ c.are_same-then-are_same.ensures c.if-are_same-2.true ∙ ap (map value) c.slice-then-are_same.ensures)
+    (ap (map value) (sym c.slice-offers.ensures) ∙ c.are_same-then-are_same.ensures same ∙ ap (map value) c.slice-then-are_same.ensures)
 
 pub answered-requires-clause-kept : goal.answered-requires-clause-kept
 answered-requires-clause-kept g c =
     let at = goal.at.answered-requires-clause-kept g c in
-    subst (KeepsAll c.args.market.now (limits_of c.args.taken.takings)) (same_dispatch g at.After-deref) (all_within g at.In-Within).0
+    subst (KeepsAll c.args.market.now (limits_of c.args.taken.takings)) (same_dispatch g at.After-are_same-then-are_same c.if-are_same-2.true) (all_within g at.In-Within).0
 
-pub answered-requires-clause-flows : goal.answered-requires-clause-flows
-answered-requires-clause-flows g c =
-    let at = goal.at.answered-requires-clause-flows g c in
-    ap (map g.N.Exact.value) c.deref.ensures.value ∙ (all_within g at.In-Within).1 ∙ ap (flows_at c.args.market.now) (same_dispatch g at.After-deref)
+pub answered-requires-clause-reach : goal.answered-requires-clause-reach
+answered-requires-clause-reach g c =
+    let at = goal.at.answered-requires-clause-reach g c in
+    subst (λ x. IsReach g.N.Exact.value c.args.market.now x c.in-Within.reach) (same_dispatch g at.After-are_same-then-are_same c.if-are_same-2.true) (all_within g at.In-Within).1

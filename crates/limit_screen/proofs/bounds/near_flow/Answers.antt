@@ -7,17 +7,15 @@ use Rattle.market_data.specs.Scales.{factor_one, pickup_one}
 use Rattle.market_model.specs.declared.limits.Cause.{Cause}
 use Rattle.market_model.specs.LimitRows.{flow_by}
 use Rattle.limit_rows.proofs.FlowSteps.{base_flow, flow_after, flow_picked, no_share}
-use Rattle.limit_screen.specs.Bounds.{AreWholeParts, IsNearFlow}
+use Rattle.limit_screen.specs.Bounds.{IsNearFlow}
 use Rattle.limit_screen.proofs.Casts.{narrow, narrow_is}
-use Rattle.limit_screen.proofs.PartLemmas.{of_some}
 use Rattle.limit_screen.proofs.bounds.near_flow.Goals as goal
 
 pub returns-in-Base-clause-near : goal.returns-in-Base-clause-near
-returns-in-Base-clause-near c = λ carried given.
+returns-in-Base-clause-near c = λ carried parts.
     let m = c.args.market.now in
     let l = c.args.row.line in
     let own = carried.line l in
-    let parts = of_some (λ p. AreWholeParts m carried p.now) c.args.parts given c.in_ok-parts.parts c.in_ok-parts.was in
     let known : narrow c.in_ok-own.own ≡ c.in_ok-own.own = search rules in
     let floor : IsFloor own (narrow c.in_ok-own.own) = subst (IsFloor own) (sym known) (parts.line l c.in_ok-own.own (ap (λ (xs : List (Option ℤ)). slice_get xs l) (sym c.deref.ensures.value) ∙ c.in_ok-own.ensures)) in
     subst (λ (x : Fraction). IsNearFlow x c.near_flow_with.result)
@@ -25,14 +23,13 @@ returns-in-Base-clause-near c = λ carried given.
     (c.near_flow_with.ensures.near own own floor floor)
 
 pub returns-in_ok-gone-in-Branch-clause-near : goal.returns-in_ok-gone-in-Branch-clause-near
-returns-in_ok-gone-in-Branch-clause-near c = λ carried given.
+returns-in_ok-gone-in-Branch-clause-near c = λ carried parts.
     let m = c.args.market.now in
     let l = c.args.row.line in
     let k = c.in-Branch.lost in
     let h = c.loss_of-factor.result in
     let own = carried.line l in
     let gone = carried.line k in
-    let parts = of_some (λ p. AreWholeParts m carried p.now) c.args.parts given c.in_ok-parts.parts c.in_ok-parts.was in
     let known : narrow c.in_ok-own.own ≡ c.in_ok-own.own = search rules in
     let known' : narrow c.in_ok-gone-in-Branch.gone ≡ c.in_ok-gone-in-Branch.gone = search rules in
     let floor : IsFloor own (narrow c.in_ok-own.own) = subst (IsFloor own) (sym known) (parts.line l c.in_ok-own.own (ap (λ (xs : List (Option ℤ)). slice_get xs l) (sym c.deref.ensures.value) ∙ c.in_ok-own.ensures)) in
@@ -46,14 +43,13 @@ returns-in_ok-gone-in-Branch-clause-near c = λ carried given.
     (c.near_flow_with-in-Branch.ensures.near own gone floor floor')
 
 pub returns-in_ok-factor-in-UnitOutage-clause-near : goal.returns-in_ok-factor-in-UnitOutage-clause-near
-returns-in_ok-factor-in-UnitOutage-clause-near c = λ carried given.
+returns-in_ok-factor-in-UnitOutage-clause-near c = λ carried parts.
     let m = c.args.market.now in
     let l = c.args.row.line in
     let k = c.in-UnitOutage.outage in
     let h = c.in_ok-factor-in-UnitOutage.factor in
     let own = carried.line l in
     let gone = carried.lost k in
-    let parts = of_some (λ p. AreWholeParts m carried p.now) c.args.parts given c.in_ok-parts.parts c.in_ok-parts.was in
     let known : narrow c.in_ok-own.own ≡ c.in_ok-own.own = search rules in
     let known' : narrow c.in_ok-gone-in-UnitOutage.gone ≡ c.in_ok-gone-in-UnitOutage.gone = search rules in
     let factor : narrow h ≡ h = search rules in

@@ -1,33 +1,19 @@
-use Rattle.std.proofs.Common.{sym, ap, subst, ◌∙◌}
-use Rattle.fraction_theory.specs.Fraction.{Fraction, ◌-ℚ◌}
-use Rattle.fraction_theory.specs.Order.{◌<ℚ◌, ◌≤ℚ◌}
-use Rattle.exact_fraction.specs.Passes.{IsTooLarge}
-use Rattle.exact_fraction.proofs.Excesses.{excess_fits}
-use Rattle.market_model.specs.Dispatch.{zero}
-use Rattle.limit_rows.proofs.FlowSizes.{not_past}
-use Rattle.limit_screen.proofs.ScreenLemmas.{above_nil, below_nil}
+use Rattle.std.proofs.Common.{inl, inr, subst}
+use Rattle.fraction_theory.specs.Signs.{abs_ℚ}
+use Rattle.fraction_theory.proofs.OrderLaws.{<ℚ-≤ℚ, ≤ℚ_of_same}
+use Rattle.limit_screen.specs.Screening.{StandsTo}
+use Rattle.limit_screen.proofs.ScreenLemmas.{below_nil}
 use Rattle.limit_screen.proofs.screening.beyond.Goals as goal
 
-pub returns-in_ok-exact_difference-in-Greater-clause-overrun : goal.returns-in_ok-exact_difference-in-Greater-clause-overrun
-returns-in_ok-exact_difference-in-Greater-clause-overrun g c =
-    let is = c.in_ok-exact_difference-in-Greater.ensures.exact ∙ ap (λ (x : Fraction). x -ℚ g.N.Exact.value c.args.limit) c.size-size.ensures in (
-      subst (λ x. zero <ℚ x) (sym c.in_ok-exact_difference-in-Greater.ensures.exact) (above_nil (g.N.Exact.value c.size-size.result) (g.N.Exact.value c.args.limit) c.in-Greater.ensures),
-      is,
-    )
-
-pub returns-in-Less : goal.returns-in-Less
-returns-in-Less g c = record {
-  overrun =
-      subst (λ x. (x -ℚ g.N.Exact.value c.args.limit) ≤ℚ zero) c.size-size.ensures
-      (below_nil (g.N.Exact.value c.size-size.result) (g.N.Exact.value c.args.limit) (not_past c.order.result (g.N.Exact.value c.size-size.result) (g.N.Exact.value c.args.limit) c.order.ensures c.in-Less.is));
-  fits = tt;
-}
-
-pub returns-in_err-exact_difference-in-Greater-clause-fits : goal.returns-in_err-exact_difference-in-Greater-clause-fits
-returns-in_err-exact_difference-in-Greater-clause-fits g c =
-    let mw = c.requires.0 in
-    let size = c.size-size.result in
-    let within = g.met.N.Exact.value_fits size in
-    absurd
-    (excess_fits g.N.Exact.bound (g.N.Exact.value size) mw c.requires.1 (subst (λ x. x <ℚ g.N.Exact.value size) c.requires.2 c.in-Greater.ensures) within.0 within.1
-    (subst (λ x. IsTooLarge g.N.Exact.bound (g.N.Exact.value size -ℚ x)) c.requires.2 c.in_err-exact_difference-in-Greater.ensures.too_large))
+pub returns-in-Below : goal.returns-in-Below
+returns-in-Below g c =
+    let value = g.N.Exact.value in
+    let size = abs_ℚ (value c.args.flow) in
+    let limit = value c.args.limit in
+    record {
+      overrun = elim c.in-Below.is [
+        | inl e ↦ below_nil size limit (<ℚ-≤ℚ size limit (subst (StandsTo value size limit) e c.in_ok-overrun.ensures.stands))
+        | inr e ↦ below_nil size limit (≤ℚ_of_same size limit (subst (StandsTo value size limit) e c.in_ok-overrun.ensures.stands))
+      ];
+      fits = tt;
+    }

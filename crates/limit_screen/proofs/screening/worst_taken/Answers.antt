@@ -7,8 +7,8 @@ use Rattle.limit_screen.specs.Screening.{IsWorstOf, taken_rows}
 use Rattle.limit_screen.proofs.ScreenLemmas.{all_keep_by}
 use Rattle.limit_screen.proofs.screening.worst_taken.Goals as goal
 
-pub with_row_by_parts-requires-clause-row : goal.with_row_by_parts-requires-clause-row
-with_row_by_parts-requires-clause-row g c =
+pub with_row-requires-clause-row : goal.with_row-requires-clause-row
+with_row-requires-clause-row g c =
     taken_listed c.args.market.now _ _ _ c.loop-row.yielded (c.into_iter-row-iterator.ensures.into_iter_gives ∙ c.rows-row-items.ensures.rows) c.loop-row.yielded_by c.next.result c.in-Some.row c.in-Some.is c.next.ensures.steps
 
 pub loop-row-preserved : goal.loop-row-preserved
