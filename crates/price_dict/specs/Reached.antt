@@ -24,8 +24,8 @@ reached_rows m x = filter (is_reached m x) (rows m)
 
 -- what is reached at a dispatch
 pub record AreReached (m : Parts) (x : Dispatch) (reached : Reached) : Type 0 where
-  pub rows : reached.rows ≡ reached_rows m x
-  pub units : reached.units ≡ used_up_units m x
+  pub rows : reached.rows.now ≡ reached_rows m x
+  pub units : reached.units.now ≡ used_up_units m x
 
 -- the columns that are put in, in the order of their names
 abbrev pub columns_put : Parts → Dispatch → List Variable
@@ -33,7 +33,7 @@ columns_put m x = (Energy ∷ Reserve ∷ []) ++ (flat_map two_sides (reached_ro
 
 -- the same by what is reached
 abbrev pub columns_of : Reached → List Variable
-columns_of reached = (Energy ∷ Reserve ∷ []) ++ (flat_map two_sides reached.rows ++ map Room reached.units)
+columns_of reached = (Energy ∷ Reserve ∷ []) ++ (flat_map two_sides reached.rows.now ++ map Room reached.units.now)
 
 -- prices of the market, no two of one name
 pub record AreColumns (m : Parts) (columns : List Variable) : Type 0 where

@@ -9,24 +9,24 @@ use price_system::Variable;
 use std::alloc::Global;
 
 /// The rows whose flow is at its limit or beyond, and the places of the units that use up their rooms, in the market's order.
-#[derive(Drop)]
-pub struct Reached {
-    pub rows: List<Row>,
-    pub units: List<usize>,
+#[derive(Clone, Copy)]
+pub struct Reached<'a> {
+    pub rows: &'a [Row],
+    pub units: &'a [usize],
 }
 
 /// The columns of a dictionary where this is reached: the prices of energy and of reserve, then those of these limits, and of these rooms.
-pub(crate) fn columns_of(alloc: Global, reached: &Reached) -> Result<List<Variable>, Memory>
-    ensures { IfOk result (λ columns. columns ≡ columns_of reached.now) }
+pub(crate) fn columns_of(alloc: Global, reached: Reached<'_>) -> Result<List<Variable>, Memory>
+    ensures { IfOk result (λ columns. columns ≡ columns_of reached.entry) }
 {
     let mut columns = List::new(alloc);
     columns.push(Variable::Energy)?;
     columns.push(Variable::Reserve)?;
-    for row in reached.rows.slice() {
+    for row in reached.rows {
         columns.push(Variable::Up(*row))?;
         columns.push(Variable::Down(*row))?;
     }
-    for unit in reached.units.slice() {
+    for unit in reached.units {
         columns.push(Variable::Room(*unit))?;
     }
     Ok(columns)

@@ -110,12 +110,12 @@ fn put_offers<N: Exact>(
 pub fn start<N: Exact>(
     alloc: Global,
     market: &Market,
-    reached: &Reached,
+    reached: Reached<'_>,
 ) -> Result<Dict<N>, Stop<N>>
-    requires { (x : Dispatch) × AreReached market.now x reached.now }
-    ensures holds { (x : Dispatch) → AreReached market.now x reached.now → IfOk result (HoldsPrices market.now x) }
+    requires { (x : Dispatch) × AreReached market.now x reached }
+    ensures holds { (x : Dispatch) → AreReached market.now x reached.entry → IfOk result (HoldsPrices market.now x) }
     ensures others { IfOk result (λ dict. dict.others ≡ dict.columns) }
-    ensures stops { (x : Dispatch) → AreReached market.now x reached.now → IfErr result (StopsBy N.value (IsEntriesRefusal market.now x N.bound)) }
+    ensures stops { (x : Dispatch) → AreReached market.now x reached.entry → IfErr result (StopsBy N.value (IsEntriesRefusal market.now x N.bound)) }
 {
     let _lines = market.lines();
     let limits = count(market);

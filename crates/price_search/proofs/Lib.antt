@@ -4,6 +4,7 @@ mod CapSums
 mod EnergyLemmas
 mod FirstLemmas
 mod KeptLemmas
+pub mod NumberLaws
 mod PosedLemmas
 mod ReadingLemmas
 mod RowLemmas

@@ -74,19 +74,19 @@ module _ (m : Parts) (x : Dispatch) (reached : Reached) (d : Dictionary) (are : 
   abbrev rooms : List Variable
   rooms = map Room (used_up_units m x)
 
-  row_count : length reached.rows ≡ length (reached_rows m x)
+  row_count : length reached.rows.now ≡ length (reached_rows m x)
   row_count = ap length are.rows
 
-  unit_count : length reached.units ≡ length (used_up_units m x)
+  unit_count : length reached.units.now ≡ length (used_up_units m x)
   unit_count = ap length are.units
 
   put_count : length d.columns ≡ length (columns_put m x)
   put_count = ap length holds.columns ∙ length-map (columns_put m x) (name m)
 
-  behind_count : length (sides ++ rooms) ≡ 2 * length reached.rows + length reached.units
+  behind_count : length (sides ++ rooms) ≡ 2 * length reached.rows.now + length reached.units.now
   behind_count = length-append sides rooms ∙ Prim.omega (arith, length-sides (reached_rows m x), length-map (used_up_units m x) Room, row_count, unit_count)
 
-  pub column_count : length d.columns ≡ 2 + (2 * length reached.rows + length reached.units)
+  pub column_count : length d.columns ≡ 2 + (2 * length reached.rows.now + length reached.units.now)
   column_count = put_count ∙ Prim.omega (arith, behind_count)
 
   column_at : (k : ℕ) → k < length d.columns → slice_index d.columns k ≡ name m (get_or (columns_put m x) k Energy)
@@ -98,48 +98,48 @@ module _ (m : Parts) (x : Dispatch) (reached : Reached) (d : Dictionary) (are : 
   reserve_at : slice_index d.columns 1 ≡ name m Reserve
   reserve_at = column_at 1 (Prim.omega (arith, column_count))
 
-  side_column : (k : ℕ) → k < 2 * length reached.rows → slice_index d.columns (2 + k) ≡ name m (get_or sides k Energy)
+  side_column : (k : ℕ) → k < 2 * length reached.rows.now → slice_index d.columns (2 + k) ≡ name m (get_or sides k Energy)
   side_column k lt =
       column_at (2 + k) (Prim.omega (arith, lt, column_count))
       ∙ ap (name m) (get_or-append-add (Energy ∷ Reserve ∷ []) (sides ++ rooms) k Energy
       ∙ get_or_append_left sides rooms Energy k (Prim.omega (arith, lt, row_count, length-sides (reached_rows m x))))
 
-  pub up_at : (k : ℕ) (e : Row) → k < length reached.rows → slice_index d.columns (2 + 2 * k) ≡ up_name m (get_or reached.rows k e)
+  pub up_at : (k : ℕ) (e : Row) → k < length reached.rows.now → slice_index d.columns (2 + 2 * k) ≡ up_name m (get_or reached.rows.now k e)
   up_at k e lt =
       let both = sides_at (reached_rows m x) k (2 * k) Energy e (Prim.omega (arith, lt, row_count)) refl in
       side_column (2 * k) (Prim.omega (arith, lt)) ∙ ap (name m) both.0 ∙ ap (λ (rs : List Row). up_name m (get_or rs k e)) (sym are.rows)
 
-  pub down_at : (k : ℕ) (e : Row) → k < length reached.rows → slice_index d.columns (3 + 2 * k) ≡ down_name m (get_or reached.rows k e)
+  pub down_at : (k : ℕ) (e : Row) → k < length reached.rows.now → slice_index d.columns (3 + 2 * k) ≡ down_name m (get_or reached.rows.now k e)
   down_at k e lt =
       let both = sides_at (reached_rows m x) k (2 * k) Energy e (Prim.omega (arith, lt, row_count)) refl in
       ap (slice_index d.columns) (let same : 3 + 2 * k ≡ 2 + suc (2 * k) = Prim.omega arith in same)
       ∙ side_column (suc (2 * k)) (Prim.omega (arith, lt)) ∙ ap (name m) both.1 ∙ ap (λ (rs : List Row). down_name m (get_or rs k e)) (sym are.rows)
 
-  pub room_at : (k e : ℕ) → k < length reached.units → slice_index d.columns (2 + 2 * length reached.rows + k) ≡ room_name m (get_or reached.units k e)
+  pub room_at : (k e : ℕ) → k < length reached.units.now → slice_index d.columns (2 + 2 * length reached.rows.now + k) ≡ room_name m (get_or reached.units.now k e)
   room_at k e lt =
-      column_at (2 + 2 * length reached.rows + k) (Prim.omega (arith, lt, column_count))
+      column_at (2 + 2 * length reached.rows.now + k) (Prim.omega (arith, lt, column_count))
       ∙ ap (λ (n : ℕ). name m (get_or (columns_put m x) n Energy))
-      (let same : 2 + 2 * length reached.rows + k ≡ 2 + (length sides + k) = Prim.omega (arith, row_count, length-sides (reached_rows m x)) in same)
+      (let same : 2 + 2 * length reached.rows.now + k ≡ 2 + (length sides + k) = Prim.omega (arith, row_count, length-sides (reached_rows m x)) in same)
       ∙ ap (name m) (get_or-append-add (Energy ∷ Reserve ∷ []) (sides ++ rooms) (length sides + k) Energy
       ∙ get_or-append-add sides rooms k Energy
       ∙ get_or-map Room (used_up_units m x) k e Energy (Prim.omega (arith, lt, unit_count))
       ∙ ap (λ (us : List ℕ). Room (get_or us k e)) (sym are.units))
 
   -- a limit that is reached is one of the market, and a unit whose room is used up offers reserve
-  pub row_among : (k : ℕ) (e : Row) → k < length reached.rows → Contains (rows m) (get_or reached.rows k e)
+  pub row_among : (k : ℕ) (e : Row) → k < length reached.rows.now → Contains (rows m) (get_or reached.rows.now k e)
   row_among k e lt =
-      let here : Contains (reached_rows m x) (get_or reached.rows k e) = subst (λ (rs : List Row). Contains rs (get_or reached.rows k e)) are.rows (k, lt, same_default reached.rows k e) in
-      (Contains-from_filter (λ r. reaches (flow m x r) (limit m r)) (rows m) (get_or reached.rows k e) here).0
+      let here : Contains (reached_rows m x) (get_or reached.rows.now k e) = subst (λ (rs : List Row). Contains rs (get_or reached.rows.now k e)) are.rows (k, lt, same_default reached.rows.now k e) in
+      (Contains-from_filter (λ r. reaches (flow m x r) (limit m r)) (rows m) (get_or reached.rows.now k e) here).0
     where
       same_default : (rs : List Row) (k : ℕ) (e : Row) → get_or rs k (get_or rs k e) ≡ get_or rs k e
       same_default [] k e = refl
       same_default (r ∷ rs) nought e = refl
       same_default (r ∷ rs) (suc k) e = same_default rs k e
 
-  pub unit_among : (k e : ℕ) → k < length reached.units → Contains (reserve_units m) (get_or reached.units k e)
+  pub unit_among : (k e : ℕ) → k < length reached.units.now → Contains (reserve_units m) (get_or reached.units.now k e)
   unit_among k e lt =
-      let here : Contains (used_up_units m x) (get_or reached.units k e) = subst (λ (us : List ℕ). Contains us (get_or reached.units k e)) are.units (k, lt, same_default reached.units k e) in
-      (Contains-from_filter (uses_up m x) (reserve_units m) (get_or reached.units k e) here).0
+      let here : Contains (used_up_units m x) (get_or reached.units.now k e) = subst (λ (us : List ℕ). Contains us (get_or reached.units.now k e)) are.units (k, lt, same_default reached.units.now k e) in
+      (Contains-from_filter (uses_up m x) (reserve_units m) (get_or reached.units.now k e) here).0
     where
       same_default : (us : List ℕ) (k e : ℕ) → get_or us k (get_or us k e) ≡ get_or us k e
       same_default [] k e = refl
@@ -147,43 +147,32 @@ module _ (m : Parts) (x : Dispatch) (reached : Reached) (d : Dictionary) (are : 
       same_default (u ∷ us) (suc k) e = same_default us k e
 
   -- ---- what is read of one more
-  module _ (rs : List Row) (k : ℕ) (e : Row) (same : rs ≡ reached.rows) (lt : k < length rs) where
-    inside : k < length reached.rows
-    inside = Prim.omega (arith, lt, ap length same)
+  module _ (k : ℕ) (e : Row) (lt : k < length reached.rows.now) where
+    pub row_inside : IsMarket m → ((get_or reached.rows.now k e).line < length m.lines) × IsCauseOf m (get_or reached.rows.now k e).cause
+    row_inside market = at_places m market (get_or reached.rows.now k e) (row_among k e lt)
 
-    row_same : get_or rs k e ≡ get_or reached.rows k e
-    row_same = ap (λ (ss : List Row). get_or ss k e) same
-
-    pub row_inside : IsMarket m → ((get_or rs k e).line < length m.lines) × IsCauseOf m (get_or rs k e).cause
-    row_inside market = at_places m market (get_or rs k e) (subst (Contains (rows m)) (sym row_same) (row_among k e inside))
-
-    pub limit_more : (old new : List (Dual Fraction)) (id : RowId) (a b : Fraction) → old ≡ flat_map (limit_noted m d) (take k reached.rows) → new ≡ old ++ limit_dual id a b
-        → id ≡ row_id m (get_or rs k e) → a ≡ price_noted d (slice_index d.columns (2 + 2 * k)) → b ≡ price_noted d (slice_index d.columns (3 + 2 * k))
-        → new ≡ flat_map (limit_noted m d) (take (k + 1) reached.rows)
+    pub limit_more : (old new : List (Dual Fraction)) (id : RowId) (a b : Fraction) → old ≡ flat_map (limit_noted m d) (take k reached.rows.now) → new ≡ old ++ limit_dual id a b
+        → id ≡ row_id m (get_or reached.rows.now k e) → a ≡ price_noted d (slice_index d.columns (2 + 2 * k)) → b ≡ price_noted d (slice_index d.columns (3 + 2 * k))
+        → new ≡ flat_map (limit_noted m d) (take (k + 1) reached.rows.now)
     limit_more old new id a b before more named up down =
-        let r : Row = get_or reached.rows k e in
+        let r : Row = get_or reached.rows.now k e in
         let here : limit_dual id a b ≡ limit_noted m d r =
-        ap (λ (i : RowId). limit_dual i a b) (named ∙ ap (row_id m) row_same)
-        ∙ ap₂ (λ (p q : Fraction). limit_dual (row_id m r) p q) (up ∙ ap (price_noted d) (up_at k e inside)) (down ∙ ap (price_noted d) (down_at k e inside)) in
-        more ∙ ap₂ (λ (xs ys : List (Dual Fraction)). xs ++ ys) before here ∙ sym (flat_more (limit_noted m d) reached.rows k e inside)
+        ap (λ (i : RowId). limit_dual i a b) named
+        ∙ ap₂ (λ (p q : Fraction). limit_dual (row_id m r) p q) (up ∙ ap (price_noted d) (up_at k e lt)) (down ∙ ap (price_noted d) (down_at k e lt)) in
+        more ∙ ap₂ (λ (xs ys : List (Dual Fraction)). xs ++ ys) before here ∙ sym (flat_more (limit_noted m d) reached.rows.now k e lt)
 
-  module _ (us : List ℕ) (k : ℕ) (same : us ≡ reached.units) (lt : k < length us) where
-    within : k < length reached.units
-    within = Prim.omega (arith, lt, ap length same)
+  module _ (k : ℕ) (lt : k < length reached.units.now) where
+    pub unit_inside : get_or reached.units.now k 0 < length m.units
+    unit_inside = listed-inside m (get_or reached.units.now k 0) (unit_among k 0 lt)
 
-    unit_same : get_or us k 0 ≡ get_or reached.units k 0
-    unit_same = ap (λ (ws : List ℕ). get_or ws k 0) same
-
-    pub unit_inside : get_or us k 0 < length m.units
-    unit_inside = listed-inside m (get_or us k 0) (subst (Contains (reserve_units m)) (sym unit_same) (unit_among k 0 within))
-
-    pub room_more : (old new : List (RoomDual Fraction)) (row count : ℕ) (a : Fraction) → old ≡ flat_map (room_noted m d) (take k reached.units) → new ≡ old ++ room_dual row a
-        → row ≡ (unit_at m (get_or us k 0)).row → count ≡ length reached.rows → a ≡ price_noted d (slice_index d.columns (2 + 2 * count + k)) → new ≡ flat_map (room_noted m d) (take (k + 1) reached.units)
+    pub room_more : (old new : List (RoomDual Fraction)) (row count : ℕ) (a : Fraction) → old ≡ flat_map (room_noted m d) (take k reached.units.now) → new ≡ old ++ room_dual row a
+        → row ≡ (unit_at m (get_or reached.units.now k 0)).row → count ≡ length reached.rows.now → a ≡ price_noted d (slice_index d.columns (2 + 2 * count + k))
+        → new ≡ flat_map (room_noted m d) (take (k + 1) reached.units.now)
     room_more old new row count a before more named size price =
-        let u : ℕ = get_or reached.units k 0 in
+        let u : ℕ = get_or reached.units.now k 0 in
         let here : room_dual row a ≡ room_noted m d u =
-        ap₂ (λ (i : ℕ) (p : Fraction). room_dual i p) (named ∙ ap (λ (w : ℕ). (unit_at m w).row) unit_same) (price ∙ ap (λ (n : ℕ). price_noted d (slice_index d.columns (2 + 2 * n + k))) size ∙ ap (price_noted d) (room_at k 0 within)) in
-        more ∙ ap₂ (λ (xs ys : List (RoomDual Fraction)). xs ++ ys) before here ∙ sym (flat_more (room_noted m d) reached.units k 0 within)
+        ap₂ (λ (i : ℕ) (p : Fraction). room_dual i p) named (price ∙ ap (λ (n : ℕ). price_noted d (slice_index d.columns (2 + 2 * n + k))) size ∙ ap (price_noted d) (room_at k 0 lt)) in
+        more ∙ ap₂ (λ (xs ys : List (RoomDual Fraction)). xs ++ ys) before here ∙ sym (flat_more (room_noted m d) reached.units.now k 0 lt)
 
 -- ---- the duals of the point
 module _ (m : Parts) (x : Dispatch) (d : Dictionary) (market : IsMarket m) where

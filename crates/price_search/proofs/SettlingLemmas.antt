@@ -6,7 +6,6 @@ use Rattle.std.proofs.lemmas.List.Elements.{Contains-append_right}
 use Rattle.fraction_theory.specs.Fraction.{Fraction, neg_ℚ, ◌+ℚ◌}
 use Rattle.fraction_theory.specs.Order.{◌≤ℚ◌}
 use Rattle.fraction_theory.specs.Signs.{abs_ℚ}
-use Rattle.fraction_theory.specs.Sums.{Term}
 use Rattle.fraction_theory.proofs.ListSums.{filter-members}
 use Rattle.fraction_theory.proofs.OrderLaws.{NonNeg-one, NonNeg_from, by_le1, by_le2, ≤ℚ_trans}
 use Rattle.fraction_theory.proofs.Ring.{at, pnil, pone, pneg, ◌⊕◌, ◌⊗◌}
@@ -14,16 +13,16 @@ use Rattle.exact_fraction.specs.declared.Passed.{Passed}
 use Rattle.linear_dict.specs.Causes.{IsPairOf}
 use Rattle.linear_dict.specs.Dictionaries.{Dictionary, note_of}
 use Rattle.limit_rows.proofs.ApartLemmas.{names_apart}
-use Rattle.limit_screen.specs.Flows.{IsFlowsRefusal, carried_at, flows_at}
-use Rattle.limit_screen.specs.Reaching.{reached_by, reaches}
+use Rattle.limit_screen.specs.declared.reaching.Reach.{Reach}
+use Rattle.limit_screen.specs.Flows.{carried_at, flows_at}
+use Rattle.limit_screen.specs.Reaching.{IsReach, reaches, used_up_units}
 use Rattle.limit_screen.proofs.ScreenLemmas.{law_of_row_flows}
 use Rattle.market_model.specs.declared.answered.Duals.{Duals}
 use Rattle.market_model.specs.declared.participants.Parts.{Parts}
-use Rattle.market_model.specs.Dispatch.{Dispatch, block_at, dispatch_by, dispatch_with, injection, output, zero}
+use Rattle.market_model.specs.Dispatch.{Dispatch, block_at, dispatch_with, zero}
 use Rattle.market_model.specs.LimitRows.{flow_by, limit, rows}
 use Rattle.market_model.specs.Market.{IsMarket}
 use Rattle.market_model.specs.Optimality.{Supports, energy_worth}
-use Rattle.market_model.specs.SumTables.{NetworkSum, carried_by_network, carried_by_unit, carried_on_line, flow_of_line, injection_at, output_of_lost, put_in_at_bus}
 use Rattle.market_model.specs.declared.stops.Stop.{Stop}
 use Rattle.market_model.specs.declared.stops.Stop.TheVariants.{Passed as StoppedBy, Memory as NoMemory}
 use Rattle.market_model.specs.Stops.{OnPassed, StopsBy}
@@ -46,7 +45,8 @@ use Rattle.price_system.proofs.NameLemmas.{block_at_place, block_listed, length-
 use Rattle.price_system.proofs.PointLaws.{block_worth}
 use Rattle.price_system.proofs.SizeLemmas.{at_most_size, first_most, nil_plus, opposite_at_most}
 use Rattle.price_dict.specs.Holding.{HoldsPrices}
-use Rattle.price_dict.specs.Reached.{AreReached, columns_put, is_kept, is_reached, reached_rows, reached_system}
+use Rattle.price_dict.specs.declared.reached.Reached.{Reached}
+use Rattle.price_dict.specs.Reached.{AreReached, columns_put, is_kept, is_reached, reached_system}
 use Rattle.price_search.specs.declared.point.PricePoint.{PricePoint}
 use Rattle.price_search.specs.declared.posing.PriceBounds.{PriceBounds}
 use Rattle.price_search.specs.Energy.{ShowsWorths}
@@ -56,31 +56,14 @@ use Rattle.price_search.specs.Searching.{AsksFirst, HoldsFirstPrices}
 use Rattle.price_search.specs.Settling.{HasCaps, IsPointRefusal, IsSupportedWithin, of_pair}
 use Rattle.price_search.proofs.KeptLemmas.{put_is_kept}
 
--- ---- flows are the same whatever reserve is accepted beside
-module _ (m : Parts) (blocks reserve : List Fraction) where
-  flows_of_blocks : flows_at m (dispatch_by blocks) ≡ flows_at m (dispatch_with blocks reserve)
-  unfolding injection output
-  flows_of_blocks = refl
-
-  flow_sum : (terms : List Term) → NetworkSum m (dispatch_by blocks) terms → NetworkSum m (dispatch_with blocks reserve) terms
-  unfolding injection
-  flow_sum terms (put_in_at_bus same (injection_at i lt)) = put_in_at_bus _ (injection_at i lt)
-  flow_sum terms (carried_by_network same (carried_on_line also (flow_of_line l lt))) = carried_by_network _ (carried_on_line _ (flow_of_line l lt))
-  flow_sum terms (carried_by_network same (carried_by_unit also (output_of_lost k lt))) = carried_by_network _ (carried_by_unit _ (output_of_lost k lt))
-
-  pub flows_refusal : (bound : ℕ) (p : Passed Fraction) → IsFlowsRefusal m (dispatch_by blocks) bound p → IsFlowsRefusal m (dispatch_with blocks reserve) bound p
-  flows_refusal bound p (terms, sum, why) = (terms, flow_sum terms sum, why)
-
--- the flows that were made are those of the dispatch
-pub flows_are : {N : Type 0} (value : N → Fraction) (m : Parts) (accepted reserved flows made : List N) → flows ≡ made → map value made ≡ flows_at m (dispatch_by (map value accepted))
-    → map value flows ≡ flows_at m (dispatch_with (map value accepted) (map value reserved))
-flows_are value m accepted reserved flows made same are = ap (map value) same ∙ are ∙ flows_of_blocks m (map value accepted) (map value reserved)
-
--- ---- the limits that are reached, by flows
-pub rows_reached : (m : Parts) (x : Dispatch) (fs : List Fraction) → IsMarket m → fs ≡ flows_at m x → reached_by m (carried_at m fs) ≡ reached_rows m x
-rows_reached m x fs market are =
-    filter-members (λ r. reaches (flow_by m (carried_at m fs) r) (limit m r)) (is_reached m x) (rows m)
-    (λ r k. ap (λ (f : Fraction). reaches f (limit m r)) (law_of_row_flows m x fs r market are k))
+-- ---- what is held of a dispatch, with the rooms that are used up, is what it reaches
+pub reach_is : {N : Type 0} (value : N → Fraction) (m : Parts) (x : Dispatch) (reach : Reach N) (reached : Reached) → IsMarket m → IsReach value m x reach
+    → reached.rows.now ≡ reach.rows.items → reached.units.now ≡ used_up_units m x → AreReached m x reached
+reach_is value m x reach reached market is rows_same units_same = record {
+  rows = rows_same ∙ is.rows ∙ filter-members (λ r. reaches (flow_by m (carried_at m (flows_at m x)) r) (limit m r)) (is_reached m x) (rows m)
+      (λ r k. ap (λ (f : Fraction). reaches f (limit m r)) (law_of_row_flows m x (flows_at m x) r market refl k));
+  units = units_same;
+}
 
 -- ---- caps
 nil_share : (most factor : Fraction) → zero ≤ℚ most → zero ≤ℚ factor → zero ≤ℚ share most factor
@@ -156,15 +139,15 @@ module _ (m : Parts) (x : Dispatch) (c : Caps) (d : Dictionary) (market : IsMark
       (law_of_first_duals m x has.duals c point p market has.proper has.supported has.caps shows.first margins)
 
 -- ---- a point as it is handed in
-pub point_is : {N : Type 0} (value : N → Fraction) (m : Parts) (point : PricePoint N) (made : List N) → length point.accepted.now ≡ length m.blocks → length point.reserved.now ≡ length m.reserve.offers
-    → point.flows.now ≡ made → map value made ≡ flows_at m (dispatch_by (map value point.accepted.now))
-    → AreReached m (dispatch_with (map value point.accepted.now) (map value point.reserved.now)) point.reached.now
+pub point_is : {N : Type 0} (value : N → Fraction) (m : Parts) (point : PricePoint N) (reach : Reach N) → length point.accepted.now ≡ length m.blocks → length point.reserved.now ≡ length m.reserve.offers
+    → IsReach value m (dispatch_with (map value point.accepted.now) (map value point.reserved.now)) reach → point.flows.now ≡ reach.flows.items
+    → AreReached m (dispatch_with (map value point.accepted.now) (map value point.reserved.now)) point.reached
     → IsPointOf value m (dispatch_with (map value point.accepted.now) (map value point.reserved.now)) point
-point_is value m point made blocks offers same are reached = record {
+point_is value m point reach blocks offers is same reached = record {
   blocks = blocks;
   offers = offers;
   dispatch = refl;
-  flows = flows_are value m point.accepted.now point.reserved.now point.flows.now made same are;
+  flows = ap (map value) same ∙ is.flows;
   reached = reached;
 }
 

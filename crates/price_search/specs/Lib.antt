@@ -1,5 +1,7 @@
 pub mod Caps
 pub mod Energy
+pub mod Laws
+pub mod Numbers
 pub mod Points
 pub mod PriceBounds
 pub mod Reading

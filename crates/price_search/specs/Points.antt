@@ -15,7 +15,7 @@ pub record IsPointOf {N : Type 0} (value : N → Fraction) (m : Parts) (x : Disp
   pub offers : length p.reserved.now ≡ length m.reserve.offers
   pub dispatch : x ≡ dispatch_with (map value p.accepted.now) (map value p.reserved.now)
   pub flows : map value p.flows.now ≡ flows_at m x
-  pub reached : AreReached m x p.reached.now
+  pub reached : AreReached m x p.reached
 
 -- the caps that these numbers are
 abbrev pub caps_at : {N : Type 0} → (N → Fraction) → PriceCaps N → Caps

@@ -4,8 +4,6 @@ use Rattle.std.specs.Prelude.{ℕ}
 use Rattle.fraction_theory.specs.Fraction.{Fraction}
 use Rattle.exact_fraction.specs.declared.Passed.{Passed}
 use Rattle.linear_system.specs.Pairs.{IsSystemPair}
-use Rattle.limit_rows.specs.Refusals.{IsAnyFlowRefusal}
-use Rattle.limit_screen.specs.Flows.{IsFlowsRefusal, carried_at, flows_at}
 use Rattle.market_model.specs.declared.answered.Duals.{Duals}
 use Rattle.market_model.specs.declared.participants.Parts.{Parts}
 use Rattle.market_model.specs.Dispatch.{Dispatch}
@@ -34,13 +32,7 @@ pub record HasCaps (m : Parts) (x : Dispatch) (c : Caps) : Type 0 where
   pub supported : Supports m x duals
   pub caps : AreCapsBy m x duals c
 
--- an operation refused where it is found what the dispatch reaches: in its flows, in the flow of a row, or in what a unit uses of its room
-pub data IsReachRefusal (m : Parts) (x : Dispatch) (bound : ℕ) (p : Passed Fraction) : Type 0 where
-  of_flows : IsFlowsRefusal m x bound p → IsReachRefusal m x bound p
-  of_row : IsAnyFlowRefusal m (carried_at m (flows_at m x)) bound p → IsReachRefusal m x bound p
-  of_room : IsRefusedAmong (RoomSum m x) bound p → IsReachRefusal m x bound p
-
--- where the first best point of the system of prices is found: in a factor, for a bound, or in the system without the prices that have to be 0
+-- an operation refused where the first best point of the system of prices is found: in a factor, for a bound, or in the system without the prices that have to be 0
 pub data IsPointRefusal (m : Parts) (x : Dispatch) (c : Caps) (bound : ℕ) (p : Passed Fraction) : Type 0 where
   of_entries : IsEntriesRefusal m x bound p → IsPointRefusal m x c bound p
   of_bounds : IsBoundsRefusal m x c bound p → IsPointRefusal m x c bound p
@@ -51,8 +43,8 @@ pub data IsSearchRefusal (m : Parts) (x : Dispatch) (c : Caps) (bound : ℕ) (p 
   of_point : IsPointRefusal m x c bound p → IsSearchRefusal m x c bound p
   of_energy : (v : ℕ → Fraction) → IsFirstBest (price_system m x c) (price_order m) v → IsEnergyRefusal m x (duals_of m v) bound p → IsSearchRefusal m x c bound p
 
--- on the way to them: in what is reached, or in or by caps that are made of duals which support the dispatch
+-- on the way to them: in what a unit uses of its room, or in or by caps that are made of duals which support the dispatch
 pub data IsPriceRefusal (m : Parts) (x : Dispatch) (e : Duals Fraction) (bound : ℕ) (p : Passed Fraction) : Type 0 where
-  of_reach : IsReachRefusal m x bound p → IsPriceRefusal m x e bound p
+  of_rooms : IsRefusedAmong (RoomSum m x) bound p → IsPriceRefusal m x e bound p
   of_caps : IsCapsRefusal m x e bound p → IsPriceRefusal m x e bound p
   of_search : (c : Caps) → ArePriceCaps m x e c → IsSearchRefusal m x c bound p → IsPriceRefusal m x e bound p

@@ -120,17 +120,17 @@ fn greatest_factor<N: Exact>(market: &Market, reached: &[Row]) -> Result<N, Pass
 /// fewer digits.
 pub(crate) fn price_caps<N: Exact>(
     market: &Market,
-    reached: &Reached,
+    reached: Reached<'_>,
     duals: &Duals<N>,
 ) -> Result<PriceCaps<N>, Passed<N>>
-    requires { (x : Dispatch) × AreReached market.now x reached.now }
-    ensures caps { (x : Dispatch) → AreReached market.now x reached.now → ProperDuals market.now (duals_at N.value duals.now) → IfOk result (λ caps. AreCapsBy market.now x (duals_at N.value duals.now) (caps_at N.value caps)) }
-    ensures told { (x : Dispatch) → AreReached market.now x reached.now → IfOk result (λ caps. ArePriceCaps market.now x (duals_at N.value duals.now) (caps_at N.value caps)) }
-    ensures stops { (x : Dispatch) → AreReached market.now x reached.now → IfErr result (λ passed. IsCapsRefusal market.now x (duals_at N.value duals.now) N.bound (passed_at N.value passed)) }
+    requires { (x : Dispatch) × AreReached market.now x reached }
+    ensures caps { (x : Dispatch) → AreReached market.now x reached.entry → ProperDuals market.now (duals_at N.value duals.now) → IfOk result (λ caps. AreCapsBy market.now x (duals_at N.value duals.now) (caps_at N.value caps)) }
+    ensures told { (x : Dispatch) → AreReached market.now x reached.entry → IfOk result (λ caps. ArePriceCaps market.now x (duals_at N.value duals.now) (caps_at N.value caps)) }
+    ensures stops { (x : Dispatch) → AreReached market.now x reached.entry → IfErr result (λ passed. IsCapsRefusal market.now x (duals_at N.value duals.now) N.bound (passed_at N.value passed)) }
 {
     let _lines = market.lines();
     let most = rounded_up(sum_of_prices(duals)?);
-    let greatest = greatest_factor(market, reached.rows.slice())?;
+    let greatest = greatest_factor(market, reached.rows)?;
     let factor = rounded_up(greatest);
     let all = exact_sum(datum(1), factor)?;
     let share = most.times(all)?;

@@ -4,6 +4,7 @@
 
 mod caps;
 mod energy;
+pub mod laws;
 mod point;
 mod posing;
 mod reading;

@@ -13,7 +13,7 @@ pub struct PricePoint<'a, N> {
     /// `limit_screen::flows` puts them.
     pub flows: &'a [N],
     /// The limits that are reached and the rooms that are used up.
-    pub reached: &'a Reached,
+    pub reached: Reached<'a>,
 }
 
 /// The most that all prices but that of energy may add up to, a size that the factor of no block's unit is above for a limit that is reached, and the

@@ -62,17 +62,17 @@ fn is_less<N: Exact>(left: N, right: N) -> bool
 
 /// What each column counts: 0 for energy, and 1 for every other price.
 fn column_prices<N: Exact>(alloc: Global, point: PricePoint<'_, N>) -> Result<List<N>, Memory>
-    ensures { IfOk result (λ prices. map N.value prices ≡ map column_price ((variable.Energy ∷ variable.Reserve ∷ []) ++ (flat_map two_sides point.entry.reached.now.rows ++ map variable.Room point.entry.reached.now.units))) }
+    ensures { IfOk result (λ prices. map N.value prices ≡ map column_price ((variable.Energy ∷ variable.Reserve ∷ []) ++ (flat_map two_sides point.entry.reached.rows.now ++ map variable.Room point.entry.reached.units.now))) }
 {
     let one: N = datum(1);
     let mut prices = List::new(alloc);
     prices.push(datum(0))?;
     prices.push(one)?;
-    for _row in point.reached.rows.slice() {
+    for _row in point.reached.rows {
         prices.push(one)?;
         prices.push(one)?;
     }
-    for _unit in point.reached.units.slice() {
+    for _unit in point.reached.units {
         prices.push(one)?;
     }
     Ok(prices)
@@ -221,10 +221,10 @@ fn push_limit_bounds<N: Exact>(
     bounds: &mut List<Bounds<N>>,
 ) -> Result<(), Stop<N>>
     requires { IsPointOf N.value market.now (dispatch_at N.value point) point }
-    ensures bounds { (vs : List Variable) → AreBounds N.value market.now (dispatch_at N.value point.entry) (caps_at N.value caps) vs bounds.old → IfOk result (λ _. AreBounds N.value market.now (dispatch_at N.value point.entry) (caps_at N.value caps) (vs ++ flat_map two_sides point.entry.reached.now.rows) bounds.new) }
+    ensures bounds { (vs : List Variable) → AreBounds N.value market.now (dispatch_at N.value point.entry) (caps_at N.value caps) vs bounds.old → IfOk result (λ _. AreBounds N.value market.now (dispatch_at N.value point.entry) (caps_at N.value caps) (vs ++ flat_map two_sides point.entry.reached.rows.now) bounds.new) }
     ensures stops { IfErr result (StopsBy N.value (IsBoundsRefusal market.now (dispatch_at N.value point.entry) (caps_at N.value caps) N.bound)) }
 {
-    for row in point.reached.rows.slice() {
+    for row in point.reached.rows {
         push_sides(market, point, caps, *row, bounds)?;
     }
     Ok(())
@@ -238,13 +238,13 @@ fn push_room_bounds<N: Exact>(
     bounds: &mut List<Bounds<N>>,
 ) -> Result<(), Memory>
     requires { IsPointOf N.value market.now (dispatch_at N.value point) point }
-    ensures { (vs : List Variable) → AreBounds N.value market.now (dispatch_at N.value point.entry) (caps_at N.value caps) vs bounds.old → IfOk result (λ _. AreBounds N.value market.now (dispatch_at N.value point.entry) (caps_at N.value caps) (vs ++ map variable.Room point.entry.reached.now.units) bounds.new) }
+    ensures { (vs : List Variable) → AreBounds N.value market.now (dispatch_at N.value point.entry) (caps_at N.value caps) vs bounds.old → IfOk result (λ _. AreBounds N.value market.now (dispatch_at N.value point.entry) (caps_at N.value caps) (vs ++ map variable.Room point.entry.reached.units.now) bounds.new) }
 {
     let used_up = Bounds {
         low: caps.most.neg(),
         high: datum(0),
     };
-    for _unit in point.reached.units.slice() {
+    for _unit in point.reached.units {
         bounds.push(used_up)?;
     }
     Ok(())

@@ -71,20 +71,19 @@ fn limits_shown<N: Exact>(
     alloc: Global,
     market: &Market,
     dict: &Dict<N>,
-    reached: &Reached,
+    reached: Reached<'_>,
 ) -> Result<List<Dual<N>>, Memory>
-    requires holds { (x : Dispatch) × AreReached market.now x reached.now × HoldsPrices market.now x dict.now }
-    ensures { (x : Dispatch) → AreReached market.now x reached.now → HoldsPrices market.now x dict.now
+    requires holds { (x : Dispatch) × AreReached market.now x reached × HoldsPrices market.now x dict.now }
+    ensures { (x : Dispatch) → AreReached market.now x reached.entry → HoldsPrices market.now x dict.now
         → IfOk result (λ limits. map (dual_at N.value) limits ≡ flat_map (limit_noted market.now dict.now) (reached_rows market.now x)) }
 {
     let _lines = market.lines();
     let _columns = dict.column_count();
-    let rows = reached.rows.slice();
     let mut limits = List::new(alloc);
-    for place in 0..rows.len() {
+    for place in 0..reached.rows.len() {
         let up = price_shown(dict, 2 + 2 * place);
         let down = price_shown(dict, 3 + 2 * place);
-        push_limit(&mut limits, name_at(market, rows[place]), up, down)?;
+        push_limit(&mut limits, name_at(market, reached.rows[place]), up, down)?;
     }
     Ok(limits)
 }
@@ -94,20 +93,23 @@ fn rooms_shown<N: Exact>(
     alloc: Global,
     market: &Market,
     dict: &Dict<N>,
-    reached: &Reached,
+    reached: Reached<'_>,
 ) -> Result<List<RoomDual<N>>, Memory>
-    requires holds { (x : Dispatch) × AreReached market.now x reached.now × HoldsPrices market.now x dict.now }
-    ensures { (x : Dispatch) → AreReached market.now x reached.now → HoldsPrices market.now x dict.now
+    requires holds { (x : Dispatch) × AreReached market.now x reached × HoldsPrices market.now x dict.now }
+    ensures { (x : Dispatch) → AreReached market.now x reached.entry → HoldsPrices market.now x dict.now
         → IfOk result (λ rooms. map (room_dual_at N.value) rooms ≡ flat_map (room_noted market.now dict.now) (used_up_units market.now x)) }
 {
     let _lines = market.lines();
     let _columns = dict.column_count();
     let first = 2 + 2 * reached.rows.len();
-    let units = reached.units.slice();
     let mut rooms = List::new(alloc);
-    for place in 0..units.len() {
+    for place in 0..reached.units.len() {
         let price = price_shown(dict, first + place);
-        push_room(&mut rooms, market.units().at(units[place]).row, price)?;
+        push_room(
+            &mut rooms,
+            market.units().at(reached.units[place]).row,
+            price,
+        )?;
     }
     Ok(rooms)
 }
@@ -117,10 +119,10 @@ pub(crate) fn duals_shown<N: Exact>(
     alloc: Global,
     market: &Market,
     dict: &Dict<N>,
-    reached: &Reached,
+    reached: Reached<'_>,
 ) -> Result<Duals<N>, Memory>
-    requires holds { (x : Dispatch) × AreReached market.now x reached.now × HoldsPrices market.now x dict.now }
-    ensures { (x : Dispatch) → AreReached market.now x reached.now → HoldsPrices market.now x dict.now
+    requires holds { (x : Dispatch) × AreReached market.now x reached × HoldsPrices market.now x dict.now }
+    ensures { (x : Dispatch) → AreReached market.now x reached.entry → HoldsPrices market.now x dict.now
         → IfOk result (λ duals. duals_at N.value duals ≡ duals_of market.now (with_nil (is_kept market.now x) (state_of dict.now).value)) }
 {
     let _lines = market.lines();

@@ -1,16 +1,15 @@
 //! The prices that are to be printed at a dispatch.
 
 ghost use Rattle.std.specs.Prelude.{◌≡◌, IfErr, IfOk, length, map};
-ghost use Rattle.limit_screen.specs.Flows.{flows_at};
+ghost use Rattle.limit_screen.specs.Reaching.{IsReach};
 ghost use Rattle.market_model.specs.Dispatch.{Dispatch, dispatch_with};
 ghost use Rattle.market_model.specs.Optimality.{ProperDuals, Supports};
 ghost use Rattle.market_model.specs.Stops.{StopsBy};
 ghost use Rattle.market_model.specs.Valued.{duals_at};
 ghost use Rattle.one_price.specs.FirstPrices.{AreFirstDuals};
-ghost use Rattle.price_dict.specs.Reached.{AreReached};
 ghost use Rattle.price_search.specs.Points.{IsPointOf, caps_at};
 ghost use Rattle.price_search.specs.Searching.{HoldsFirstPrices};
-ghost use Rattle.price_search.specs.Settling.{HasCaps, IsPointRefusal, IsPriceRefusal, IsReachRefusal, IsSearchRefusal, IsSupportedWithin};
+ghost use Rattle.price_search.specs.Settling.{HasCaps, IsPointRefusal, IsPriceRefusal, IsSearchRefusal, IsSupportedWithin};
 
 use crate::caps::price_caps;
 use crate::energy::energy_price;
@@ -19,47 +18,11 @@ use crate::posing::price_bounds;
 use crate::reading::duals_shown;
 use crate::solving::first_prices_dict;
 use exact_fraction::Exact;
-use limit_screen::{flows_made, reached_rows, used_up, whole_parts};
+use limit_screen::{Reach, used_up};
 use linear_dict::Dict;
 use market_model::{Duals, Market, Stop};
-use plain_list::{List, Memory};
 use price_dict::{Reached, start};
 use std::alloc::Global;
-
-/// These items in a list.
-fn listed<T: Copy>(alloc: Global, items: &[T]) -> Result<List<T>, Memory>
-    ensures { IfOk result (λ list. list ≡ items.now) }
-{
-    let mut list = List::new(alloc);
-    for item in items {
-        list.push(*item)?;
-    }
-    Ok(list)
-}
-
-/// What a dispatch reaches, where these are its flows.
-fn reached_at<N: Exact>(
-    alloc: Global,
-    market: &Market,
-    accepted: &[N],
-    reserved: &[N],
-    flows: &[N],
-) -> Result<Reached, Stop<N>>
-    requires accepted { length accepted.now ≡ length market.now.blocks }
-    requires reserved { length reserved.now ≡ length market.now.reserve.offers }
-    requires flows { map N.value flows.now ≡ flows_at market.now (dispatch_with (map N.value accepted.now) (map N.value reserved.now)) }
-    ensures reached { IfOk result (AreReached market.now (dispatch_with (map N.value accepted.now) (map N.value reserved.now))) }
-    ensures stops { IfErr result (StopsBy N.value (IsReachRefusal market.now (dispatch_with (map N.value accepted.now) (map N.value reserved.now)) N.bound)) }
-{
-    let _lines = market.lines();
-    let parts = whole_parts(alloc, market, flows)?;
-    let rows = reached_rows(alloc, market, flows, &parts)?;
-    let units = used_up(alloc, market, accepted, reserved)?;
-    Ok(Reached {
-        rows: listed(alloc, &rows)?,
-        units: listed(alloc, &units)?,
-    })
-}
 
 /// The dictionary that shows the first best point of the system of prices.
 fn first_point_dict<N: Exact>(
@@ -96,32 +59,53 @@ fn first_duals_within<N: Exact>(
     Ok(Duals { energy, ..duals })
 }
 
+/// Of the duals that support the dispatch of a point those that are to be printed, from some that do, by the caps that these give.
+fn first_duals_at<N: Exact>(
+    alloc: Global,
+    market: &Market,
+    point: PricePoint<'_, N>,
+    duals: &Duals<N>,
+) -> Result<Duals<N>, Stop<N>>
+    requires point { (x : Dispatch) × IsPointOf N.value market.now x point × Supports market.now x (duals_at N.value duals.now) }
+    requires proper { ProperDuals market.now (duals_at N.value duals.now) }
+    ensures first { (x : Dispatch) → IsPointOf N.value market.now x point.entry → Supports market.now x (duals_at N.value duals.now) → IfOk result (λ found. AreFirstDuals market.now x (duals_at N.value found)) }
+    ensures stops { (x : Dispatch) → IsPointOf N.value market.now x point.entry → IfErr result (StopsBy N.value (IsPriceRefusal market.now x (duals_at N.value duals.now) N.bound)) }
+{
+    let caps = price_caps(market, point.reached, duals)?;
+    first_duals_within(alloc, market, point, caps)
+}
+
 /// Of the duals that support a dispatch those that are to be printed, from some that do. All prices but that of energy add up to the least that they
 /// can, and then each is as low as can be, one after the other: those of rooms, from the last unit that offers reserve to the first, then those of
 /// limits, from the last row to the first and of each down before up, then that of reserve. Energy has the least price that it may have beside them;
-/// where there is no least, the greatest; where there is neither, 0. What is accepted is in 10^-9 MW, prices are in 10^-6 a MWh.
-pub fn first_duals<N: Exact>(
+/// where there is no least, the greatest; where there is neither, 0. What is accepted is in 10^-9 MW, prices are in 10^-6 a MWh. `reach`
+/// is what the dispatch carries and which rows it reaches.
+pub fn first_duals<'a, N: Exact>(
     alloc: Global,
     market: &Market,
-    accepted: &[N],
-    reserved: &[N],
+    accepted: &'a [N],
+    reserved: &'a [N],
     duals: &Duals<N>,
+    reach: &'a Reach<N>,
 ) -> Result<Duals<N>, Stop<N>>
     requires accepted { length accepted.now ≡ length market.now.blocks }
     requires reserved { length reserved.now ≡ length market.now.reserve.offers }
     requires proper { ProperDuals market.now (duals_at N.value duals.now) }
     requires supported { Supports market.now (dispatch_with (map N.value accepted.now) (map N.value reserved.now)) (duals_at N.value duals.now) }
+    requires reach { IsReach N.value market.now (dispatch_with (map N.value accepted.now) (map N.value reserved.now)) reach.now }
     ensures first { IfOk result (λ found. AreFirstDuals market.now (dispatch_with (map N.value accepted.now) (map N.value reserved.now)) (duals_at N.value found)) }
     ensures stops { IfErr result (StopsBy N.value (IsPriceRefusal market.now (dispatch_with (map N.value accepted.now) (map N.value reserved.now)) (duals_at N.value duals.now) N.bound)) }
 {
-    let flows = flows_made(alloc, market, accepted)?;
-    let reached = reached_at(alloc, market, accepted, reserved, &flows)?;
+    let _lines = market.lines();
+    let units = used_up(alloc, market, accepted, reserved)?;
     let point = PricePoint {
         accepted,
         reserved,
-        flows: &flows,
-        reached: &reached,
+        flows: &reach.flows,
+        reached: Reached {
+            rows: &reach.rows,
+            units: &units,
+        },
     };
-    let caps = price_caps(market, &reached, duals)?;
-    first_duals_within(alloc, market, point, caps)
+    first_duals_at(alloc, market, point, duals)
 }

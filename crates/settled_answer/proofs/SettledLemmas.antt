@@ -1,18 +1,20 @@
 -- An answer at first prices is right, and two such of one dispatch are the same; and what stops the work on it.
-use Rattle.std.specs.Prelude.{◌≡◌, ℕ, List, length, map}
-use Rattle.std.proofs.Common.{ap, ap₂, inl, inr, subst, sym, ◌∙◌}
+use Rattle.std.specs.Prelude.{◌≡◌, ℕ, List, length, map, refl}
+use Rattle.std.proofs.Common.{ap, ap₂, subst, sym, ◌∙◌}
 use Rattle.std.proofs.lemmas.List.{length-map}
 use Rattle.std.proofs.lemmas.List.FromFn.{length-map-range_with_len}
 use Rattle.fraction_theory.specs.Fraction.{Fraction}
+use Rattle.limit_screen.specs.Flows.{flows_at}
 use Rattle.market_model.specs.declared.answered.Answer.{Answer}
 use Rattle.market_model.specs.declared.answered.Duals.{Duals}
 use Rattle.market_model.specs.declared.answered.Price.{Price}
 use Rattle.market_model.specs.declared.participants.Parts.{Parts}
 use Rattle.market_model.specs.declared.stops.Stop.{Stop}
 use Rattle.market_model.specs.declared.stops.Stop.TheVariants as stop
-use Rattle.market_model.specs.Dispatch.{places, zero}
+use Rattle.market_model.specs.Dispatch.{dispatch_by, dispatch_with, injection, output, places, zero}
 use Rattle.market_model.specs.Market.{IsMarket}
 use Rattle.market_model.specs.Optimality.{ArePricesOf, bus_price, price_by}
+use Rattle.market_model.specs.PutIn.{dispatch_of}
 use Rattle.market_model.specs.RightAnswers.{IsRight, answer_of, dispatch_in, price_made, prices_made, settlement_at}
 use Rattle.market_model.specs.Stops.{StopsBy}
 use Rattle.market_model.specs.SumTables.{IsRefusedInBusPrices}
@@ -22,12 +24,23 @@ use Rattle.market_model.proofs.PlaceLists.{filled_at}
 use Rattle.one_price.specs.FirstPrices.{AreFirstDuals}
 use Rattle.one_price.proofs.OneFirst.{law_of_one_price}
 use Rattle.price_search.specs.Settling.{IsPriceRefusal}
-use Rattle.settlement.specs.Refusals.{IsSettlementStop}
+use Rattle.settlement.specs.Refusals.{IsMoneyStop}
 use Rattle.settlement.proofs.MoneyLemmas.{law_of_right_money}
 use Rattle.settled_answer.specs.Laws.{LawOfOneSet}
 use Rattle.settled_answer.specs.Repriced.{with_prices}
-use Rattle.settled_answer.specs.Settled.{IsSettlingRefusal, of_flows, of_money, of_prices, of_search}
+use Rattle.settled_answer.specs.Settled.{IsSettlingRefusal, of_money, of_prices, of_search}
 use Rattle.settled_answer.specs.declared.repricing.Repricing.{Repricing}
+
+-- flows are the same whatever reserve is accepted beside
+flows_of_blocks : (m : Parts) (blocks reserve : List Fraction) → flows_at m (dispatch_with blocks reserve) ≡ flows_at m (dispatch_by blocks)
+unfolding injection output
+flows_of_blocks m blocks reserve = refl
+
+-- those of an answer are the flows of what its blocks are accepted, as these are read
+pub flows_read : {N : Type 0} (value : N → Fraction) (m : Parts) (a : Answer N) (flows dispatch : List N) → map value flows ≡ flows_at m (dispatch_in (answer_at value a)) → dispatch ≡ a.dispatch
+    → map value flows ≡ flows_at m (dispatch_of value dispatch)
+flows_read value m a flows dispatch are same =
+    are ∙ flows_of_blocks m (map value a.dispatch) (map value a.reserve) ∙ ap (λ ds. flows_at m (dispatch_of value ds)) (sym same)
 
 module _ {N : Type 0} (value : N → Fraction) (m : Parts) (d : Duals Fraction) (ps : List (Price N)) (made : map (price_at value) ps ≡ prices_made m d) where
   pub price_count : length ps ≡ length m.buses
@@ -70,9 +83,8 @@ module _ {N : Type 0} (value : N → Fraction) (bound : ℕ) (m : Parts) (a : An
     price_stop stop.Memory why = tt
 
     -- where it is settled at their prices
-    pub money_stop : (price : ℕ → Fraction) → ArePricesOf m d price → (s : Stop N) → IsSettlementStop value bound m (dispatch_in a) price d s → StopsBy value (IsSettlingRefusal bound m a) s
-    money_stop price priced (stop.Passed p) (inl why) = of_flows d first why
-    money_stop price priced (stop.Passed p) (inr why) = of_money d first price priced why
+    pub money_stop : (price : ℕ → Fraction) → ArePricesOf m d price → (s : Stop N) → IsMoneyStop value bound m (dispatch_in a) price d s → StopsBy value (IsSettlingRefusal bound m a) s
+    money_stop price priced (stop.Passed p) why = of_money d first price priced why
     money_stop price priced stop.Memory why = tt
 
 -- ---- one set of prices

@@ -1,3 +1,4 @@
 pub mod Laws
+pub mod PriceNumbers
 pub mod Repriced
 pub mod Settled

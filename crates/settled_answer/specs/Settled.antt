@@ -4,15 +4,16 @@
 use Rattle.std.specs.Prelude.{◌≡◌, ℕ, Option, None, Some}
 use Rattle.fraction_theory.specs.Fraction.{Fraction}
 use Rattle.exact_fraction.specs.declared.Passed.{Passed}
-use Rattle.limit_screen.specs.Flows.{IsFlowsRefusal}
 use Rattle.market_model.specs.declared.answered.Answer.{Answer}
 use Rattle.market_model.specs.declared.answered.Duals.{Duals}
 use Rattle.market_model.specs.declared.answered.Outcome.{Outcome}
 use Rattle.market_model.specs.declared.answered.Outcome.TheVariants as outcome
 use Rattle.market_model.specs.declared.participants.Parts.{Parts}
-use Rattle.market_model.specs.Optimality.{ArePricesOf}
-use Rattle.market_model.specs.RightAnswers.{dispatch_in}
+use Rattle.market_dict.specs.Chosen.{IsChosen}
+use Rattle.market_model.specs.Optimality.{ArePricesOf, all_of}
+use Rattle.market_model.specs.RightAnswers.{IsRight, dispatch_in}
 use Rattle.market_model.specs.SumTables.{IsRefusedInBusPrices}
+use Rattle.market_system.specs.Ties.{IsFirstFor}
 use Rattle.market_model.specs.Valued.{answer_at, duals_at, outcome_at, passed_at}
 use Rattle.one_price.specs.FirstPrices.{AreFirstDuals}
 use Rattle.price_search.specs.Settling.{IsPriceRefusal}
@@ -21,18 +22,18 @@ use Rattle.settled_answer.specs.declared.settling.SettledAnswer.{SettledAnswer}
 use Rattle.settled_answer.specs.declared.settling.SettledOutcome.{SettledOutcome}
 
 -- an operation refused on the way from an answer to the settled one: where the first duals of its dispatch are looked for, from its own, in
--- the bus prices that the first ones make, in the flows of the dispatch, or in its settlement at those prices
+-- the bus prices that the first ones make, or in its settlement at those prices
 pub data IsSettlingRefusal (bound : ℕ) (m : Parts) (a : Answer Fraction) (p : Passed Fraction) : Type 0 where
   of_search : IsPriceRefusal m (dispatch_in a) a.duals bound p → IsSettlingRefusal bound m a p
   of_prices : (d : Duals Fraction) → AreFirstDuals m (dispatch_in a) d → IsRefusedInBusPrices m d bound p → IsSettlingRefusal bound m a p
-  of_flows : (d : Duals Fraction) → AreFirstDuals m (dispatch_in a) d → IsFlowsRefusal m (dispatch_in a) bound p → IsSettlingRefusal bound m a p
   of_money : (d : Duals Fraction) → AreFirstDuals m (dispatch_in a) d → (price : ℕ → Fraction) → ArePricesOf m d price
       → IsMoneyRefusal m (dispatch_in a) price d bound p → IsSettlingRefusal bound m a p
 
--- an answer has the first duals of its dispatch, or where numbers of a type with this bound became too large on the way to them, others
+-- An answer has the first duals of its dispatch. Or where numbers of a type with this bound became too large on the way to them, its dispatch and duals
+-- are those of a choice of basic variables, with which a clear ended.
 pub data IsSettledAnswer (bound : ℕ) (m : Parts) (a : Answer Fraction) : Type 0 where
   first : AreFirstDuals m (dispatch_in a) a.duals → IsSettledAnswer bound m a
-  refused : (p : Passed Fraction) → IsSettlingRefusal bound m a p → IsSettledAnswer bound m a
+  refused : (p : Passed Fraction) → IsChosen m a → IsSettlingRefusal bound m a p → IsSettledAnswer bound m a
 
 -- an answer in an outcome is
 abbrev pub IsSettledOutcome : ℕ → Parts → Outcome Fraction → Type 0
@@ -51,6 +52,10 @@ abbrev pub IsOutcomeRefusal : ℕ → Parts → Outcome Fraction → Passed Frac
 IsOutcomeRefusal bound m (outcome.Cleared a) p = IsSettlingRefusal bound m a p
 IsOutcomeRefusal bound m (outcome.Infeasible f) p = ⊥
 IsOutcomeRefusal bound m (outcome.Range q) p = ⊥
+
+-- no operation is refused on the way to the first prices of the market's dispatch that goes first, whichever choice a clear ends with
+abbrev pub NoPricePasses : Parts → ℕ → Type 0
+NoPricePasses m bound = (a : Answer Fraction) (p : Passed Fraction) → IsRight m a → IsFirstFor m (all_of m) (dispatch_in a) → IsChosen m a → ¬ (IsSettlingRefusal bound m a p)
 
 -- ---- what settling comes to
 -- an answer and the one made of it: with no operation that passed, the first duals of its dispatch, and with one the same answer, and that

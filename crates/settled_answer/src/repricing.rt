@@ -1,6 +1,8 @@
 //! What first prices make of an answer.
 
 ghost use Rattle.std.specs.Prelude.{◌≡◌, length, map, IfOk, IfErr};
+ghost use Rattle.limit_screen.specs.Flows.{flows_at};
+ghost use Rattle.limit_screen.specs.Reaching.{IsReach};
 ghost use Rattle.market_model.specs.Fitting.{FitsMarket};
 ghost use Rattle.market_model.specs.Optimality.{ProperDuals};
 ghost use Rattle.market_model.specs.RightAnswers.{IsRight, dispatch_in, prices_made};
@@ -13,10 +15,11 @@ ghost use Rattle.settled_answer.specs.Settled.{IsSettlingRefusal};
 
 use bus_prices::prices;
 use exact_fraction::Exact;
+use limit_screen::Reach;
 use market_model::{Answer, Duals, Market, Money, Price, Stop, datum};
 use plain_list::List;
 use price_search::first_duals;
-use settlement::settle;
+use settlement::settle_flows;
 use std::alloc::Global;
 
 /// Duals, with the bus prices and the settlement that they make of a dispatch.
@@ -51,15 +54,17 @@ fn bus_prices<N: Exact>(
     Ok(by_bus)
 }
 
-/// What first duals make of the dispatch of an answer: bus prices, and the settlement at these.
+/// What first duals make of the dispatch of an answer, with the flows that it makes: bus prices, and the settlement at these.
 fn priced<N: Exact>(
     alloc: Global,
     market: &Market,
     answer: &Answer<N>,
+    flows: &[N],
     duals: Duals<N>,
 ) -> Result<Repricing<N>, Stop<N>>
     requires right { IsRight market.now (answer_at N.value answer.now) }
     requires fits { FitsMarket market.now answer.now }
+    requires flows { map N.value flows.now ≡ flows_at market.now (dispatch_in (answer_at N.value answer.now)) }
     requires first { AreFirstDuals market.now (dispatch_in (answer_at N.value answer.now)) (duals_at N.value duals) }
     ensures duals { IfOk result (λ made. made.duals ≡ duals) }
     ensures fits { IfOk result (λ made. FitsMarket market.now (with_prices answer.now made)) }
@@ -68,11 +73,12 @@ fn priced<N: Exact>(
 {
     let _lines = market.lines();
     let prices = bus_prices(alloc, market, &duals)?;
-    let money = settle(
+    let money = settle_flows(
         alloc,
         market,
         answer.dispatch.slice(),
         answer.reserve.slice(),
+        flows,
         prices.slice(),
         &duals,
     )?;
@@ -83,14 +89,17 @@ fn priced<N: Exact>(
     })
 }
 
-/// The first of the duals that support the dispatch of an answer, with the bus prices and the settlement that they make.
+/// The first of the duals that support the dispatch of an answer, with the bus prices and the settlement that they make. `reach` is what the
+/// dispatch carries and which rows it reaches.
 pub(crate) fn repriced<N: Exact>(
     alloc: Global,
     market: &Market,
     answer: &Answer<N>,
+    reach: &Reach<N>,
 ) -> Result<Repricing<N>, Stop<N>>
     requires right { IsRight market.now (answer_at N.value answer.now) }
     requires fits { FitsMarket market.now answer.now }
+    requires reach { IsReach N.value market.now (dispatch_in (answer_at N.value answer.now)) reach.now }
     ensures first { IfOk result (λ made. AreFirstDuals market.now (dispatch_in (answer_at N.value answer.now)) (duals_at N.value made.duals)) }
     ensures fits { IfOk result (λ made. FitsMarket market.now (with_prices answer.now made)) }
     ensures right { IfOk result (λ made. IsRight market.now (answer_at N.value (with_prices answer.now made))) }
@@ -102,6 +111,7 @@ pub(crate) fn repriced<N: Exact>(
         answer.dispatch.slice(),
         answer.reserve.slice(),
         &answer.duals,
+        reach,
     )?;
-    priced(alloc, market, answer, duals)
+    priced(alloc, market, answer, &reach.flows, duals)
 }

@@ -1,3 +1,4 @@
 pub mod PrintLawProofs
 pub mod PrintLemmas
 pub mod RefusalLemmas
+pub mod StepLemmas

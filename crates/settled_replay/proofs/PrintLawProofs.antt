@@ -56,7 +56,7 @@ infeasible_too (outcome.Cleared a) p keeps none = absurd none
 infeasible_too (outcome.Infeasible f) p keeps is = subst IsInfeasible (sym keeps) tt
 infeasible_too (outcome.Range q) p keeps none = absurd none
 
-decided_too : (m : Parts) (o p : Outcome Fraction) → KeepsOutcome o p → IsDecided m o → IsDecided m p
+pub decided_too : (m : Parts) (o p : Outcome Fraction) → KeepsOutcome o p → IsDecided m o → IsDecided m p
 decided_too m o p keeps is = record {
   cleared = λ x feasible. cleared_too o p keeps (is.cleared x feasible);
   infeasible = λ none. infeasible_too o p keeps (is.infeasible none);

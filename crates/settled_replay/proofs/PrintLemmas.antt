@@ -1,8 +1,9 @@
 -- What is printed of a step, and of steps with one more behind them.
-use Rattle.std.specs.Prelude.{◌≡◌, ℕ, ◌+◌, ◌<◌, ◌≤◌, List, [], ◌∷◌, ◌++◌, length, map, take, refl}
-use Rattle.std.proofs.Common.{suc, arith, ap, subst, sym, ◌∙◌, get_or}
+use Rattle.std.specs.Prelude.{◌≡◌, ◌⊎◌, ℕ, ◌+◌, ◌<◌, ◌≤◌, List, [], ◌∷◌, ◌++◌, Option, None, Some, length, map, take, refl}
+use Rattle.std.proofs.Common.{inl, inr, suc, arith, ap, subst, sym, ◌∙◌, get_or}
 use Rattle.std.proofs.lemmas.List.{map-append, map-id, take_all, take_more}
 use Rattle.fraction_theory.specs.Fraction.{Fraction}
+use Rattle.exact_fraction.specs.declared.Passed.{Passed}
 use Rattle.market_model.specs.declared.answered.Outcome.{Outcome}
 use Rattle.market_model.specs.declared.answered.Outcome.TheVariants as outcome
 use Rattle.market_model.specs.declared.limits.Row.{Row}
@@ -10,6 +11,7 @@ use Rattle.market_model.specs.declared.participants.Parts.{Parts}
 use Rattle.market_model.specs.Frame.{SameFrame, frame}
 use Rattle.market_model.specs.Valued.{answer_at, outcome_at}
 use Rattle.market_system.specs.Outcomes.{IsRightOutcome}
+use Rattle.market_dict.specs.Chosen.{IsChosenOutcome}
 use Rattle.market_dict.specs.declared.taking.Taking.{Taking}
 use Rattle.clear_loop.specs.Clearing.{KeepsAfter}
 use Rattle.clear_loop.specs.Keeping.{Kept}
@@ -21,7 +23,8 @@ use Rattle.edit_replay.specs.declared.step_outcome.StepOutcome.TheVariants as re
 use Rattle.edit_replay.specs.Replays.{IsEditedPart, IsReplay, IsReply, edited_by, stepped}
 use Rattle.edit_replay.proofs.FrameLemmas.{steps_frame}
 use Rattle.edit_replay.proofs.ReplayLemmas.{replay_more}
-use Rattle.settled_answer.specs.Settled.{IsSettledOutcome, KeepsOutcome}
+use Rattle.settled_answer.specs.Settled.{HasFirstPrices, KeepsOutcome, SettlesTo}
+use Rattle.settled_answer.proofs.SettledOutcomes.{settled_at}
 use Rattle.settled_replay.specs.PrintedReplays.{ArePrinted, IsPrinted, IsPrintedReplay, IsPrintedReply, PrintsClear}
 
 -- ---- one step
@@ -39,11 +42,22 @@ keeps_at value (outcome.Cleared a) p keeps = (
 keeps_at value (outcome.Infeasible f) p keeps = ap (outcome_at value) keeps
 keeps_at value (outcome.Range q) p keeps = ap (outcome_at value) keeps
 
+-- an answer without first prices is the one that was handed in
+own_at : {N : Type 0} (value : N → Fraction) (bound : ℕ) (m : Parts) (o p : Outcome N) (passed : Option (Passed N)) → SettlesTo value bound m o p passed
+    → HasFirstPrices m (outcome_at value p) ⊎ (outcome_at value p ≡ outcome_at value o)
+own_at value bound m o p None is = inl is
+own_at value bound m o p (Some x) is = inr (ap (outcome_at value) is.0)
+
 -- so an outcome that is settled by what its numbers are is printed of that by its fractions
 pub prints_at : {N : Type 0} (value : N → Fraction) (bound : ℕ) (m : Parts) (o p : Outcome N)
     → ((b : ℕ) (taken : List Row) → IsRightOutcome b m taken (outcome_at value o) → IsRightOutcome b m taken (outcome_at value p)) → KeepsOutcome o p
-    → IsSettledOutcome bound m (outcome_at value p) → PrintsClear bound m (outcome_at value o) (outcome_at value p)
-prints_at value bound m o p right keeps settled = record { right = right; dispatch = keeps_at value o p keeps; settled = settled }
+    → IsChosenOutcome m (outcome_at value o) → (passed : Option (Passed N)) → SettlesTo value bound m o p passed → PrintsClear bound m (outcome_at value o) (outcome_at value p)
+prints_at value bound m o p right keeps chosen passed is = record {
+  right = right;
+  dispatch = keeps_at value o p keeps;
+  settled = settled_at value bound m o p passed chosen is;
+  own = own_at value bound m o p passed is;
+}
 
 -- and what a clear keeps goes by the kind of its outcome
 pub kept_too : {N : Type 0} (o p : Outcome N) (after : Kept) → KeepsOutcome o p → KeepsAfter o after → KeepsAfter p after

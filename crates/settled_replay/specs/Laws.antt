@@ -20,7 +20,7 @@ use Rattle.edit_replay.specs.declared.step_outcome.StepOutcome.{StepOutcome}
 use Rattle.edit_replay.specs.declared.step_outcome.StepOutcome.TheVariants as reply
 use Rattle.edit_replay.specs.ReplayLaws.{IsClearBehind}
 use Rattle.edit_replay.specs.Replays.{edited_by}
-use Rattle.settled_replay.specs.PrintedReplays.{ArePrinted, IsPrintedReplay, PrintsClear}
+use Rattle.settled_replay.specs.PrintedReplays.{AreRightReplies, ArePrinted, IsPrintedReplay, PrintsClear}
 
 -- a clear behind steps of which these were printed: p is printed of an outcome of the market as these have edited it, from limits and rooms that
 -- they reached; so it is right for that market, and where no working pair over limits reached from these passes the bound, it decides whether
@@ -40,6 +40,11 @@ LawOfPrintedClears = (bound : ℕ) (m : Parts) (before after : List Taking) (don
     → IsMarket m → All IsStep done → length told ≡ length done
     → IsPrintedReplay bound m before (done ++ step.Clear ∷ left) (told ++ reply.Clear p ∷ later) after
     → IsPrintedBehind bound m before done told p
+
+-- what is printed of a replay is right step by step
+abbrev pub LawOfRightReplies : Type 0
+LawOfRightReplies = (bound : ℕ) (m : Parts) (before after : List Taking) (steps : List Step) (printed : List (StepOutcome Fraction))
+    → IsPrintedReplay bound m before steps printed after → AreRightReplies bound m steps printed
 
 -- answers that are right for one market, each the first of the best, and that have first prices are the same, whatever was taken before them
 abbrev pub LawOfOneReport : Type 0

@@ -1,6 +1,6 @@
 //! Laws of printed replays, each the contract of a function that does nothing.
 
-ghost use Rattle.settled_replay.specs.Laws.{LawOfOneReport, LawOfPrintedClears};
+ghost use Rattle.settled_replay.specs.Laws.{LawOfOneReport, LawOfPrintedClears, LawOfRightReplies};
 
 use edit_replay::laws::replays_decide;
 use one_dispatch::laws::one_goes_first;
@@ -13,6 +13,11 @@ pub fn printed_clears()
 {
     replays_decide();
 }
+
+/// What is printed of each step of a replay is right for the market as the steps before it have edited it, and an answer is settled.
+pub fn right_replies()
+    ensures { LawOfRightReplies }
+{}
 
 /// Two answers that are printed of one market with first prices are the same in all that they say, whatever was cleared before and whichever
 /// numbers were used.

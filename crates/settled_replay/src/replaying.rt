@@ -58,8 +58,8 @@ fn clear_outcome<N: Exact>(
     ensures fits { IfOk result (λ printed. FitsStep session.old.market printed.outcome) }
     ensures kept { IfOk result (λ printed. KeepsStep session.old.kept printed.outcome session.new.kept) }
 {
-    let outcome = session.clear(alloc)?;
-    let settled = settled_outcome(alloc, session.market(), outcome)?;
+    let reached = session.clear_reached(alloc)?;
+    let settled = settled_outcome(alloc, session.market(), reached.outcome, reached.reach)?;
     Ok(SettledStep {
         is_passed: settled.passed.is_some(),
         outcome: StepOutcome::Clear(settled.outcome),

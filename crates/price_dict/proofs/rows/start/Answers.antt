@@ -15,19 +15,19 @@ use Rattle.price_dict.proofs.rows.start.Goals as goal
 pub summed-requires-clause-columns : goal.summed-requires-clause-columns
 summed-requires-clause-columns g c =
     let m = c.args.market.now in
-    subst (AreColumns m) (sym (c.slice.ensures ∙ c.in_ok-columns.ensures)) (are_columns m c.requires.0 c.args.reached.now c.lines-lines.ensures.market c.requires.1)
+    subst (AreColumns m) (sym (c.slice.ensures ∙ c.in_ok-columns.ensures)) (are_columns m c.requires.0 c.args.reached c.lines-lines.ensures.market c.requires.1)
 
 pub put_blocks-requires-clause-columns : goal.put_blocks-requires-clause-columns
 put_blocks-requires-clause-columns g c =
     let m = c.args.market.now in
-    subst (AreColumns m) (sym (c.slice-2.ensures ∙ c.in_ok-columns.ensures)) (are_columns m c.requires.0 c.args.reached.now c.lines-lines.ensures.market c.requires.1)
+    subst (AreColumns m) (sym (c.slice-2.ensures ∙ c.in_ok-columns.ensures)) (are_columns m c.requires.0 c.args.reached c.lines-lines.ensures.market c.requires.1)
 
 pub returns-in_err-put_blocks-clause-stops : goal.returns-in_err-put_blocks-clause-stops
 returns-in_err-put_blocks-clause-stops g c = λ x are.
     let m = c.args.market.now in
     let p = err_from_is_err_and c.from_residual-in_err-put_blocks.result c.from_residual-in_err-put_blocks.ensures.1 in
     let given : c.from_residual-in_err-put_blocks.result ≡ Err c.in_err-put_blocks.field-0.0 = p.1 ∙ ap Err p.2 in
-    let reached = c.slice-2.ensures ∙ c.in_ok-columns.ensures ∙ columns_reached m x c.args.reached.now are in
+    let reached = c.slice-2.ensures ∙ c.in_ok-columns.ensures ∙ columns_reached m x c.args.reached are in
     rw given (on_passed_weaker c.in_err-put_blocks.field-0.0 _ _
     (λ pair why. column_refused m x g.N.Exact.bound (passed_at g.N.Exact.value pair)
     (subst (λ (vs : List Variable). IsColumnsRefusal m vs g.N.Exact.bound (passed_at g.N.Exact.value pair)) reached why)) c.in_err-put_blocks.ensures.stops)
@@ -35,7 +35,7 @@ returns-in_err-put_blocks-clause-stops g c = λ x are.
 pub put_offers-requires-clause-columns : goal.put_offers-requires-clause-columns
 put_offers-requires-clause-columns g c =
     let m = c.args.market.now in
-    subst (AreColumns m) (sym (c.slice-3.ensures ∙ c.in_ok-columns.ensures)) (are_columns m c.requires.0 c.args.reached.now c.lines-lines.ensures.market c.requires.1)
+    subst (AreColumns m) (sym (c.slice-3.ensures ∙ c.in_ok-columns.ensures)) (are_columns m c.requires.0 c.args.reached c.lines-lines.ensures.market c.requires.1)
 
 pub returns-in_err-put_offers-clause-stops : goal.returns-in_err-put_offers-clause-stops
 returns-in_err-put_offers-clause-stops g c = λ x are.
@@ -46,6 +46,6 @@ returns-in_err-put_offers-clause-stops g c = λ x are.
 pub returns-clause-holds : goal.returns-clause-holds
 returns-clause-holds g c = λ x are.
     let m = c.args.market.now in
-    let reached = c.slice-3.ensures ∙ c.in_ok-columns.ensures ∙ columns_reached m x c.args.reached.now are in
+    let reached = c.slice-3.ensures ∙ c.in_ok-columns.ensures ∙ columns_reached m x c.args.reached are in
     put_in_holds m x c.put_offers.new.dict c.lines-lines.ensures.market
     (subst (λ (vs : List Variable). HasPutIn m vs (worths m) c.put_offers.new.dict) reached c.in_ok-put_offers.ensures)

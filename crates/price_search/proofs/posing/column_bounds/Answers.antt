@@ -18,8 +18,8 @@ returns-clause-bounds g c =
     let value = g.N.Exact.value in
     let x = dispatch_at value c.args.point in
     let caps = caps_at value c.args.caps in
-    let reached = c.args.point.reached.now in
-    let limits = flat_map two_sides reached.rows in
+    let reached = c.args.point.reached in
+    let limits = flat_map two_sides reached.rows.now in
     let all = c.in_ok-push_room_bounds.ensures (first ++ limits) (c.in_ok-push_limit_bounds.ensures.bounds first c.in_ok-bounds.ensures.bounds) in
     subst₂ (λ (rs : List Row) (us : List ℕ). AreBounds value m x caps (first ++ (flat_map two_sides rs ++ map Room us)) c.push_room_bounds.new.bounds) c.requires.reached.rows c.requires.reached.units
-    (are_behind value m x caps first limits (map Room reached.units) _ all)
+    (are_behind value m x caps first limits (map Room reached.units.now) _ all)

@@ -1,4 +1,4 @@
-use Rattle.std.proofs.Common.{◌∙◌, ◌++◌, ◌<◌, List, ap, arith, length, subst, take}
+use Rattle.std.proofs.Common.{◌++◌, ◌<◌, List, arith, length, subst, take}
 use Rattle.std.specs.Prelude.{Contains, slice_index_or}
 use Rattle.std.specs.List.{flat_map}
 use Rattle.std.proofs.lemmas.List.{take_all}
@@ -20,25 +20,24 @@ loop-row-init g c = λ vs are. are_alone g.N.Exact.value c.args.market.now _ _ v
 
 pub push_sides-requires-clause-row : goal.push_sides-requires-clause-row
 push_sides-requires-clause-row g c =
-    let items = c.slice-row-items.result.now in
+    let items = c.args.point.reached.rows.now in
     let r : Row = slice_index_or items c.loop-row.row-index none in
-    subst (λ (rs : List Row). Contains rs r) (c.slice-row-items.ensures ∙ c.requires.reached.rows) (Contains-get_or items c.loop-row.row-index none c.loop-row-test.true)
+    subst (λ (rs : List Row). Contains rs r) c.requires.reached.rows (Contains-get_or items c.loop-row.row-index none c.loop-row-test.true)
 
 pub loop-row-preserved : goal.loop-row-preserved
 loop-row-preserved g c = λ vs are.
     let m = c.args.market.now in
     let value = g.N.Exact.value in
-    let rows = c.args.point.reached.now.rows in
+    let rows = c.args.point.reached.rows.now in
     let k = c.loop-row.row-index in
-    let lt : k < length rows = omega (arith, c.loop-row-test.true, ap length c.slice-row-items.ensures) in
-    let read = ap (λ (rs : List Row). slice_index_or rs k none) c.slice-row-items.ensures in
+    let lt : k < length rows = omega (arith, c.loop-row-test.true) in
     subst (λ (ws : List Variable). AreBounds value m (dispatch_at value c.args.point) (caps_at value c.args.caps) ws c.push_sides.new.bounds)
-    (ap (λ (r : Row). (vs ++ flat_map two_sides (take k rows)) ++ two_sides r) read ∙ sides_more vs rows k none lt)
+    (sides_more vs rows k none lt)
     (c.in_ok-push_sides.ensures.bounds (vs ++ flat_map two_sides (take k rows)) (c.loop-row.invariant vs are))
 
 pub returns-clause-bounds : goal.returns-clause-bounds
 returns-clause-bounds g c = λ vs are.
     let value = g.N.Exact.value in
-    let rows = c.args.point.reached.now.rows in
+    let rows = c.args.point.reached.rows.now in
     let k = c.loop-row.row-index in
-    subst (λ (rs : List Row). AreBounds value c.args.market.now (dispatch_at value c.args.point) (caps_at value c.args.caps) (vs ++ flat_map two_sides rs) c.loop-row.bounds) (take_all k rows (omega (arith, ap length c.slice-row-items.ensures))) (c.loop-row.invariant vs are)
+    subst (λ (rs : List Row). AreBounds value c.args.market.now (dispatch_at value c.args.point) (caps_at value c.args.caps) (vs ++ flat_map two_sides rs) c.loop-row.bounds) (take_all k rows (omega arith)) (c.loop-row.invariant vs are)

@@ -11,4 +11,4 @@ invariant-loop-row g l =
     let value = g.N.Exact.value in
     let x = dispatch_at value l.fn.point in
     let c = caps_at value l.fn.caps in
-    (vs : List Variable) → AreBounds value l.market x c vs l.initial.bounds → AreBounds value l.market x c (vs ++ flat_map two_sides (take l.row-index l.fn.point.reached.now.rows)) l.bounds
+    (vs : List Variable) → AreBounds value l.market x c vs l.initial.bounds → AreBounds value l.market x c (vs ++ flat_map two_sides (take l.row-index l.fn.point.reached.rows.now)) l.bounds

@@ -1,4 +1,4 @@
-use Rattle.std.proofs.Common.{◌∙◌, ◌++◌, ◌<◌, List, ap, arith, length, map, subst, take, ℕ}
+use Rattle.std.proofs.Common.{◌∙◌, ◌++◌, ◌<◌, List, arith, length, map, subst, take, ℕ}
 use Rattle.std.specs.Prelude.{Contains, slice_index_or}
 use Rattle.std.proofs.lemmas.List.{map_more, take_all}
 use Rattle.std.proofs.lemmas.List.Elements.{Contains-get_or}
@@ -18,10 +18,10 @@ loop-unit-preserved g c = λ vs are.
     let value = g.N.Exact.value in
     let x = dispatch_at value c.args.point in
     let caps = caps_at value c.args.caps in
-    let us = c.args.point.reached.now.units in
+    let us = c.args.point.reached.units.now in
     let k = c.loop-unit._unit-index in
     let u = slice_index_or us k 0 in
-    let lt : k < length us = omega (arith, c.loop-unit-test.true, ap length c.slice-unit-items.ensures) in
+    let lt : k < length us = omega (arith, c.loop-unit-test.true) in
     let among = subst (λ (ws : List ℕ). Contains ws u) c.requires.reached.units (Contains-get_or us k 0 lt) in
     are_more value m x caps vs (map Room (take k us)) _ (Room u) c.loop-unit.bounds c.push.new.self (record { low = c.neg.result; high = c.datum.result }) (map_more Room us k 0 lt) c.in_ok-push.ensures (c.loop-unit.invariant vs are)
     (c.neg.ensures ∙ room_low m x caps u among) c.datum.ensures
@@ -29,6 +29,6 @@ loop-unit-preserved g c = λ vs are.
 pub returns : goal.returns
 returns g c = λ vs are.
     let value = g.N.Exact.value in
-    let us = c.args.point.reached.now.units in
+    let us = c.args.point.reached.units.now in
     let k = c.loop-unit._unit-index in
-    subst (λ (ws : List ℕ). AreBounds value c.args.market.now (dispatch_at value c.args.point) (caps_at value c.args.caps) (vs ++ map Room ws) c.loop-unit.bounds) (take_all k us (omega (arith, ap length c.slice-unit-items.ensures))) (c.loop-unit.invariant vs are)
+    subst (λ (ws : List ℕ). AreBounds value c.args.market.now (dispatch_at value c.args.point) (caps_at value c.args.caps) (vs ++ map Room ws) c.loop-unit.bounds) (take_all k us (omega arith)) (c.loop-unit.invariant vs are)

@@ -10,4 +10,4 @@ invariant-loop-unit g l =
     let value = g.N.Exact.value in
     let x = dispatch_at value l.fn.point in
     let c = caps_at value l.fn.caps in
-    (vs : List Variable) → AreBounds value l.market x c vs l.initial.bounds → AreBounds value l.market x c (vs ++ map Room (take l._unit-index l.fn.point.reached.now.units)) l.bounds
+    (vs : List Variable) → AreBounds value l.market x c vs l.initial.bounds → AreBounds value l.market x c (vs ++ map Room (take l._unit-index l.fn.point.reached.units.now)) l.bounds

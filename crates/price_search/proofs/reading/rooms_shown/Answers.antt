@@ -11,13 +11,13 @@ pub overflow_mul-first : goal.overflow_mul-first
 overflow_mul-first g c =
     let h = c.requires.holds in
     let d = c.args.dict.now in
-    omega (arith, c.len.ensures, c.column_count-columns.ensures, c.column_count-columns.type_inv, h.2.sound.column_count, column_count c.args.market.now h.0 c.args.reached.now d h.1 h.2)
+    omega (arith, c.column_count-columns.ensures, c.column_count-columns.type_inv, h.2.sound.column_count, column_count c.args.market.now h.0 c.args.reached d h.1 h.2)
 
 pub overflow_add-first : goal.overflow_add-first
 overflow_add-first g c =
     let h = c.requires.holds in
     let d = c.args.dict.now in
-    omega (arith, c.len.ensures, c.column_count-columns.ensures, c.column_count-columns.type_inv, h.2.sound.column_count, column_count c.args.market.now h.0 c.args.reached.now d h.1 h.2)
+    omega (arith, c.column_count-columns.ensures, c.column_count-columns.type_inv, h.2.sound.column_count, column_count c.args.market.now h.0 c.args.reached d h.1 h.2)
 
 pub overflow_add-first-in-loop-place : goal.overflow_add-first-in-loop-place
 overflow_add-first-in-loop-place g c =
@@ -25,39 +25,37 @@ overflow_add-first-in-loop-place g c =
     let d = c.args.dict.now in
     omega (
       arith,
-      c.len.ensures,
       c.loop-place-test.true,
-      ap length c.slice-units.ensures,
       c.column_count-columns.ensures,
       c.column_count-columns.type_inv,
       h.2.sound.column_count,
-      column_count c.args.market.now h.0 c.args.reached.now d h.1 h.2,
+      column_count c.args.market.now h.0 c.args.reached d h.1 h.2,
     )
 
 pub price_shown-price-requires-clause-place : goal.price_shown-price-requires-clause-place
 price_shown-price-requires-clause-place g c =
     let h = c.requires.holds in
     let d = c.args.dict.now in
-    omega (arith, c.len.ensures, c.loop-place-test.true, ap length c.slice-units.ensures, column_count c.args.market.now h.0 c.args.reached.now d h.1 h.2)
+    omega (arith, c.loop-place-test.true, column_count c.args.market.now h.0 c.args.reached d h.1 h.2)
 
 pub at-requires : goal.at-requires
 at-requires g c =
     let h = c.requires.holds in
-    let lt = unit_inside c.args.market.now h.0 c.args.reached.now c.args.dict.now h.1 h.2 c.slice-units.result.now c.loop-place.place c.slice-units.ensures c.loop-place-test.true in
+    let lt = unit_inside c.args.market.now h.0 c.args.reached c.args.dict.now h.1 h.2 c.loop-place.place c.loop-place-test.true in
     omega (arith, lt, ap length c.units.ensures.list)
 
 pub loop-place-preserved : goal.loop-place-preserved
 loop-place-preserved g c =
     let m = c.args.market.now in
     let h = c.requires.holds in
-    let us = c.slice-units.result.now in
+    let us = c.args.reached.units.now in
     let k = c.loop-place.place in
     let unit = unit_read m c.units.result.now (get_or us k 0) (get_or us k 0) c.at.result.now c.units.ensures.list refl c.at.ensures in
-    room_more m h.0 c.args.reached.now c.args.dict.now h.1 h.2 us k c.slice-units.ensures c.loop-place-test.true _ _ c.at.result.now.row c.len.result _ c.loop-place.invariant c.in_ok-push_room.ensures (ap Unit.row unit)
-    c.len.ensures c.price_shown-price.ensures
+    room_more m h.0 c.args.reached c.args.dict.now h.1 h.2 k c.loop-place-test.true _ _ c.at.result.now.row (length c.args.reached.rows.now) _ c.loop-place.invariant c.in_ok-push_room.ensures (ap Unit.row unit)
+    refl c.price_shown-price.ensures
 
 pub returns : goal.returns
 returns g c = λ x are holds.
     c.loop-place.invariant
     ∙ ap (flat_map (room_noted c.args.market.now c.args.dict.now))
-    (take_all c.loop-place.place c.args.reached.now.units (omega (arith, c.loop-place-test.false, ap length c.slice-units.ensures)) ∙ are.units)
+    (take_all c.loop-place.place c.args.reached.units.now (omega (arith, c.loop-place-test.false)) ∙ are.units)

@@ -5,4 +5,4 @@ use Rattle.price_search.specs.Reading.{room_noted}
 use Rattle.price_search.proofs.reading.rooms_shown.Given as goal
 
 abbrev pub invariant-loop-place : goal.invariant-loop-place
-invariant-loop-place g l = map (room_dual_at g.N.Exact.value) l.rooms ≡ flat_map (room_noted l.market l.dict) (take l.place l.reached.units)
+invariant-loop-place g l = map (room_dual_at g.N.Exact.value) l.rooms ≡ flat_map (room_noted l.market l.dict) (take l.place l.reached.units.now)

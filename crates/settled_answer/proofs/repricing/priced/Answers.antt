@@ -2,12 +2,15 @@ use Rattle.std.proofs.Common.{Err, ◌≡◌, ◌∙◌, ap, length, map, rules,
 use Rattle.market_model.specs.Dispatch.{dispatch_with}
 use Rattle.market_model.specs.RightAnswers.{settlement_at}
 use Rattle.market_model.specs.Valued.{answer_at, duals_at, money_at, total_at}
-use Rattle.settlement.specs.Refusals.{IsSettlementStop}
-use Rattle.settled_answer.proofs.SettledLemmas.{money_stop, price_count, price_stop, prices_of, repriced_right}
+use Rattle.settlement.specs.Refusals.{IsMoneyStop}
+use Rattle.settled_answer.proofs.SettledLemmas.{flows_read, money_stop, price_count, price_stop, prices_of, repriced_right}
 use Rattle.settled_answer.proofs.repricing.priced.Goals as goal
 
-pub settle-requires-clause-prices : goal.settle-requires-clause-prices
-settle-requires-clause-prices g c =
+pub settle_flows-requires-clause-flows : goal.settle_flows-requires-clause-flows
+settle_flows-requires-clause-flows g c = flows_read g.N.Exact.value c.args.market.now c.args.answer.now c.args.flows.now c.slice.result.now c.requires.flows c.slice.ensures
+
+pub settle_flows-requires-clause-prices : goal.settle_flows-requires-clause-prices
+settle_flows-requires-clause-prices g c =
     ap length c.slice-3.ensures ∙ price_count g.N.Exact.value c.args.market.now (duals_at g.N.Exact.value c.args.duals) c.in_ok-prices.prices c.in_ok-prices.ensures.prices
 
 pub returns-clause-fits : goal.returns-clause-fits
@@ -47,6 +50,6 @@ returns-in_err-money-clause-stops g c =
     let given : c.from_residual-in_err-money.result ≡ Err stop = search rules in
     rw given
     (money_stop value g.N.Exact.bound m (answer_at value c.args.answer.now) d c.requires.first price (prices_of value m d c.in_ok-prices.prices c.in_ok-prices.ensures.prices) stop
-    (subst (λ ps. IsSettlementStop value g.N.Exact.bound m (dispatch_with (map value c.args.answer.now.dispatch) (map value c.args.answer.now.reserve)) (total_at value ps) d stop) c.slice-3.ensures
-    (subst (λ rs. IsSettlementStop value g.N.Exact.bound m (dispatch_with (map value c.args.answer.now.dispatch) (map value rs)) (total_at value c.slice-3.result.now) d stop) c.slice-2.ensures
-    (subst (λ ds. IsSettlementStop value g.N.Exact.bound m (dispatch_with (map value ds) (map value c.slice-2.result.now)) (total_at value c.slice-3.result.now) d stop) c.slice.ensures c.in_err-money.ensures.stops))))
+    (subst (λ ps. IsMoneyStop value g.N.Exact.bound m (dispatch_with (map value c.args.answer.now.dispatch) (map value c.args.answer.now.reserve)) (total_at value ps) d stop) c.slice-3.ensures
+    (subst (λ rs. IsMoneyStop value g.N.Exact.bound m (dispatch_with (map value c.args.answer.now.dispatch) (map value rs)) (total_at value c.slice-3.result.now) d stop) c.slice-2.ensures
+    (subst (λ ds. IsMoneyStop value g.N.Exact.bound m (dispatch_with (map value ds) (map value c.slice-2.result.now)) (total_at value c.slice-3.result.now) d stop) c.slice.ensures c.in_err-money.ensures.stops))))
