@@ -17,7 +17,7 @@ use Rattle.market_model.specs.Valued.{outcome_at}
 use Rattle.market_system.specs.Growth.{Growth}
 use Rattle.market_system.specs.Outcomes.{IsClear, IsDecided}
 use Rattle.market_system.specs.WorkingPairs.{NoPairPasses}
-use Rattle.market_system.proofs.Completeness.{law_of_completeness}
+use Rattle.market_system.proofs.Completeness.{law_of_completeness, right_by}
 use Rattle.market_dict.specs.Takings.{limits_of}
 use Rattle.market_dict.specs.declared.taking.Taking.{Taking}
 use Rattle.clear_loop.specs.Keeping.{cold}
@@ -26,9 +26,14 @@ use Rattle.edit_table.specs.EditTable.{IsStep}
 use Rattle.edit_table.specs.declared.Step.{Step}
 use Rattle.edit_table.specs.declared.Step.TheVariants as edit
 use Rattle.edit_replay.specs.SessionStates.{SessionState}
-use Rattle.edit_replay.specs.Replays.{IsReplay}
+use Rattle.edit_replay.specs.Replays.{IsReplay, edited_by, stepped}
 use Rattle.edit_replay.proofs.FrameLemmas.{steps_market}
 use Rattle.edit_replay.specs.declared.step_outcome.StepOutcome.TheVariants as step
+use Rattle.report_text.proofs.OutcomeReading.{outcome_fits}
+use Rattle.replay_text.specs.ReplayTextLaws.{OutcomesFit, StepOutcomeFits}
+use Rattle.settled_replay.specs.PrintedReplays.{AreRightReplies, IsPrintedReplay, IsRightReply}
+use Rattle.settled_replay.proofs.PrintLawProofs.{decided_too}
+use Rattle.settled_replay.proofs.StepLemmas.{inner_at}
 use Rattle.command_answers.proofs.BoundLemmas.{outcome_within}
 use Rattle.command_answers.specs.Tellings.{Telling}
 use Rattle.command_answers.specs.Replaying.{AreDecided, IsStepWithin, IsNoRange, NoPairPassesIn, ReplaysTo, clear_or, is_done, last_clear, replay_status, step_status, TellsSteps}
@@ -108,7 +113,7 @@ module _ (m : Parts) (o q : Outcome Fraction) where
       let here : q ≡ o = cc same in
       subst (IsDecided m) here (law_of_completeness m before bound q market none is.right)
 
-pub are_decided : (bound : ℕ) (m : Parts) (before after : List Taking) (steps : List Step) (outcomes : List (StepOutcome Fraction)) → IsMarket m → All IsStep steps
+are_decided : (bound : ℕ) (m : Parts) (before after : List Taking) (steps : List Step) (outcomes : List (StepOutcome Fraction)) → IsMarket m → All IsStep steps
     → NoPairPassesIn m (limits_of before) steps bound → IsReplay bound m before steps outcomes after → AreDecided m steps outcomes
 are_decided bound m before after [] [] market data_ok none replay k o is = cc is
 are_decided bound m before after [] (p ∷ outcomes) market data_ok none replay k o is = absurd replay
@@ -128,6 +133,28 @@ are_decided bound m before after (edit.Clear ∷ steps) (step.Clear q ∷ outcom
 are_decided bound m before after (edit.Clear ∷ steps) (step.Clear q ∷ outcomes) market data_ok none replay (suc k) o is =
     are_decided bound m replay.0 after steps outcomes market (All-tail IsStep edit.Clear steps data_ok) (none.1 (limits_of replay.0) (left_grown bound m (limits_of before) (limits_of replay.0) q none.0 replay.1.0)) replay.2 k o is
 
+-- and so is what is printed of it
+pub printed_decided : (bound : ℕ) (m : Parts) (before after : List Taking) (steps : List Step) (outcomes : List (StepOutcome Fraction)) → IsMarket m → All IsStep steps
+    → NoPairPassesIn m (limits_of before) steps bound → IsPrintedReplay bound m before steps outcomes after → AreDecided m steps outcomes
+printed_decided bound m before after steps outcomes market data_ok none replay k p at =
+    let here = inner_at bound m steps replay.0 outcomes k p replay.2 at in
+    decided_too (edited_by m (take k steps)) here.0 p here.2.dispatch (are_decided bound m before after steps replay.0 market data_ok none replay.1 k here.0 here.1)
+
+-- ---- right replies fit the reports
+reply_fits : (bound : ℕ) (m : Parts) (s : Step) (o : StepOutcome Fraction) → IsRightReply bound m s o → StepOutcomeFits m o
+reply_fits bound m (edit.Edit e) step.Accepted is = tt
+reply_fits bound m (edit.Edit e) (step.Refused f) is = tt
+reply_fits bound m (edit.Edit e) (step.Clear o) none = absurd none
+reply_fits bound m edit.Clear step.Accepted none = absurd none
+reply_fits bound m edit.Clear (step.Refused f) none = absurd none
+reply_fits bound m edit.Clear (step.Clear o) is = outcome_fits _ m o (right_by bound m is.0.0 o is.0.1)
+
+pub replies_fit : (bound : ℕ) (m : Parts) (steps : List Step) (outcomes : List (StepOutcome Fraction)) → AreRightReplies bound m steps outcomes → OutcomesFit m steps outcomes
+replies_fit bound m [] [] right = tt
+replies_fit bound m [] (o ∷ outcomes) none = absurd none
+replies_fit bound m (s ∷ steps) [] none = absurd none
+replies_fit bound m (s ∷ steps) (o ∷ outcomes) right = (reply_fits bound m s o right.0, replies_fit bound (stepped m s) steps outcomes right.1)
+
 -- ---- a replay as it is told
 module _ {N : Type 0} (value : N → Fraction) (bound : ℕ) (fits : (x : N) → (unsigned_abs (value x).num ≤ bound) × ((value x).den ≤ bound)) where
   -- each number of an outcome is within the bound, as all numbers of its type
@@ -142,17 +169,17 @@ module _ {N : Type 0} (value : N → Fraction) (bound : ℕ) (fits : (x : N) →
 
   unfoldable pub replays_to : (m : Parts) (steps : List Step) (start now : SessionState) (outcomes : List (StepOutcome N)) (t : Telling) → start ≡ record { market = m; kept = cold }
       → IsMarket m → All IsStep steps
-      → IsReplay bound start.market start.kept.taken.takings steps (map (step_outcome_at value) outcomes) now.kept.taken.takings
+      → IsPrintedReplay bound start.market start.kept.taken.takings steps (map (step_outcome_at value) outcomes) now.kept.taken.takings
       → TellsSteps bound m steps (map (step_outcome_at value) outcomes) t → ReplaysTo bound m steps t
   replays_to m steps start now outcomes t is market data_ok replay told =
-      let right : IsReplay bound m [] steps (map (step_outcome_at value) outcomes) now.kept.taken.takings =
-      subst (λ (s : SessionState). IsReplay bound s.market s.kept.taken.takings steps (map (step_outcome_at value) outcomes) now.kept.taken.takings) is replay in
+      let right : IsPrintedReplay bound m [] steps (map (step_outcome_at value) outcomes) now.kept.taken.takings =
+      subst (λ (s : SessionState). IsPrintedReplay bound s.market s.kept.taken.takings steps (map (step_outcome_at value) outcomes) now.kept.taken.takings) is replay in
       record {
         outcomes = map (step_outcome_at value) outcomes;
         taken = now.kept.taken.takings;
         right = right;
         within = all_within outcomes;
         markets = λ k. steps_market m (take k steps) market (All-take IsStep k steps data_ok);
-        decided = λ none. are_decided bound m [] now.kept.taken.takings steps (map (step_outcome_at value) outcomes) market data_ok none right;
+        decided = λ none. printed_decided bound m [] now.kept.taken.takings steps (map (step_outcome_at value) outcomes) market data_ok none right;
         told = told;
       }

@@ -27,7 +27,7 @@ use Rattle.rights_test.specs.declared.right_parts.Fit.{Fit}
 use Rattle.rights_test.specs.declared.right_parts.Fit.TheVariants as fit
 use Rattle.rights_test.specs.declared.right_parts.Payments.{Payments}
 use Rattle.rights_test.specs.Paid.{payments_of}
-use Rattle.command_answers.specs.Laws.{LawOfTheRightsTelling, LawOfTheRightsText, FitsRightsReport, RightsReport, rights_report_text, paid, unpaid, infeasible, range}
+use Rattle.command_answers.specs.Laws.{LawOfTheRightsTelling, LawOfTheRightsText, FitsRightsReport, RightsReport, outcome_in, rights_report_text, paid, unpaid, infeasible, range}
 use Rattle.command_answers.specs.Rights.{TellsOutcome, fitted, passed, fit_status}
 use Rattle.command_answers.specs.RightsLines.{fit_text, lines_of_payments, payment_at, payment_text, rights_lines, total_text}
 use Rattle.command_answers.specs.Tellings.{Telling, uncertified}
@@ -158,26 +158,20 @@ law_of_the_rights_text m (range r) (infeasible k) fits others e = absurd (Prim.o
 law_of_the_rights_text m (range r) (range s) fits others e = ap range (range_apart m r s e)
 
 -- ---- what a run tells
-abbrev outcome_in : RightsReport → Outcome Fraction
-outcome_in (paid a f p) = outcome.Cleared a
-outcome_in (unpaid a p) = outcome.Cleared a
-outcome_in (infeasible f) = outcome.Infeasible f
-outcome_in (range p) = outcome.Range p
-
-abbrev status_of : RightsReport → Status
+abbrev pub status_of : RightsReport → Status
 status_of (paid a f p) = fit_status f
 status_of (unpaid a p) = status.Range
 status_of (infeasible f) = status.Infeasible
 status_of (range p) = status.Range
 
 -- it is the text of one of these, of the same outcome
-record IsTold (m : Parts) (o : Outcome Fraction) (t : Telling) : Type 0 where
-  report : RightsReport
-  fits : FitsRightsReport m report
-  outcome : outcome_in report ≡ o
-  told : t ≡ uncertified (status_of report) (rights_report_text m report)
+pub record IsTold (m : Parts) (o : Outcome Fraction) (t : Telling) : Type 0 where
+  pub report : RightsReport
+  pub fits : FitsRightsReport m report
+  pub outcome : outcome_in report ≡ o
+  pub told : t ≡ uncertified (status_of report) (rights_report_text m report)
 
-outcome_told : (bound : ℕ) (m : Parts) (rights : List TransmissionRight) (o : Outcome Fraction) (t : Telling) → OutcomeFitsReport m o → TellsOutcome bound m rights o t → IsTold m o t
+pub outcome_told : (bound : ℕ) (m : Parts) (rights : List TransmissionRight) (o : Outcome Fraction) (t : Telling) → OutcomeFitsReport m o → TellsOutcome bound m rights o t → IsTold m o t
 outcome_told bound m rights (outcome.Cleared a) t fits (fitted f is within pays e) = record { report = paid a f (payments_of (total_at (λ x. x) a.prices) rights); fits = fits; outcome = refl; told = e }
 outcome_told bound m rights (outcome.Cleared a) t fits (passed p is within e) = record { report = unpaid a p; fits = fits; outcome = refl; told = e }
 outcome_told bound m rights (outcome.Infeasible f) t fits e = record { report = infeasible f; fits = fits; outcome = refl; told = e }

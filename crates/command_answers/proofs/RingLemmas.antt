@@ -17,19 +17,22 @@ use Rattle.market_system.specs.Ties.{IsFirstFor}
 use Rattle.report_text.specs.Reports.{report_text}
 use Rattle.case_maker.specs.Rings.{ring_of}
 use Rattle.case_maker.proofs.Serving.{is-feasible, serving}
+use Rattle.settled_answer.specs.Settled.{IsSettledAnswer, IsSettledOutcome}
 use Rattle.command_answers.specs.Bounds.{IsAnswerWithin, IsOutcomeWithin}
 use Rattle.command_answers.specs.Making.{MakesTo, cleared, counts, passed, summary, title}
 use Rattle.command_answers.specs.Tellings.{Telling, uncertified}
 use Rattle.command_answers.specs.declared.status.Status.TheVariants as status
 
 module _ {N : Type 0} (value : N → Fraction) (bound : ℕ) (buses seed : ℕ) (m : Parts) (ring : m ≡ ring_of buses seed) (o : Outcome N) (right : IsRightOutcome bound m [] (outcome_at value o)) where
-  pub ring_cleared : (a : Answer N) (t : Telling) → IsMarket m → o ≡ outcome.Cleared a → IsOutcomeWithin bound (outcome_at value o) → t ≡ uncertified status.Done ((title buses seed ++ counts m) ++ summary (answer_at value a)) → MakesTo bound buses seed t
-  ring_cleared a t market is within told =
+  pub ring_cleared : (a : Answer N) (t : Telling) → IsMarket m → o ≡ outcome.Cleared a → IsSettledOutcome bound m (outcome_at value o) → IsOutcomeWithin bound (outcome_at value o)
+      → t ≡ uncertified status.Done ((title buses seed ++ counts m) ++ summary (answer_at value a)) → MakesTo bound buses seed t
+  ring_cleared a t market is priced within told =
       let here = subst (λ (x : Outcome N). IsRightOutcome bound m [] (outcome_at value x)) is right in
       let numbers : IsAnswerWithin bound (answer_at value a) = subst (λ (x : Outcome N). IsOutcomeWithin bound (outcome_at value x)) is within in
       let right_here = here.0 in
+      let settled : IsSettledAnswer bound m (answer_at value a) = subst (λ (x : Outcome N). IsSettledOutcome bound m (outcome_at value x)) is priced in
       let first = subst (λ (x : Parts). IsFirstFor x (all_of x) (dispatch_in (answer_at value a))) ring here.1 in
-      cleared (answer_at value a) (subst IsMarket ring market) (rw ring at right_here) first numbers (rw ring at told)
+      cleared (answer_at value a) (subst IsMarket ring market) (rw ring at right_here) first (subst (λ (x : Parts). IsSettledAnswer bound x (answer_at value a)) ring settled) numbers (rw ring at told)
 
   pub ring_passed : (p : Passed N) (t : Telling) → o ≡ outcome.Range p → IsOutcomeWithin bound (outcome_at value o)
       → t ≡ uncertified status.Range ((title buses seed ++ counts m) ++ report_text m (outcome_at value o)) → MakesTo bound buses seed t

@@ -12,8 +12,6 @@ use Rattle.market_model.specs.declared.participants.Parts.{Parts}
 use Rattle.market_model.specs.Frame.{SameFrame}
 use Rattle.market_model.specs.Market.{IsMarket}
 use Rattle.market_system.specs.Outcomes.{IsRightOutcome}
-use Rattle.market_dict.specs.Takings.{limits_of}
-use Rattle.market_dict.specs.declared.taking.Taking.{Taking}
 use Rattle.cert_format.specs.declared.certificate.Cert.{Cert}
 use Rattle.cert_format.specs.Certificates.{NumbersFit, RowsAreDistinct, cert_against, cert_of, cert_of_outcome}
 use Rattle.cert_format.specs.Grammar.{cert_read}
@@ -26,7 +24,7 @@ use Rattle.cert_verify.proofs.LawLemmas.{law_of_farkas_duals, law_of_right_answe
 use Rattle.cert_verify.proofs.TestLemmas.{yes_none}
 use Rattle.edit_table.specs.declared.Step.{Step}
 use Rattle.edit_table.specs.declared.Step.TheVariants as edit
-use Rattle.edit_replay.specs.Replays.{IsReplay, edited_by, stepped}
+use Rattle.edit_replay.specs.Replays.{edited_by, stepped}
 use Rattle.edit_replay.specs.declared.step_outcome.StepOutcome.{StepOutcome}
 use Rattle.edit_replay.proofs.FrameLemmas.{steps_frame}
 use Rattle.edit_replay.specs.declared.step_outcome.StepOutcome.TheVariants as step
@@ -42,6 +40,8 @@ use Rattle.market_inputs.specs.Replaying.{certificate_in, steps_in}
 use Rattle.market_inputs.specs.RightsInputs.{rights_in}
 use Rattle.market_inputs.proofs.OnceLemmas.{OfOne, clear-once, is-once, then-once}
 use Rattle.market_inputs.specs.Texts.{IsLimited}
+use Rattle.settled_replay.specs.PrintedReplays.{AreRightReplies}
+use Rattle.settled_replay.proofs.StepLemmas.{right_replies}
 use Rattle.command_answers.specs.Clearing.{TellsClear}
 use Rattle.command_answers.specs.Laws.{Certifies, CertifiesLast, IsEdit, IsYesOrRange, LawOfTheReplay, LawOfTheRoundTrip, LawOfTheSameFiles, LawOfYes}
 use Rattle.command_answers.specs.Inputs.{AreEntitled, IsCertified, IsReplayed, MarketCertificate, MarketSteps}
@@ -105,20 +105,20 @@ clear_first bound m taken steps prior q o right (inl (is, all)) =
     inr (record { front = []; rest = steps; steps_are = refl; last = all; taken = taken; right = subst (IsRightOutcome bound m taken) same right })
 clear_first bound m taken steps prior q o right (inr h) = inr (behind bound m edit.Clear steps o h)
 
-last_of : (bound : ℕ) (m : Parts) (before after : List Taking) (steps : List Step) (outcomes : List (StepOutcome Fraction)) (prior : Option (Outcome Fraction)) (o : Outcome Fraction)
-    → IsReplay bound m before steps outcomes after → last_clear prior outcomes ≡ Some o → LastOr bound m steps prior o
-last_of bound m before after [] [] prior o replay is = inl (sym (last_none prior) ∙ is, All-nil IsEdit)
-last_of bound m before after [] (p ∷ outcomes) prior o replay is = absurd replay
-last_of bound m before after (s ∷ steps) [] prior o replay is = absurd replay
-last_of bound m before after (edit.Edit e ∷ steps) (step.Clear q ∷ outcomes) prior o replay is = absurd replay.1
-last_of bound m before after (edit.Edit e ∷ steps) (step.Accepted ∷ outcomes) prior o replay is =
-    edit_first bound m e steps prior o (last_of bound (step_of m e) replay.0 after steps outcomes prior o replay.2 (sym (last_first prior step.Accepted outcomes) ∙ is))
-last_of bound m before after (edit.Edit e ∷ steps) (step.Refused f ∷ outcomes) prior o replay is =
-    edit_first bound m e steps prior o (last_of bound (step_of m e) replay.0 after steps outcomes prior o replay.2 (sym (last_first prior (step.Refused f) outcomes) ∙ is))
-last_of bound m before after (edit.Clear ∷ steps) (step.Accepted ∷ outcomes) prior o replay is = absurd replay.1
-last_of bound m before after (edit.Clear ∷ steps) (step.Refused f ∷ outcomes) prior o replay is = absurd replay.1
-last_of bound m before after (edit.Clear ∷ steps) (step.Clear q ∷ outcomes) prior o replay is =
-    clear_first bound m (limits_of before) steps prior q o replay.1.0.right (last_of bound m replay.0 after steps outcomes (Some q) o replay.2 (sym (last_first prior (step.Clear q) outcomes) ∙ is))
+last_of : (bound : ℕ) (m : Parts) (steps : List Step) (outcomes : List (StepOutcome Fraction)) (prior : Option (Outcome Fraction)) (o : Outcome Fraction)
+    → AreRightReplies bound m steps outcomes → last_clear prior outcomes ≡ Some o → LastOr bound m steps prior o
+last_of bound m [] [] prior o right is = inl (sym (last_none prior) ∙ is, All-nil IsEdit)
+last_of bound m [] (p ∷ outcomes) prior o right is = absurd right
+last_of bound m (s ∷ steps) [] prior o right is = absurd right
+last_of bound m (edit.Edit e ∷ steps) (step.Clear q ∷ outcomes) prior o right is = absurd right.0
+last_of bound m (edit.Edit e ∷ steps) (step.Accepted ∷ outcomes) prior o right is =
+    edit_first bound m e steps prior o (last_of bound (step_of m e) steps outcomes prior o right.1 (sym (last_first prior step.Accepted outcomes) ∙ is))
+last_of bound m (edit.Edit e ∷ steps) (step.Refused f ∷ outcomes) prior o right is =
+    edit_first bound m e steps prior o (last_of bound (step_of m e) steps outcomes prior o right.1 (sym (last_first prior (step.Refused f) outcomes) ∙ is))
+last_of bound m (edit.Clear ∷ steps) (step.Accepted ∷ outcomes) prior o right is = absurd right.0
+last_of bound m (edit.Clear ∷ steps) (step.Refused f ∷ outcomes) prior o right is = absurd right.0
+last_of bound m (edit.Clear ∷ steps) (step.Clear q ∷ outcomes) prior o right is =
+    clear_first bound m right.0.0.0 steps prior q o right.0.0.1 (last_of bound m steps outcomes (Some q) o right.1 (sym (last_first prior (step.Clear q) outcomes) ∙ is))
 
 module _ (bound : ℕ) (r : MarketSteps) (t : Telling) (text : List ℕ) (replays : ReplaysTo bound r.market r.steps t) where
   -- the certificate of an outcome of a market, and its text: edits change neither how many places factors have nor whether reserve is listed
@@ -142,7 +142,7 @@ module _ (bound : ℕ) (r : MarketSteps) (t : Telling) (text : List ℕ) (replay
   by_last : (last : Option (Outcome Fraction)) → last_clear None replays.outcomes ≡ last → IfSome (option_and_then (cert_in r.market) last) (NumbersFit bound) → option_and_then (text_in r.market) last ≡ Some text
       → (c : Cert Fraction) × (option_and_then (cert_in r.market) last ≡ Some c) × CertifiesLast bound r text c
   by_last None e fits is = cc is
-  by_last (Some o) e fits is = from (last_of bound r.market [] replays.taken r.steps replays.outcomes None o replays.right e)
+  by_last (Some o) e fits is = from (last_of bound r.market r.steps replays.outcomes None o (right_replies bound r.market [] replays.taken r.steps replays.outcomes replays.right) e)
     where
       from : LastOr bound r.market r.steps None o → (c : Cert Fraction) × (cert_in r.market o ≡ Some c) × CertifiesLast bound r text c
       from (inl (none, all)) = cc none

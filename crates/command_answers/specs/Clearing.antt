@@ -7,6 +7,7 @@ use Rattle.market_model.specs.declared.answered.Outcome.TheVariants as outcome
 use Rattle.market_model.specs.Market.{IsMarket}
 use Rattle.market_system.specs.Outcomes.{IsRightOutcome}
 use Rattle.report_text.specs.Reports.{report_text}
+use Rattle.settled_answer.specs.Settled.{IsSettledOutcome}
 use Rattle.cert_format.specs.Certificates.{NumbersFit, cert_of_outcome}
 use Rattle.cert_format.specs.Written.{certificate_of}
 use Rattle.command_answers.specs.Bounds.{IsOutcomeWithin}
@@ -28,11 +29,12 @@ pub record TellsCertified (bound : ℕ) (m : Parts) (o : Outcome Fraction) (t : 
   pub certificate_fits : IfSome (cert_of_outcome m.factor_places m.reserve.listed o) (NumbersFit bound)
 
 -- What is told is that of a right outcome of the market, with no limits taken before: the report of a right answer, of duals that show
--- that no dispatch is feasible, or of two numbers of the market whose outcome passes the bound; each number of it is within the bound. Its
--- certificate is that of the answer, or of the duals, with a part on reserve where the market lists it, and its numbers are within their bounds.
+-- that no dispatch is feasible, or of two numbers of the market whose outcome passes the bound; each number of it is within the bound. An answer
+-- has the first prices of its dispatch, or a number passed the bound on the way to these. Its certificate is that of the answer, or of the duals, with a part on reserve where the market lists it, and its numbers are within their bounds.
 pub record ClearsTo (bound : ℕ) (m : Parts) (t : Telling) : Type 0 where
   pub outcome : Outcome Fraction
   pub right : IsRightOutcome bound m [] outcome
+  pub priced : IsSettledOutcome bound m outcome
   pub within : IsOutcomeWithin bound outcome
   pub told : TellsCertified bound m outcome t
 

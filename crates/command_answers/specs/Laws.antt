@@ -4,6 +4,7 @@ use Rattle.fraction_theory.specs.Fraction.{Fraction}
 use Rattle.exact_fraction.specs.declared.Passed.{Passed}
 use Rattle.market_model.specs.declared.answered.Answer.{Answer}
 use Rattle.market_model.specs.declared.answered.Farkas.{Farkas}
+use Rattle.market_model.specs.declared.answered.Outcome.{Outcome}
 use Rattle.market_model.specs.declared.answered.Outcome.TheVariants as outcome
 use Rattle.market_model.specs.declared.participants.Parts.{Parts}
 use Rattle.market_model.specs.declared.participants.TransmissionRight.{TransmissionRight}
@@ -28,6 +29,8 @@ use Rattle.market_data.specs.declared.scales.FactorPlaces.{FactorPlaces}
 use Rattle.net_case.specs.declared.live_parts.PostRating.{PostRating}
 use Rattle.report_text.specs.ReportLaws.{DualsFitReport, FitsReport}
 use Rattle.report_text.specs.Reports.{range_text, report_text}
+use Rattle.settled_answer.specs.Settled.{HasFirstPrices}
+use Rattle.settled_replay.specs.Refusals.{AllFirst}
 use Rattle.rights_test.specs.declared.right_parts.Fit.{Fit}
 use Rattle.rights_test.specs.declared.right_parts.Payments.{Payments}
 use Rattle.refusal_text.specs.declared.refusals.Input.TheVariants as input
@@ -47,18 +50,20 @@ abbrev pub LawOfListedReserve : Type 0
 LawOfListedReserve = (rating : PostRating) (places : FactorPlaces) (files : MarketTexts) (m : Parts) → IsLimited rating places files (Ok m) → (m.reserve ≡ no_reserve) ↔ ListsNoReserve files.reserves
 
 -- ---- bounds
--- what a clear comes to by numbers within a bound, no two of which became too large, is right by a greater one too
+-- what a clear comes to by numbers within a bound, where no two of them became too large and an answer has first prices, is right by a greater one
+-- too
 abbrev pub LawOfWiderClears : Type 0
-LawOfWiderClears = (less bound : ℕ) (m : Parts) (t : Telling) → less ≤ bound → TellsClear less m t → t.status ≢ status.Range → TellsClear bound m t
+LawOfWiderClears = (less bound : ℕ) (m : Parts) (t : Telling) → less ≤ bound → (h : TellsClear less m t) → t.status ≢ status.Range → HasFirstPrices m h.1.outcome → TellsClear bound m t
 
 -- so is what a clear with rights comes to
 abbrev pub LawOfWiderRights : Type 0
-LawOfWiderRights = (less bound : ℕ) (m : Parts) (rights : List TransmissionRight) (t : Telling) → less ≤ bound → EntitlesTo less m rights t → t.status ≢ status.Range → EntitlesTo bound m rights t
+LawOfWiderRights =
+    (less bound : ℕ) (m : Parts) (rights : List TransmissionRight) (t : Telling) → less ≤ bound → (h : EntitlesTo less m rights t) → t.status ≢ status.Range → HasFirstPrices m h.outcome → EntitlesTo bound m rights t
 
--- so is what a replay comes to, where none of its clears ended so
+-- so is what a replay comes to, where none of its clears ended so and each answer has first prices
 abbrev pub LawOfWiderReplays : Type 0
 LawOfWiderReplays =
-    (less bound : ℕ) (m : Parts) (steps : List Step) (t : Telling) → less ≤ bound → IsMarket m → All IsStep steps → (h : ReplaysTo less m steps t) → All IsNoRange h.outcomes → ReplaysTo bound m steps t
+    (less bound : ℕ) (m : Parts) (steps : List Step) (t : Telling) → less ≤ bound → IsMarket m → All IsStep steps → (h : ReplaysTo less m steps t) → All IsNoRange h.outcomes → AllFirst m steps h.outcomes → ReplaysTo bound m steps t
 
 -- ---- certificates
 -- a text is read as this certificate, of numbers within the bound, which is true of the market, and the verdict on it is yes
@@ -121,6 +126,13 @@ rights_report_text m (paid a f p) = report_text m (outcome.Cleared a) ++ rights_
 rights_report_text m (unpaid a p) = report_text m (outcome.Cleared a) ++ range_text p
 rights_report_text m (infeasible f) = report_text m (outcome.Infeasible f)
 rights_report_text m (range p) = report_text m (outcome.Range p)
+
+-- the outcome that it tells
+abbrev pub outcome_in : RightsReport → Outcome Fraction
+outcome_in (paid a f p) = outcome.Cleared a
+outcome_in (unpaid a p) = outcome.Cleared a
+outcome_in (infeasible f) = outcome.Infeasible f
+outcome_in (range p) = outcome.Range p
 
 -- its answer, where there is one, fits the market's report, and so do Farkas duals; nothing is asked of the fit and the payments
 abbrev pub FitsRightsReport : Parts → RightsReport → Type 0

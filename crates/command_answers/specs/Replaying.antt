@@ -17,7 +17,8 @@ use Rattle.edit_table.specs.declared.Step.{Step}
 use Rattle.edit_table.specs.declared.Step.TheVariants as edit
 use Rattle.edit_replay.specs.declared.step_outcome.StepOutcome.{StepOutcome}
 use Rattle.edit_replay.specs.declared.step_outcome.StepOutcome.TheVariants as step
-use Rattle.edit_replay.specs.Replays.{IsReplay, edited_by}
+use Rattle.edit_replay.specs.Replays.{edited_by}
+use Rattle.settled_replay.specs.PrintedReplays.{IsPrintedReplay}
 use Rattle.replay_text.specs.ReplayTexts.{replayed}
 use Rattle.command_answers.specs.declared.status.Status.{Status}
 use Rattle.command_answers.specs.declared.status.Status.TheVariants as status
@@ -92,13 +93,14 @@ pub record TellsSteps (bound : ℕ) (m : Parts) (steps : List Step) (outcomes : 
   pub certificate_fits : IfSome (option_and_then (cert_of_outcome m.factor_places m.reserve.listed) (last_clear None outcomes)) (NumbersFit bound)
 
 -- What is told is that of right outcomes, one for each step: those of edits as the market stands then, and those of clears of the market
--- as it is edited by then, with no limits and no rooms taken before the first; each of these is a market. Each number of a clear's outcome is
+-- as it is edited by then, with no limits and no rooms taken before the first; each of these is a market. What a clear comes to is told as it is
+-- to be printed: an answer has the first prices of its dispatch, or a number passed the bound on the way to these. Each number of a clear's outcome is
 -- within the bound, and each clear is decided, where no working pair passes the bound at any. The certificate is that of the last clear, and
 -- its numbers are within their bounds.
 pub record ReplaysTo (bound : ℕ) (m : Parts) (steps : List Step) (t : Telling) : Type 0 where
   pub outcomes : List (StepOutcome Fraction)
   pub taken : List Taking
-  pub right : IsReplay bound m [] steps outcomes taken
+  pub right : IsPrintedReplay bound m [] steps outcomes taken
   pub within : All (IsStepWithin bound) outcomes
   pub markets : (k : ℕ) → IsMarket (edited_by m (take k steps))
   pub decided : NoPairPassesIn m [] steps bound → AreDecided m steps outcomes

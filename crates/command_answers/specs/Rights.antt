@@ -11,6 +11,7 @@ use Rattle.market_model.specs.Rights.{IsTransmissionRight}
 use Rattle.market_model.specs.Valued.{total_at}
 use Rattle.market_system.specs.Outcomes.{IsRightOutcome}
 use Rattle.report_text.specs.Reports.{range_text, report_text}
+use Rattle.settled_answer.specs.Settled.{IsSettledOutcome}
 use Rattle.rights_test.specs.declared.right_parts.Fit.{Fit}
 use Rattle.rights_test.specs.declared.right_parts.Fit.TheVariants as fit
 use Rattle.rights_test.specs.Fits.{IsFit, IsFitRefusal}
@@ -45,10 +46,11 @@ TellsOutcome bound m rights (outcome.Cleared a) t = TellsFit bound m rights (tot
 TellsOutcome bound m rights (outcome.Infeasible f) t = t ≡ uncertified status.Infeasible (report_text m (outcome.Infeasible f))
 TellsOutcome bound m rights (outcome.Range p) t = t ≡ uncertified status.Range (report_text m (outcome.Range p))
 
--- what is told is that of a right outcome of the market with no limits taken before, as for a clear
+-- what is told is that of a right and settled outcome of the market with no limits taken before, as for a clear
 pub record EntitlesTo (bound : ℕ) (m : Parts) (rights : List TransmissionRight) (t : Telling) : Type 0 where
   pub outcome : Outcome Fraction
   pub right : IsRightOutcome bound m [] outcome
+  pub priced : IsSettledOutcome bound m outcome
   pub within : IsOutcomeWithin bound outcome
   pub told : TellsOutcome bound m rights outcome t
 

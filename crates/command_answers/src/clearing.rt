@@ -1,12 +1,13 @@
 //! Markets that are cleared.
 
-ghost use Rattle.std.specs.Prelude.{◌≡◌, [], IfOk};
+ghost use Rattle.std.specs.Prelude.{◌≡◌, ◌≤◌, ℕ, false, [], IfOk};
 ghost use Rattle.market_tables.specs.Tables.{tables_lent};
 ghost use Rattle.market_model.specs.Fitting.{FitsOutcome};
 ghost use Rattle.market_model.specs.Market.{IsMarket};
 ghost use Rattle.market_model.specs.Valued.{outcome_at, passed_at};
 ghost use Rattle.market_system.specs.Outcomes.{IsRightOutcome};
 ghost use Rattle.report_text.specs.Reports.{range_text};
+ghost use Rattle.settled_answer.specs.Settled.{HasFirstPrices, IsSettledOutcome};
 ghost use Rattle.command_answers.specs.Bounds.{IsOutcomeWithin};
 ghost use Rattle.command_answers.specs.Clearing.{ClearsTo, TellsCertified, TellsClear, status_of};
 ghost use Rattle.command_answers.specs.Status.{IsOfWork};
@@ -14,11 +15,10 @@ ghost use Rattle.command_answers.specs.Tellings.{MadeTo, Tells, telling_of};
 ghost use Rattle.market_inputs.specs.Texts.{IsPool, IsLimited};
 ghost use Rattle.number_bits.specs.Bits.{most_of};
 
-use crate::anew::is_made_anew;
+use crate::anew::{is_made_anew, is_told_passed};
 use crate::status::Status;
-use crate::told::{Outputs, Told, refused};
+use crate::told::{Attempt, Outputs, Told, refused};
 use cert_format::outcome_json;
-use clear_loop::{Clearer, outcome};
 use exact_fraction::{Exact, Frac, Passed};
 use long_fraction::Frac1023;
 use market_data::FactorPlaces;
@@ -28,16 +28,18 @@ use market_tables::MarketTables;
 use net_case::PostRating;
 use number_bits::NumberBits;
 use report_text::report;
+use settled_replay::{SettledClear, settled_clear};
 use std::alloc::Global;
 
-/// What a market is cleared to.
-pub(crate) fn cleared<N: Exact>(alloc: Global, market: &Market) -> Result<Outcome<N>, Memory>
-    ensures fits { IfOk result (FitsOutcome market.now) }
-    ensures right { IfOk result (λ outcome. IsRightOutcome N.bound market.now [] (outcome_at N.value outcome)) }
-    ensures within { IfOk result (λ outcome. IsOutcomeWithin N.bound (outcome_at N.value outcome)) }
+/// What is printed of a market, and whether settling was refused.
+pub(crate) fn cleared<N: Exact>(alloc: Global, market: &Market) -> Result<SettledClear<N>, Memory>
+    ensures fits { IfOk result (λ cleared. FitsOutcome market.now cleared.outcome) }
+    ensures right { IfOk result (λ cleared. IsRightOutcome N.bound market.now [] (outcome_at N.value cleared.outcome)) }
+    ensures priced { IfOk result (λ cleared. IsSettledOutcome N.bound market.now (outcome_at N.value cleared.outcome)) }
+    ensures first { IfOk result (λ cleared. cleared.is_passed ≡ false → HasFirstPrices market.now (outcome_at N.value cleared.outcome)) }
+    ensures within { IfOk result (λ cleared. IsOutcomeWithin N.bound (outcome_at N.value cleared.outcome)) }
 {
-    let mut clearer = Clearer::new(market);
-    outcome(clearer.clear(alloc, market))
+    settled_clear(alloc, market)
 }
 
 /// The status of what a market was cleared to.
@@ -84,26 +86,29 @@ fn outcome_told<N: Exact>(
 }
 
 /// What clearing a market comes to.
-fn clear_outcome<N: Exact>(alloc: Global, market: &Market) -> Result<Told, Memory>
-    ensures status { IfOk result (λ told. IsOfWork told.status) }
-    ensures clears { IfOk result (λ told. ClearsTo N.bound market.now (telling_of told)) }
+fn clear_outcome<N: Exact>(alloc: Global, market: &Market) -> Result<Attempt, Memory>
+    ensures status { IfOk result (λ made. IsOfWork made.told.status) }
+    ensures clears { IfOk result (λ made. ClearsTo N.bound market.now (telling_of made.told)) }
+    ensures wider { (bound : ℕ) → N.bound ≤ bound → IfOk result (λ made. made.is_passed ≡ false → ClearsTo bound market.now (telling_of made.told)) }
 {
-    let outcome = cleared::<N>(alloc, market)?;
-    outcome_told(alloc, market, &outcome)
+    let cleared = cleared::<N>(alloc, market)?;
+    let told = outcome_told(alloc, market, &cleared.outcome)?;
+    let is_passed = is_told_passed(cleared.is_passed, told.status);
+    Ok(Attempt { told, is_passed })
 }
 
-/// What clearing a market comes to by numbers of so many bits. It is cleared by numbers of 127 bits, and anew where these become too large
+/// What clearing a market comes to by numbers of so many bits. It is cleared by numbers of 127 bits, and anew where one of these becomes too large
 /// and wider ones are asked for.
 fn clear_by(alloc: Global, market: &Market, bits: NumberBits) -> Result<Told, Memory>
     ensures status { IfOk result (λ told. IsOfWork told.status) }
     ensures clears { IfOk result (λ told. ClearsTo (most_of bits) market.now (telling_of told)) }
 {
-    let told = clear_outcome::<Frac>(alloc, market)?;
-    if is_made_anew(bits, told.status) {
-        clear_outcome::<Frac1023>(alloc, market)
-    } else {
-        Ok(told)
+    let made = clear_outcome::<Frac>(alloc, market)?;
+    if !is_made_anew(bits, made.is_passed) {
+        return Ok(made.told);
     }
+    let anew = clear_outcome::<Frac1023>(alloc, market)?;
+    Ok(anew.told)
 }
 
 /// What a market comes to by numbers of so many bits, or why none was made.

@@ -11,6 +11,7 @@ ghost use Rattle.market_model.specs.Fitting.{FitsOutcome};
 ghost use Rattle.market_model.specs.Market.{IsMarket};
 ghost use Rattle.market_system.specs.Outcomes.{IsRightOutcome};
 ghost use Rattle.report_text.specs.Reports.{report_text};
+ghost use Rattle.settled_answer.specs.Settled.{IsSettledOutcome};
 ghost use Rattle.market_data.specs.Scales.{IsRingSize};
 ghost use Rattle.number_bits.specs.Bits.{most_of};
 ghost use Rattle.number_bits.specs.declared.NumberBits.TheVariants.{Bits127};
@@ -123,6 +124,7 @@ fn outcome_told<N: Exact>(
     requires kept { IsMarket ring.now.market.now }
     requires fits { FitsOutcome ring.now.market.now outcome.now }
     requires right { IsRightOutcome N.bound ring.now.market.now [] (outcome_at N.value outcome.now) }
+    requires priced { IsSettledOutcome N.bound ring.now.market.now (outcome_at N.value outcome.now) }
     requires within { IsOutcomeWithin N.bound (outcome_at N.value outcome.now) }
     ensures status { IfOk result (λ told. IsOfWork told.status) }
     ensures makes { IfOk result (λ told. MakesTo N.bound ring.now.buses ring.now.seed (telling_of told)) }
@@ -144,8 +146,8 @@ fn ring_told<N: Exact>(alloc: Global, ring: &Ring<'_>) -> Result<Told, Memory>
     ensures status { IfOk result (λ told. IsOfWork told.status) }
     ensures makes { IfOk result (λ told. MakesTo N.bound ring.now.buses ring.now.seed (telling_of told)) }
 {
-    let outcome = cleared::<N>(alloc, ring.market)?;
-    outcome_told(alloc, ring, &outcome)
+    let cleared = cleared::<N>(alloc, ring.market)?;
+    outcome_told(alloc, ring, &cleared.outcome)
 }
 
 /// What the ring of a seed comes to, of 4, 8, 16, 32 or 64 buses.

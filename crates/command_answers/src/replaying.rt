@@ -19,10 +19,10 @@ ghost use Rattle.command_answers.specs.Status.{IsOfWork};
 ghost use Rattle.command_answers.specs.Tellings.{Tells, telling_of};
 ghost use Rattle.number_bits.specs.Bits.{most_of};
 
-use crate::anew::is_replayed_anew;
+use crate::anew::{is_either, is_made_anew};
 use crate::clearing::clear_status;
 use crate::status::Status;
-use crate::told::{Outputs, Told, refused};
+use crate::told::{Attempt, Outputs, Told, refused};
 use cert_format::outcome_json;
 use edit_replay::{Outcomes, Session, StepOutcome, Steps};
 use exact_fraction::{Exact, Frac};
@@ -34,6 +34,7 @@ use market_tables::MarketTables;
 use net_case::PostRating;
 use number_bits::NumberBits;
 use replay_text::replay_text;
+use settled_replay::settled_replay;
 use std::alloc::Global;
 
 /// The market of the files of a replay, and its steps.
@@ -149,13 +150,6 @@ fn is_any_passed<N: Exact>(outcomes: &Outcomes<N>) -> bool
     false
 }
 
-/// What a replay comes to by one type of numbers, and whether a clear in it ended with numbers that became too large.
-#[derive(Drop)]
-struct ReplayTold {
-    told: Told,
-    is_passed: bool,
-}
-
 /// The text of the outcomes of steps, by a market of their frame and by the need of reserve before the first step, with their status and
 /// the certificate of the last clear.
 fn outcomes_told<N: Exact>(
@@ -164,7 +158,7 @@ fn outcomes_told<N: Exact>(
     need: i64,
     steps: &Steps,
     outcomes: &Outcomes<N>,
-) -> Result<ReplayTold, Memory>
+) -> Result<Attempt, Memory>
     requires count { length outcomes.now ≡ length steps.now }
     requires fits { All (FitsStep market.now) outcomes.now }
     ensures status { IfOk result (λ made. IsOfWork made.told.status) }
@@ -180,7 +174,7 @@ fn outcomes_told<N: Exact>(
         outputs: Outputs::certified(certificate),
     };
     let is_passed = is_any_passed(outcomes);
-    Ok(ReplayTold { told, is_passed })
+    Ok(Attempt { told, is_passed })
 }
 
 /// How much reserve is needed, in 10^-9 MW.
@@ -191,11 +185,7 @@ fn need_of(market: &Market) -> i64
 }
 
 /// What replaying the steps of a market comes to.
-fn replay_outcome<N: Exact>(
-    alloc: Global,
-    market: Market,
-    steps: &Steps,
-) -> Result<ReplayTold, Memory>
+fn replay_outcome<N: Exact>(alloc: Global, market: Market, steps: &Steps) -> Result<Attempt, Memory>
     requires market { IsMarket market }
     requires steps { All IsStep steps.now }
     ensures status { IfOk result (λ made. IsOfWork made.told.status) }
@@ -204,8 +194,12 @@ fn replay_outcome<N: Exact>(
 {
     let need = need_of(&market);
     let mut session = Session::<N>::new(market);
-    let outcomes = session.replay(alloc, steps)?;
-    outcomes_told(alloc, session.market(), need, steps, &outcomes)
+    let printed = settled_replay(&mut session, alloc, steps)?;
+    let made = outcomes_told(alloc, session.market(), need, steps, &printed.outcomes)?;
+    Ok(Attempt {
+        told: made.told,
+        is_passed: is_either(made.is_passed, printed.is_passed),
+    })
 }
 
 /// What the whole bytes of the files of a market and of a table of edits come to by one type of numbers.
@@ -215,14 +209,14 @@ fn replay_by<N: Exact>(
     rating: PostRating,
     places: FactorPlaces,
     edits: &[u8],
-) -> Result<ReplayTold, Memory>
+) -> Result<Attempt, Memory>
     ensures status { IfOk result (λ made. IsOfWork made.told.status) }
     ensures tells { IfOk result (λ made. Tells (IsReplayed rating places (tables_lent bytes.now) edits.now) (TellsReplay N.bound) (telling_of made.told)) }
     ensures wider { (bound : ℕ) → N.bound ≤ bound → IfOk result (λ made. made.is_passed ≡ false → Tells (IsReplayed rating places (tables_lent bytes.now) edits.now) (TellsReplay bound) (telling_of made.told)) }
 {
     match replay_inputs(alloc, bytes, rating, places, edits) {
         Ok(replayed) => replay_outcome::<N>(alloc, replayed.market, &replayed.steps),
-        Err(InputStop::Refused(refusal)) => Ok(ReplayTold {
+        Err(InputStop::Refused(refusal)) => Ok(Attempt {
             told: refused(alloc, &refusal)?,
             is_passed: false,
         }),
@@ -231,7 +225,7 @@ fn replay_by<N: Exact>(
 }
 
 /// What the whole bytes of the files of a market and of a table of edits come to by numbers of so many bits. They are replayed by numbers of
-/// 127 bits, and anew as a whole where these become too large in a clear and wider ones are asked for.
+/// 127 bits, and anew as a whole where one of these becomes too large in a clear and wider ones are asked for.
 pub fn replay_told(
     alloc: Global,
     bytes: &MarketTables<&[u8]>,
@@ -244,7 +238,7 @@ pub fn replay_told(
     ensures tells { IfOk result (λ told. Tells (IsReplayed rating places (tables_lent bytes.now) edits.now) (TellsReplay (most_of bits)) (telling_of told)) }
 {
     let made = replay_by::<Frac>(alloc, bytes, rating, places, edits)?;
-    if !is_replayed_anew(bits, made.is_passed) {
+    if !is_made_anew(bits, made.is_passed) {
         return Ok(made.told);
     }
     let anew = replay_by::<Frac1023>(alloc, bytes, rating, places, edits)?;

@@ -1,6 +1,6 @@
 //! Markets that are cleared, with the rights to what their limits earn.
 
-ghost use Rattle.std.specs.Prelude.{◌≡◌, [], All, IfErr, IfOk, ℕ, length};
+ghost use Rattle.std.specs.Prelude.{◌≡◌, ◌≤◌, false, [], All, IfErr, IfOk, ℕ, length};
 ghost use Rattle.fraction_theory.specs.Fraction.{Fraction};
 ghost use Rattle.market_tables.specs.Tables.{tables_lent};
 ghost use Rattle.market_inputs.specs.Stops.{IsToldAs};
@@ -17,11 +17,11 @@ ghost use Rattle.command_answers.specs.Status.{IsOfWork};
 ghost use Rattle.command_answers.specs.Tellings.{Tells, telling_of, uncertified};
 ghost use Rattle.number_bits.specs.Bits.{most_of};
 
-use crate::anew::is_made_anew;
+use crate::anew::{is_made_anew, is_told_passed};
 use crate::clearing::{clear_status, cleared, range_report};
 use crate::rights_lines::rights_lines;
 use crate::status::Status;
-use crate::told::{Told, refused, uncertified};
+use crate::told::{Attempt, Told, refused, uncertified};
 use exact_fraction::{Exact, Frac};
 use line_text::Text;
 use long_fraction::Frac1023;
@@ -167,17 +167,20 @@ fn rights_outcome<N: Exact>(
     alloc: Global,
     market: &Market,
     rights: &[TransmissionRight],
-) -> Result<Told, Memory>
+) -> Result<Attempt, Memory>
     requires { All (IsTransmissionRight (length market.now.buses)) rights.now }
-    ensures status { IfOk result (λ told. IsOfWork told.status) }
-    ensures entitles { IfOk result (λ told. EntitlesTo N.bound market.now rights.now (telling_of told)) }
+    ensures status { IfOk result (λ made. IsOfWork made.told.status) }
+    ensures entitles { IfOk result (λ made. EntitlesTo N.bound market.now rights.now (telling_of made.told)) }
+    ensures wider { (bound : ℕ) → N.bound ≤ bound → IfOk result (λ made. made.is_passed ≡ false → EntitlesTo bound market.now rights.now (telling_of made.told)) }
 {
-    let outcome = cleared::<N>(alloc, market)?;
-    outcome_told(alloc, market, rights, &outcome)
+    let cleared = cleared::<N>(alloc, market)?;
+    let told = outcome_told(alloc, market, rights, &cleared.outcome)?;
+    let is_passed = is_told_passed(cleared.is_passed, told.status);
+    Ok(Attempt { told, is_passed })
 }
 
-/// What clearing a market with rights comes to by numbers of so many bits. It is made by numbers of 127 bits, and anew where these become too
-/// large and wider ones are asked for.
+/// What clearing a market with rights comes to by numbers of so many bits. It is made by numbers of 127 bits, and anew where one of these becomes
+/// too large and wider ones are asked for.
 fn rights_by(
     alloc: Global,
     market: &Market,
@@ -188,12 +191,12 @@ fn rights_by(
     ensures status { IfOk result (λ told. IsOfWork told.status) }
     ensures entitles { IfOk result (λ told. EntitlesTo (most_of bits) market.now rights.now (telling_of told)) }
 {
-    let told = rights_outcome::<Frac>(alloc, market, rights)?;
-    if is_made_anew(bits, told.status) {
-        rights_outcome::<Frac1023>(alloc, market, rights)
-    } else {
-        Ok(told)
+    let made = rights_outcome::<Frac>(alloc, market, rights)?;
+    if !is_made_anew(bits, made.is_passed) {
+        return Ok(made.told);
     }
+    let anew = rights_outcome::<Frac1023>(alloc, market, rights)?;
+    Ok(anew.told)
 }
 
 /// What the whole bytes of the files of a market and of a table of rights come to, by numbers of so many bits.

@@ -52,6 +52,14 @@ pub struct Told {
     pub outputs: Outputs<Vec<u8>>,
 }
 
+/// What a command comes to by numbers of one type, and whether one of these became too large: in what is told, or on the way to the first prices
+/// of an answer, which then has its own.
+#[derive(Drop)]
+pub(crate) struct Attempt {
+    pub told: Told,
+    pub is_passed: bool,
+}
+
 /// A status and its text, with nothing for a file.
 pub(crate) fn uncertified(status: Status, text: Vec<u8>) -> Told
     ensures status { result.status ≡ status }

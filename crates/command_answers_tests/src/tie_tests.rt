@@ -69,6 +69,10 @@ const LOST: &str =
 const FREE_RESERVE: &str =
     "cleared\nwelfare -600\nenergy 10\nreserve price 0 need 30\nbus 1 price 10 congestion 0\nbus 2 price 10 congestion 0\nbus 3 price 10 congestion 0\nblock 1 sell 1 mw 60\nblock 2 sell 1 mw 0\nunit 1 mw 60 paid 600\nunit 2 mw 0 paid 0\nunit 3 mw 0 paid 0\nreserve 2 mw 20 paid 0\nreserve 1 mw 40 paid 0\nload 1 mw 0 pays 0\nload 2 mw 0 pays 0\nload 3 mw 60 pays 600\nsurplus 0\n";
 
+/// Unit 1 sells all that it offers, at 10: the price is as low as that leaves it.
+const SOLD_OUT: &str =
+    "cleared\nwelfare -600\nenergy 10\nbus 1 price 10 congestion 0\nbus 2 price 10 congestion 0\nbus 3 price 10 congestion 0\nblock 1 sell 1 mw 60\nblock 2 sell 1 mw 0\nunit 1 mw 60 paid 600\nunit 2 mw 0 paid 0\nunit 3 mw 0 paid 0\nload 1 mw 0 pays 0\nload 2 mw 0 pays 0\nload 3 mw 60 pays 600\nsurplus 0\n";
+
 /// The records of a market's tables, beside the ratings of branch 2.
 #[derive(Clone, Copy)]
 struct Records<'a> {
@@ -232,5 +236,43 @@ fn serves_the_same_after_edits(rt: HostRuntime) -> Result<(), Fail> {
         NumberBits::Bits127,
     )?;
     assert!(rt; replayed.text.ends_with(EARLIER.as_bytes()));
+    Ok(())
+}
+
+/// What is told of a market after edits that leave it as it was, where several prices support its dispatch: those that a clear of its own tells.
+/// First the load is 70 MW for a clear, then the flow of 45 MW of branch 2 is 5 MW above its limit for one.
+#[test]
+fn prices_the_same_after_edits(rt: HostRuntime) -> Result<(), Fail> {
+    let alloc = rt.alloc();
+    for (records, edits) in [
+        (
+            Records {
+                offers: "1,sell,60,10\n2,sell,50,20",
+                ..PLAIN
+            },
+            "demand,3,,,70\nclear,,,,\ndemand,3,,,60\nclear,,,,\n",
+        ),
+        (
+            Records {
+                ratings: "45 0 0",
+                offers: "1,sell,100,10\n2,sell,100,30",
+                ..PLAIN
+            },
+            "limit,2,base,,40\nclear,,,,\nlimit,2,base,,45\nclear,,,,\n",
+        ),
+    ] {
+        let edits = format!(in alloc; "op,target,side,block,value\n{edits}")?;
+        let texts = Texts::new(alloc, &records)?;
+        let replayed = replay_told(
+            alloc,
+            &texts.tables(),
+            PostRating::C,
+            FactorPlaces::Six,
+            edits.as_bytes(),
+            NumberBits::Bits127,
+        )?;
+        assert!(&rt; tells(cleared(alloc, &records)?, Status::Done, SOLD_OUT.as_bytes()));
+        assert!(&rt; replayed.text.ends_with(SOLD_OUT.as_bytes()));
+    }
     Ok(())
 }

@@ -53,7 +53,14 @@ use Rattle.edit_table.specs.declared.Step.{Step}
 use Rattle.edit_replay.specs.Replays.{edited_by}
 use Rattle.report_text.specs.Reports.{range_text}
 use Rattle.report_text.proofs.OutcomeReading.{outcome_fits, reports_apart}
-use Rattle.replay_text.proofs.ReplayReading.{replay_fits, replays_read_apart}
+use Rattle.replay_text.proofs.ReplayReading.{replays_read_apart}
+use Rattle.one_price.specs.FirstPrices.{AreFirstDuals}
+use Rattle.settled_answer.specs.Settled.{IsSettledAnswer, NoPricePasses}
+use Rattle.settled_answer.specs.Settled as settled_answer
+use Rattle.settled_answer.proofs.NumberLaws.{law_of_all_price_numbers}
+use Rattle.settled_replay.specs.Laws.{LawOfOneReport}
+use Rattle.settled_replay.proofs.StepLemmas.{right_replies}
+use Rattle.command_answers.proofs.ReplayLemmas.{replies_fit}
 use Rattle.refusal_text.specs.Refusals.{refusal_line}
 use Rattle.refusal_text.specs.declared.refusals.FactorFault.{FactorFault}
 use Rattle.refusal_text.specs.declared.refusals.FactorFault.TheVariants as factor_fault
@@ -89,7 +96,7 @@ use Rattle.command_answers.specs.Verifying.{TellsVerdict, VerifiesTo, judged, pa
 use Rattle.command_answers.specs.declared.status.Status.{Status}
 use Rattle.command_answers.specs.declared.status.Status.TheVariants as status
 use Rattle.sced.specs.Asked.{AsksForFactors, AsksMarket, AsksSteps, AsksVerdict, as_clear, as_pool, clear_bound}
-use Rattle.sced.specs.Headline.{HasCertificate, IsAsked, HasGreatestWelfare, IsFirstRefusal, IsRingText, IsPriced, IsReplayText, IsReported, IsVerdict, IsWithinBound, LawOfAsked, LawOfBounds, LawOfCertificate, LawOfCheck, LawOfCleared, LawOfComplete, LawOfFaults, LawOfFirstDispatch, LawOfInfeasible, LawOfLastCertificate, LawOfMake, LawOfOneDispatch, LawOfOutside, LawOfRange, LawOfReplay, LawOfRoundTrip, LawOfSurplus, LawOfVerify, RefusesEdit, RefusesFactors, TellSame, cleared_ring, for_check, for_clear, for_factors, for_holders, for_migration, for_nothing, for_rights, for_ring, for_steps, for_tables, for_verdict, no, passes, range_ring, to_check, to_clear, to_migrate, to_replay, to_verify, with_fault, yes}
+use Rattle.sced.specs.Headline.{HasCertificate, IsAsked, HasGreatestWelfare, IsFirstRefusal, IsRingText, IsPriced, IsToldAnswer, IsReplayText, IsReported, IsVerdict, IsWithinBound, LawOfAsked, LawOfBounds, LawOfCertificate, LawOfCheck, LawOfCleared, LawOfComplete, LawOfFaults, LawOfFirstDispatch, LawOfFirstPrices, LawOfInfeasible, LawOfLastCertificate, LawOfMake, LawOfOneDispatch, LawOfOneSetOfPrices, LawOfOutside, LawOfRange, LawOfReplay, LawOfRoundTrip, LawOfSurplus, LawOfVerify, RefusesEdit, RefusesFactors, TellSame, cleared_ring, for_check, for_clear, for_factors, for_holders, for_migration, for_nothing, for_rights, for_ring, for_steps, for_tables, for_verdict, no, passes, range_ring, to_check, to_clear, to_migrate, to_replay, to_verify, with_fault, yes}
 use Rattle.sced.specs.Runs.{KeepsWrites, Outside}
 use Rattle.sced.specs.Runs as ending
 use Rattle.sced.specs.Told.{Answers, AnswersTo, checked, cleared, entitled, factored, made, migrated, named_bytes, named_outputs, pooled, refused, replayed, verified}
@@ -156,6 +163,29 @@ law_of_one_dispatch law words others files beside text told s t m a b place at p
     let too = reported others beside told t m (outcome.Cleared b) at _ (printed others beside told t prints_too) reports_too in
     tell-same m a b is.right.0 too.right.0 (law m (all_of m) (dispatch_in a) (dispatch_in b) is.right.1 too.right.1)
 
+-- ---- which prices
+settled-first : (bound : ℕ) (m : Parts) (a : Answer Fraction) → IsRight m a → IsFirstFor m (all_of m) (dispatch_in a) → IsSettledAnswer bound m a → NoPricePasses m bound → AreFirstDuals m (dispatch_in a) a.duals
+settled-first bound m a right goes (settled_answer.first is) none = is
+settled-first bound m a right goes (settled_answer.refused p chosen is) none = absurd (none a p right goes chosen is)
+
+pub law_of_first_prices : LawOfFirstPrices
+law_of_first_prices words files text s m a place prints reports =
+    let is = reported words files text s m (outcome.Cleared a) place _ (printed words files text s prints) reports in
+    record {
+      taken = is.taken;
+      bound = is.bound;
+      begins = is.begins;
+      settled = is.settled;
+      fits = λ fit. settled-first is.bound m a is.right.0 is.right.1 is.settled (law_of_all_price_numbers m is.bound fit);
+      first = settled-first is.bound m a is.right.0 is.right.1 is.settled;
+    }
+
+pub law_of_one_set_of_prices : LawOfOneReport → LawOfOneSetOfPrices
+law_of_one_set_of_prices law words others files beside text told s t m a b place at prints reports prints_too reports_too first first_too =
+    let is = reported words files text s m (outcome.Cleared a) place _ (printed words files text s prints) reports in
+    let too = reported others beside told t m (outcome.Cleared b) at _ (printed others beside told t prints_too) reports_too in
+    law m is.bound too.bound is.taken too.taken a b is.market is.right too.right first first_too
+
 -- ---- surplus
 pub law_of_surplus : LawOfItsSign → LawOfSurplus
 unfolding surplus
@@ -208,7 +238,8 @@ law_of_complete words files text s prints =
 -- ---- replay
 steps-replayed : (bound : ℕ) (m : Parts) (steps : List Step) (t : Telling) (text : List ℕ) (s : Status) → t.text ≡ text → t.status ≡ s → TellsReplay bound (record { market = m; steps = steps }) t → IsReplayText m steps text s
 steps-replayed bound m steps t text s words ends (market, replays) =
-    let fit = replay_fits bound m [] replays.taken steps replays.outcomes replays.right in
+    let right = right_replies bound m [] replays.taken steps replays.outcomes replays.right in
+    let fit = replies_fit bound m steps replays.outcomes right in
     let is = sym words ∙ replays.told.text_is in
     record {
       outcomes = replays.outcomes;
@@ -216,8 +247,8 @@ steps-replayed bound m steps t text s words ends (market, replays) =
       text_is = is;
       only = λ others fits same. replays_read_apart m steps others replays.outcomes fits fit (sym same ∙ is);
       status_is = sym ends ∙ replays.told.status_is;
-      edits = λ k e at. edit-at bound m [] replays.taken steps replays.outcomes k e replays.right at;
-      clears = λ k at. cleared-at bound m [] replays.taken steps replays.outcomes k replays.right at;
+      edits = λ k e at. edit-at bound m steps replays.outcomes k e right at;
+      clears = λ k at. cleared-at bound m steps replays.outcomes k right at;
     }
 
 pub law_of_replay : LawOfReplay
@@ -443,7 +474,7 @@ law_of_last_certificate words files later text s names edits file r outcomes rep
     let one_names = (replays-once words steps.names names steps.edits edits steps.certificate (Some file) steps.asks asked).0 in
     let tells = subst (λ (n : MarketNames). TellsReplay (most_of n.bits) r p.telling) one_names (replay-told files words p.telling p.written (Ok r) p.answers steps) in
     let same : tells.1.outcomes ≡ outcomes =
-    replays_read_apart r.market r.steps tells.1.outcomes outcomes (replay_fits bound r.market [] tells.1.taken r.steps tells.1.outcomes tells.1.right) fits (sym tells.1.told.text_is ∙ p.text_is ∙ is) in
+    replays_read_apart r.market r.steps tells.1.outcomes outcomes (replies_fit bound r.market r.steps tells.1.outcomes (right_replies bound r.market [] tells.1.taken r.steps tells.1.outcomes tells.1.right)) fits (sym tells.1.told.text_is ∙ p.text_is ∙ is) in
     let last = last_clear None outcomes in
     let put : p.telling.outputs.certificate ≡ option_map cert_text (option_and_then (cert_of_outcome r.market.factor_places r.market.reserve.listed) last) =
     ap (λ (x : Outputs (List ℕ)). x.certificate) tells.1.told.certificate_is ∙ ap (λ os. option_and_then (certificate_of r.market.factor_places r.market.reserve.listed) (last_clear None os)) same ∙ text-of-last r.market.factor_places r.market.reserve.listed last in
@@ -571,7 +602,7 @@ module _ (words : List (List ℕ)) (files : Files) (text : List ℕ) (s : Status
     of-steps : (bound : ℕ) (r : MarketSteps) → AsksSteps files words r.market r.steps → TellsReplay bound r p.telling → Why
     of-steps bound r asks (market, replays) =
         let here = refused-status replays.outcomes (sym replays.told.status_is ∙ bad) in
-        let edit = refused-at bound r.market [] replays.taken r.steps replays.outcomes here.0 here.1 replays.right here.2 in
+        let edit = refused-at bound r.market r.steps replays.outcomes here.0 here.1 (right_replies bound r.market [] replays.taken r.steps replays.outcomes replays.right) here.2 in
         inr (inl (record { market = r.market; steps = r.steps; asks = asks; place = here.0; edit = edit.0; stands = edit.1; fault = here.1; refused = edit.2 }))
 
     of-verdict : (bound : ℕ) (v : MarketCertificate) → TellsVerdict bound v p.telling → Why
@@ -625,7 +656,7 @@ module _ (words : List (List ℕ)) (files : Files) (text : List ℕ) (s : Status
         by (making_factors.stopped why stops tells) = none why stops tells
 
     of-ring : (buses seed : ℕ) → MakesTo (most_of Bits127) buses seed p.telling → Why
-    of-ring buses seed (making.cleared a market right first within is) = let wrong : status.Done ≡ status.Refused = sym (ap (λ (t : Telling). t.status) is) ∙ bad in cc wrong
+    of-ring buses seed (making.cleared a market right first settled within is) = let wrong : status.Done ≡ status.Refused = sym (ap (λ (t : Telling). t.status) is) ∙ bad in cc wrong
     of-ring buses seed (making.passed q pair within is) = let wrong : status.Range ≡ status.Refused = sym (ap (λ (t : Telling). t.status) is) ∙ bad in cc wrong
 
     why-refused : (w : List (List ℕ × List ℕ)) → AnswersTo (Some files) words p.telling w → Why
@@ -653,29 +684,23 @@ law_of_faults words files text s prints =
     (fault-told words files text s _ p, λ is. why-refused words files text s _ p (p.status_is ∙ is) p.written p.answers)
 
 -- ---- make
--- a right answer whose dispatch goes first
-abbrev IsRightFirst : Parts → Answer Fraction → Type 0
-IsRightFirst m a = IsRight m a × IsFirstFor m (all_of m) (dispatch_in a)
+-- a right answer whose dispatch goes first is told, with prices that are settled and numbers within the bound
+pub told-answer : LawOfTheReserve → (bound : ℕ) (m : Parts) (a : Answer Fraction) → IsMarket m → IsRight m a → IsFirstFor m (all_of m) (dispatch_in a) → IsSettledAnswer bound m a → IsAnswerWithin bound a → IsToldAnswer bound m a
+told-answer law_of_reserve bound m a market right first settled within =
+    let best = right-best law_of_reserve m a market right in
+    record { greatest = best.0; first = first; priced = best.1; settled = settled; within = within }
 
-ring-answer : (bound buses seed : ℕ) (t : Telling) → MakesTo bound buses seed t
-    → ((a : Answer Fraction) × IsMarket (ring_of buses seed) × IsRightFirst (ring_of buses seed) a × IsAnswerWithin bound a × (t ≡ uncertified status.Done (making.ring_line buses seed ++ making.summary a)))
-    ⊎ ((p : Passed Fraction) × IsRangeOf (ring_of buses seed) [] bound p × ArePassedWithin bound p × (t ≡ uncertified status.Range (making.ring_line buses seed ++ range_text p)))
-ring-answer bound buses seed t (making.cleared a market right first within is) = inl (a, market, (right, first), within, is)
-ring-answer bound buses seed t (making.passed q pair within is) = inr (q, pair, within, is)
-
-ring-made : LawOfTheReserve → (buses seed : ℕ) (t : Telling) (text : List ℕ) (s : Status) → t.text ≡ text → t.status ≡ s
-    → ((a : Answer Fraction) × IsMarket (ring_of buses seed) × IsRightFirst (ring_of buses seed) a × IsAnswerWithin (most_of Bits127) a × (t ≡ uncertified status.Done (making.ring_line buses seed ++ making.summary a)))
-    ⊎ ((p : Passed Fraction) × IsRangeOf (ring_of buses seed) [] (most_of Bits127) p × ArePassedWithin (most_of Bits127) p × (t ≡ uncertified status.Range (making.ring_line buses seed ++ range_text p))) → IsRingText buses seed text s
-ring-made law_of_reserve buses seed t text s words ends (inl (a, market, right, within, is)) =
-    let best = right-best law_of_reserve (ring_of buses seed) a market right.0 in
-    subst (IsRingText buses seed text) (sym (ap (λ (x : Telling). x.status) is) ∙ ends) (cleared_ring a best.0 right.1 best.1 within (sym words ∙ ap (λ (x : Telling). x.text) is))
-ring-made law_of_reserve buses seed t text s words ends (inr (p, pair, within, is)) =
+ring-made : LawOfTheReserve → (buses seed : ℕ) (t : Telling) (text : List ℕ) (s : Status) → t.text ≡ text → t.status ≡ s → MakesTo (most_of Bits127) buses seed t → IsRingText buses seed text s
+ring-made law_of_reserve buses seed t text s words ends (making.cleared a market right first settled within is) =
+    subst (IsRingText buses seed text) (sym (ap (λ (x : Telling). x.status) is) ∙ ends)
+    (cleared_ring a (told-answer law_of_reserve (most_of Bits127) (ring_of buses seed) a market right first settled within) (sym words ∙ ap (λ (x : Telling). x.text) is))
+ring-made law_of_reserve buses seed t text s words ends (making.passed p pair within is) =
     subst (IsRingText buses seed text) (sym (ap (λ (x : Telling). x.status) is) ∙ ends) (range_ring p pair within (sym words ∙ ap (λ (x : Telling). x.text) is))
 
 pub law_of_make : LawOfTheReserve → LawOfMake
 law_of_make law_of_reserve words files text s buses seed prints asks =
     let p = printed words files text s prints in
-    ring-made law_of_reserve buses seed p.telling text s p.text_is p.status_is (ring-answer (most_of Bits127) buses seed p.telling (make-told (Some files) words p.telling buses seed asks p.written p.answers))
+    ring-made law_of_reserve buses seed p.telling text s p.text_is p.status_is (make-told (Some files) words p.telling buses seed asks p.written p.answers)
 
 -- ---- outside
 -- each file that is written is one of these

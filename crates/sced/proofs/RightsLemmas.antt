@@ -13,7 +13,7 @@ use Rattle.market_model.specs.declared.participants.TransmissionRight.{Transmiss
 use Rattle.market_model.specs.Dispatch.{places, zero}
 use Rattle.market_model.specs.Laws.{LawOfTheReserve}
 use Rattle.market_model.specs.Market.{IsMarket}
-use Rattle.market_model.specs.Optimality.{all_of, bus_price, price_by, ArePricesOf}
+use Rattle.market_model.specs.Optimality.{bus_price, price_by, ArePricesOf}
 use Rattle.market_model.specs.RightAnswers.{IsRight, dispatch_in, price_made}
 use Rattle.market_model.specs.Rights.{IsTransmissionRight}
 use Rattle.market_model.specs.Settlement.{surplus}
@@ -22,7 +22,6 @@ use Rattle.market_model.proofs.FarkasLaw.{law_of_infeasibility}
 use Rattle.market_model.proofs.ListSteps.{map-map}
 use Rattle.market_model.proofs.PlaceLists.{filled_at}
 use Rattle.market_system.specs.Outcomes.{IsRightOutcome}
-use Rattle.market_system.specs.Ties.{IsFirstFor}
 use Rattle.rights_test.specs.declared.right_parts.Fit.TheVariants as fit
 use Rattle.rights_test.specs.Fits.{IsFit}
 use Rattle.rights_test.specs.Paid.{payments_of}
@@ -37,14 +36,15 @@ use Rattle.refusal_text.specs.declared.refusals.Input.TheVariants as input
 use Rattle.refusal_text.specs.declared.refusals.Refusal.TheVariants as refusal
 use Rattle.command_words.specs.Words.{AsksMigrate}
 use Rattle.command_words.proofs.WordsLemmas.{migrates-once}
-use Rattle.command_answers.specs.Bounds.{IsAnswerWithin, IsOutcomeWithin}
+use Rattle.settled_answer.specs.Settled.{IsSettledOutcome}
+use Rattle.command_answers.specs.Bounds.{IsOutcomeWithin}
 use Rattle.command_answers.specs.Rights.{TellsFit, TellsOutcome, fitted, passed}
 use Rattle.command_answers.specs.Tellings.{Telling, certified}
 use Rattle.command_answers.specs.declared.status.Status.{Status}
-use Rattle.sced.specs.Headline.{IsEntitled, LawOfMigrate, LawOfRights, clear_passes, nothing_qualifies, rights_break, rights_fit, rights_pass}
+use Rattle.sced.specs.Headline.{IsEntitled, IsToldAnswer, LawOfMigrate, LawOfRights, clear_passes, nothing_qualifies, rights_break, rights_fit, rights_pass}
 use Rattle.sced.specs.Told.{AnswersTo, checked, cleared, entitled, factored, made, migrated, named_bytes, named_outputs, pooled, refused, replayed, verified}
 use Rattle.sced.proofs.AskedLemmas.{migrate-told, no-other, not-refused, rights-told}
-use Rattle.sced.proofs.HeadlineLemmas.{kept-as, read-in, right-best}
+use Rattle.sced.proofs.HeadlineLemmas.{kept-as, read-in, told-answer}
 use Rattle.sced.proofs.RunLemmas.{printed}
 
 -- ---- rights
@@ -70,32 +70,26 @@ module _ (bound : ℕ) (m : Parts) (rights : List TransmissionRight) (t : Tellin
         subst (λ z. (payments_of price rights).total ≤ℚ z) (sym (ap (λ (b : Answer Fraction). b.money.surplus) right.made))
         (law_of_payments m a.duals (dispatch_in a) price rights market (record { prices = prices-of m a right; feasible = right.feasible; supported = right.supported }) held is-fit)
 
-    of-answer : (a : Answer Fraction) → IsRight m a → IsFirstFor m (all_of m) (dispatch_in a) → IsAnswerWithin bound a
-        → TellsFit bound m rights (total_at (λ x. x) a.prices) (report_text m (outcome.Cleared a)) t → IsEntitled bound m rights text s
-    of-answer a right first numbers (fitted fit.Fits is-fit flow pays is) =
-        let best = right-best law_of_reserve m a market right in
-        as-told _ is (rights_fit a best.0 first best.1 numbers pays ((law_of_the_fit m rights fit.Fits is-fit).0 refl) refl (covered a right is-fit))
-    of-answer a right first numbers (fitted (fit.Breaks row flow) is-fit within pays is) =
-        let best = right-best law_of_reserve m a market right in
+    of-answer : (a : Answer Fraction) → IsRight m a → IsToldAnswer bound m a → TellsFit bound m rights (total_at (λ x. x) a.prices) (report_text m (outcome.Cleared a)) t → IsEntitled bound m rights text s
+    of-answer a right told (fitted fit.Fits is-fit flow pays is) = as-told _ is (rights_fit a told pays ((law_of_the_fit m rights fit.Fits is-fit).0 refl) refl (covered a right is-fit))
+    of-answer a right told (fitted (fit.Breaks row flow) is-fit within pays is) =
         let law = law_of_the_fit m rights (fit.Breaks row flow) is-fit in
-        as-told _ is (rights_break a row flow best.0 first best.1 numbers within pays (λ feasible. other (law.1 feasible)) is-fit refl)
+        as-told _ is (rights_break a row flow told within pays (λ feasible. other (law.1 feasible)) is-fit refl)
       where
         other : fit.Breaks row flow ≡ fit.Fits → ⊥
         other bad = cc bad
-    of-answer a right first numbers (passed p pair within is) =
-        let best = right-best law_of_reserve m a market right in
-        as-told _ is (rights_pass a p best.0 first best.1 numbers pair within refl)
+    of-answer a right told (passed p pair within is) = as-told _ is (rights_pass a p told pair within refl)
 
-    of-outcome : (o : Outcome Fraction) → IsRightOutcome bound m [] o → IsOutcomeWithin bound o → TellsOutcome bound m rights o t → IsEntitled bound m rights text s
-    of-outcome (outcome.Cleared a) right within told = of-answer a right.0 right.1 within told
-    of-outcome (outcome.Infeasible f) right within is = as-told _ is (nothing_qualifies f (λ x. law_of_infeasibility m f.duals x market right.shows) right within refl)
-    of-outcome (outcome.Range p) right within is = as-told _ is (clear_passes p right within refl)
+    of-outcome : (o : Outcome Fraction) → IsRightOutcome bound m [] o → IsSettledOutcome bound m o → IsOutcomeWithin bound o → TellsOutcome bound m rights o t → IsEntitled bound m rights text s
+    of-outcome (outcome.Cleared a) right settled within told = of-answer a right.0 (told-answer law_of_reserve bound m a market right.0 right.1 settled within) told
+    of-outcome (outcome.Infeasible f) right settled within is = as-told _ is (nothing_qualifies f (λ x. law_of_infeasibility m f.duals x market right.shows) right within refl)
+    of-outcome (outcome.Range p) right settled within is = as-told _ is (clear_passes p right within refl)
 
 pub law_of_rights : LawOfTheReserve → LawOfCoveredPayments → LawOfRights
 law_of_rights law_of_reserve law_of_payments words files text s m rights prints asks =
     let p = printed words files text s prints in
     let tells = rights-told files words p.telling p.written (Ok (record { market = m; rights = rights })) p.answers asks in
-    of-outcome (most_of asks.names.bits) m rights p.telling text s p.text_is p.status_is law_of_reserve law_of_payments tells.market tells.rights tells.entitles.outcome tells.entitles.right tells.entitles.within tells.entitles.told
+    of-outcome (most_of asks.names.bits) m rights p.telling text s p.text_is p.status_is law_of_reserve law_of_payments tells.market tells.rights tells.entitles.outcome tells.entitles.right tells.entitles.priced tells.entitles.within tells.entitles.told
 
 -- ---- migrate
 -- what is written is the certificate, to the file that is named for it

@@ -53,9 +53,13 @@ use Rattle.offer_book.specs.declared.edit_parts.Edit.{Edit}
 use Rattle.offer_book.specs.declared.edit_parts.EditFault.{EditFault}
 use Rattle.edit_table.specs.declared.Step.{Step}
 use Rattle.edit_table.specs.declared.Step.TheVariants as step
-use Rattle.edit_replay.specs.Replays.{IsReplay, edited_by, reply_of}
+use Rattle.edit_replay.specs.Replays.{edited_by, reply_of}
 use Rattle.edit_replay.specs.declared.step_outcome.StepOutcome.{StepOutcome}
 use Rattle.edit_replay.specs.declared.step_outcome.StepOutcome.TheVariants as reply
+use Rattle.one_price.specs.FirstPrices.{AreFirstDuals}
+use Rattle.settled_answer.specs.PriceNumbers.{AllPriceNumbersFit}
+use Rattle.settled_answer.specs.Settled.{IsSettledAnswer, NoPricePasses}
+use Rattle.settled_replay.specs.PrintedReplays.{IsPrintedReplay}
 use Rattle.report_text.specs.ReportLaws.{OutcomeFitsReport}
 use Rattle.report_text.specs.Reports.{range_text, report_text}
 use Rattle.replay_text.specs.ReplayTextLaws.{OutcomesFit}
@@ -79,7 +83,7 @@ use Rattle.command_answers.specs.Clearing.{status_of}
 use Rattle.command_answers.specs.Factors.{AreMadeTables, IsFactorsStop, tables_text}
 use Rattle.command_answers.specs.declared.factors.MadeTables.{MadeTables}
 use Rattle.command_answers.specs.Inputs.{MarketSteps}
-use Rattle.command_answers.specs.Laws.{Certifies, CertifiesLast}
+use Rattle.command_answers.specs.Laws.{Certifies, CertifiesLast, FitsRightsReport, RightsReport, outcome_in, rights_report_text}
 use Rattle.command_answers.specs.Making.{ring_line, summary}
 use Rattle.command_answers.specs.Replaying.{last_clear, replay_status}
 use Rattle.command_answers.specs.Rights.{IsRightsRefusal}
@@ -136,20 +140,24 @@ LawOfAsked = (words : List (List ℕ)) (files : Files) (text : List ℕ) (s : St
 
 -- ---- what is reported
 -- The words ask to clear this market, and the text is the report of this outcome, at place 0; or they ask for steps, the text is that of
--- outcomes of these, and at this place is this one of a clear, of the market as the steps before it edit it.
+-- outcomes of these, and at this place is this one of a clear, of the market as the steps before it edit it; or they ask for rights in this market,
+-- and the text tells this outcome, at place 0, with what is told of rights behind it.
 pub data Reports (words : List (List ℕ)) (files : Files) (text : List ℕ) (m : Parts) (o : Outcome Fraction) : ℕ → Type 0 where
   of_clear : AsksMarket files words m → OutcomeFitsReport m o → text ≡ report_text m o → Reports words files text m o 0
   of_step : (start : Parts) (steps : List Step) (outcomes : List (StepOutcome Fraction)) (k : ℕ) → AsksSteps files words start steps
       → OutcomesFit start steps outcomes → text ≡ replayed start steps outcomes → slice_get outcomes k ≡ Some (reply.Clear o)
       → m ≡ edited_by start (take k steps) → Reports words files text m o k
+  of_rights : (rights : List TransmissionRight) (report : RightsReport) → AsksHeld files words m rights → FitsRightsReport m report
+      → outcome_in report ≡ o → text ≡ rights_report_text m report → Reports words files text m o 0
 
 -- the rows with which the clear at that place begins: none, or in a replay the limits among what the clears before it ended with; and the
 -- bound that the words ask for
 pub data BeginsWith (words : List (List ℕ)) (files : Files) (text : List ℕ) (m : Parts) : ℕ → List Row → ℕ → Type 0 where
   in_clear : (asks : AsksMarket files words m) → BeginsWith words files text m 0 [] (clear_bound asks)
+  in_rights : (rights : List TransmissionRight) (asks : AsksHeld files words m rights) → BeginsWith words files text m 0 [] (most_of asks.names.bits)
   in_replay : (start : Parts) (steps : List Step) (outcomes : List (StepOutcome Fraction)) (k : ℕ) (taken : List Taking) (asks : AsksSteps files words start steps)
       → OutcomesFit start steps outcomes → text ≡ replayed start steps outcomes → m ≡ edited_by start (take k steps)
-      → IsReplay (most_of asks.names.bits) start [] (take k steps) (take k outcomes) taken → BeginsWith words files text m k (limits_of taken) (most_of asks.names.bits)
+      → IsPrintedReplay (most_of asks.names.bits) start [] (take k steps) (take k outcomes) taken → BeginsWith words files text m k (limits_of taken) (most_of asks.names.bits)
 
 -- ---- cleared
 -- within the offers of energy and of reserve, in balance, within every limit of the base and after every listed outage, up to its excess, whose
@@ -186,7 +194,7 @@ abbrev pub LawOfFirstDispatch : Type 0
 LawOfFirstDispatch = (words : List (List ℕ)) (files : Files) (text : List ℕ) (s : Status) (m : Parts) (a : Answer Fraction) (place : ℕ)
     → Prints words files text s → Reports words files text m (Cleared a) place → IsFirstFor m (all_of m) (dispatch_in a)
 
--- two answers tell one dispatch of energy and of reserve, with one flow in each row, and one welfare; of duals and prices nothing is said
+-- two answers tell one dispatch of energy and of reserve, with one flow in each row, and one welfare; of duals and prices see below
 pub record TellSame (m : Parts) (a b : Answer Fraction) : Type 0 where
   pub dispatch : a.dispatch ≡ b.dispatch
   pub reserve : a.reserve ≡ b.reserve
@@ -199,6 +207,32 @@ abbrev pub LawOfOneDispatch : Type 0
 LawOfOneDispatch = (words others : List (List ℕ)) (files beside : Files) (text told : List ℕ) (s t : Status) (m : Parts) (a b : Answer Fraction)
     (place at : ℕ) → Prints words files text s → Reports words files text m (Cleared a) place
     → Prints others beside told t → Reports others beside told m (Cleared b) at → TellSame m a b
+
+-- ---- which prices
+-- Of the duals that support the dispatch those that go first: limits, rooms and reserve have the least sum of prices, and then each is as low as can
+-- be, rooms before limits, from the last to the first, then reserve; and energy has the least price that it may have beside them. Or a number
+-- passed the bound that the words ask for, on the way to these, and they are the duals of a choice of basic variables. Where no pair passes it,
+-- whichever choice a clear ends with, as where all numbers that may have to be written down on the way are within it, they are first.
+pub record HasSettledPrices (words : List (List ℕ)) (files : Files) (text : List ℕ) (m : Parts) (a : Answer Fraction) (place : ℕ) : Type 0 where
+  pub taken : List Row
+  pub bound : ℕ
+  pub begins : BeginsWith words files text m place taken bound
+  pub settled : IsSettledAnswer bound m a
+  pub fits : AllPriceNumbersFit m bound → AreFirstDuals m (dispatch_in a) a.duals
+  pub first : NoPricePasses m bound → AreFirstDuals m (dispatch_in a) a.duals
+
+-- what is printed as cleared has such prices
+abbrev pub LawOfFirstPrices : Type 0
+LawOfFirstPrices = (words : List (List ℕ)) (files : Files) (text : List ℕ) (s : Status) (m : Parts) (a : Answer Fraction) (place : ℕ)
+    → Prints words files text s → Reports words files text m (Cleared a) place → HasSettledPrices words files text m a place
+
+-- what two runs print of one market as cleared is the same in all that it tells, where both have first prices: dispatch, duals, bus prices, welfare
+-- and settlement, whatever else the words ask for and the files hold, what was cleared before, and by how many bits
+abbrev pub LawOfOneSetOfPrices : Type 0
+LawOfOneSetOfPrices = (words others : List (List ℕ)) (files beside : Files) (text told : List ℕ) (s t : Status) (m : Parts) (a b : Answer Fraction)
+    (place at : ℕ) → Prints words files text s → Reports words files text m (Cleared a) place
+    → Prints others beside told t → Reports others beside told m (Cleared b) at
+    → AreFirstDuals m (dispatch_in a) a.duals → AreFirstDuals m (dispatch_in b) b.duals → a ≡ b
 
 -- ---- surplus
 -- Where the fixed offset of each row that has a printed price above 0, of its upper or its lower limit, is within these limits, loads pay no less than
@@ -326,18 +360,25 @@ LawOfRoundTrip = (words again : List (List ℕ)) (files later : Files) (text ans
     → ((t ≡ status.Done) × (answer ≡ codes "yes\n")) ⊎ (t ≡ status.Range)
 
 -- ---- rights
--- Each number that is told is within the bound. The market is cleared, best, first and priced as above, and behind the report stand whether limits
--- could carry the rights together and what each is paid by the bus prices that are printed. Where they could, the rights are paid no more than the
--- surplus; where not, the first limit that is broken is told.
+-- a cleared market is told with an answer that is best, first and priced as above, with prices that are settled, and with numbers within the bound
+pub record IsToldAnswer (bound : ℕ) (m : Parts) (a : Answer Fraction) : Type 0 where
+  pub greatest : HasGreatestWelfare m (dispatch_in a)
+  pub first : IsFirstFor m (all_of m) (dispatch_in a)
+  pub priced : IsPriced m a
+  pub settled : IsSettledAnswer bound m a
+  pub within : IsAnswerWithin bound a
+
+-- Each number that is told is within the bound. The market is cleared as above, and behind the report stand whether limits could carry the rights
+-- together and what each is paid by the bus prices that are printed. Where they could, the rights are paid no more than the surplus; where not, the
+-- first limit that is broken is told.
 -- Or the report stands alone: that nothing qualifies, or two numbers that are a working pair of the market and pass the bound; where no
 -- working pair passes, this never comes. Or in place of the lines on rights stand two numbers of a sum of these.
 pub data IsEntitled (bound : ℕ) (m : Parts) (rights : List TransmissionRight) (text : List ℕ) : Status → Type 0 where
-  rights_fit : (a : Answer Fraction) → HasGreatestWelfare m (dispatch_in a) → IsFirstFor m (all_of m) (dispatch_in a) → IsPriced m a → IsAnswerWithin bound a
+  rights_fit : (a : Answer Fraction) → IsToldAnswer bound m a
       → ArePaymentsWithin bound (payments_of (total_at (λ x. x) a.prices) rights) → AreFeasibleTogether m rights
       → text ≡ report_text m (Cleared a) ++ rights_lines Fits (payments_of (total_at (λ x. x) a.prices) rights)
       → (payments_of (total_at (λ x. x) a.prices) rights).total ≤ℚ a.money.surplus → IsEntitled bound m rights text status.Done
-  rights_break : (a : Answer Fraction) (r : RowId) (flow : Fraction) → HasGreatestWelfare m (dispatch_in a) → IsFirstFor m (all_of m) (dispatch_in a) → IsPriced m a
-      → IsAnswerWithin bound a → IsFitWithin bound (Breaks r flow)
+  rights_break : (a : Answer Fraction) (r : RowId) (flow : Fraction) → IsToldAnswer bound m a → IsFitWithin bound (Breaks r flow)
       → ArePaymentsWithin bound (payments_of (total_at (λ x. x) a.prices) rights) → ¬ (AreFeasibleTogether m rights)
       → IsFit m rights (Breaks r flow) → text ≡ report_text m (Cleared a) ++ rights_lines (Breaks r flow) (payments_of (total_at (λ x. x) a.prices) rights)
       → IsEntitled bound m rights text status.Refuted
@@ -345,7 +386,7 @@ pub data IsEntitled (bound : ℕ) (m : Parts) (rights : List TransmissionRight) 
       → IsEntitled bound m rights text status.Infeasible
   clear_passes : (p : Passed Fraction) → IsRangeOf m [] bound p → ArePassedWithin bound p → text ≡ report_text m (Range p)
       → IsEntitled bound m rights text status.Range
-  rights_pass : (a : Answer Fraction) (p : Passed Fraction) → HasGreatestWelfare m (dispatch_in a) → IsFirstFor m (all_of m) (dispatch_in a) → IsPriced m a → IsAnswerWithin bound a
+  rights_pass : (a : Answer Fraction) (p : Passed Fraction) → IsToldAnswer bound m a
       → IsRightsRefusal m rights (total_at (λ x. x) a.prices) bound p → ArePassedWithin bound p → text ≡ report_text m (Cleared a) ++ range_text p
       → IsEntitled bound m rights text status.Range
 
@@ -451,12 +492,9 @@ LawOfFaults = (words : List (List ℕ)) (files : Files) (text : List ℕ) (s : S
     × (s ≡ status.Refused → ((r : Refusal) × IsFirstRefusal words files r × (text ≡ refusal_line r)) ⊎ RefusesEdit words files ⊎ RefusesFactors words files text)
 
 -- ---- make
--- the worth and the surplus of an answer that is best, first and priced, its numbers within 127 bits, or two numbers of the ring as above; where no
--- pair passes it is cleared
+-- the worth and the surplus of an answer that is told as above, by 127 bits, or two numbers of the ring as above; where no pair passes it is cleared
 pub data IsRingText (buses seed : ℕ) (text : List ℕ) : Status → Type 0 where
-  cleared_ring : (a : Answer Fraction) → HasGreatestWelfare (ring_of buses seed) (dispatch_in a)
-      → IsFirstFor (ring_of buses seed) (all_of (ring_of buses seed)) (dispatch_in a) → IsPriced (ring_of buses seed) a → IsAnswerWithin (most_of Bits127) a
-      → text ≡ ring_line buses seed ++ summary a → IsRingText buses seed text status.Done
+  cleared_ring : (a : Answer Fraction) → IsToldAnswer (most_of Bits127) (ring_of buses seed) a → text ≡ ring_line buses seed ++ summary a → IsRingText buses seed text status.Done
   range_ring : (p : Passed Fraction) → IsRangeOf (ring_of buses seed) [] (most_of Bits127) p → ArePassedWithin (most_of Bits127) p → text ≡ ring_line buses seed ++ range_text p
       → IsRingText buses seed text status.Range
 

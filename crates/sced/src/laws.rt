@@ -1,7 +1,7 @@
 //! What every run of the program means for those who read what it prints: laws that follow from what `run` promises, each the contract of a
 //! function that does nothing.
 
-ghost use Rattle.sced.specs.Headline.{LawOfAnswered, LawOfAsked, LawOfBounds, LawOfCauses, LawOfCertificate, LawOfCheck, LawOfCleared, LawOfComplete, LawOfCutShort, LawOfFactorCheck, LawOfFactors, LawOfFaults, LawOfFirstDispatch, LawOfInfeasible, LawOfLastCertificate, LawOfMake, LawOfMigrate, LawOfMissing, LawOfOneDispatch, LawOfOutside, LawOfRange, LawOfReplay, LawOfRights, LawOfRoundTrip, LawOfSurplus, LawOfVerify};
+ghost use Rattle.sced.specs.Headline.{LawOfAnswered, LawOfAsked, LawOfBounds, LawOfCauses, LawOfCertificate, LawOfCheck, LawOfCleared, LawOfComplete, LawOfCutShort, LawOfFactorCheck, LawOfFactors, LawOfFaults, LawOfFirstDispatch, LawOfFirstPrices, LawOfInfeasible, LawOfLastCertificate, LawOfMake, LawOfMigrate, LawOfMissing, LawOfOneDispatch, LawOfOneSetOfPrices, LawOfOutside, LawOfRange, LawOfReplay, LawOfRights, LawOfRoundTrip, LawOfSurplus, LawOfVerify};
 
 use factor_laws::laws::{
     loss_tables_are_explained, loss_tables_are_read_back, loss_tables_are_short,
@@ -10,6 +10,7 @@ use factor_laws::laws::{
 use market_model::laws::{reserve_is_paid_for_the_need, surplus_is_not_negative};
 use one_dispatch::laws::one_goes_first;
 use rights_test::laws::payments_are_covered;
+use settled_replay::laws::one_report;
 
 /// A run that puts a text was asked for nothing that the program does, for work on what the files stand for, for a ring, or on files with
 /// a first fault.
@@ -39,6 +40,20 @@ pub fn one_dispatch()
     ensures { LawOfOneDispatch }
 {
     one_goes_first();
+}
+
+/// What is printed as cleared has the first of the prices that support its dispatch, or a number passed the bound that the words ask for on the way to
+/// these; where none does, whichever choice of basic variables a clear ends with, they are first.
+pub fn first_prices()
+    ensures { LawOfFirstPrices }
+{}
+
+/// What two runs print of one market as cleared is the same in dispatch, duals, bus prices, welfare and settlement, where both have first prices,
+/// by whichever bits each counts, and whatever was cleared before.
+pub fn one_set_of_prices()
+    ensures { LawOfOneSetOfPrices }
+{
+    one_report();
 }
 
 /// The surplus that a pool, a clear or a replay prints is not negative, where the fixed offset of each row that has a printed price above 0 is within its limits.

@@ -1,14 +1,25 @@
 use Rattle.market_model.specs.Valued.{outcome_at}
-use Rattle.command_answers.proofs.IfOkLemmas.{if_ok-map}
+use Rattle.command_answers.proofs.WiderLemmas.{clears-wider}
 use Rattle.command_answers.proofs.clearing.clear_outcome.Goals as goal
 
 pub returns-clause-clears : goal.returns-clause-clears
-returns-clause-clears g c =
-    if_ok-map _ _ c.outcome_told.result
-    (λ told is. record {
-      outcome = outcome_at g.N.Exact.value c.in_ok-outcome.outcome;
-      right = c.in_ok-outcome.ensures.right;
-      within = c.in_ok-outcome.ensures.within;
-      told = is;
+returns-clause-clears g c = record {
+  outcome = outcome_at g.N.Exact.value c.in_ok-cleared.cleared.outcome;
+  right = c.in_ok-cleared.ensures.right;
+  priced = c.in_ok-cleared.ensures.priced;
+  within = c.in_ok-cleared.ensures.within;
+  told = c.in_ok-told.ensures.tells;
+}
+
+pub returns-clause-wider : goal.returns-clause-wider
+returns-clause-wider g c = λ bound wide none.
+    let fine = c.is_told_passed-is_passed.ensures none in
+    clears-wider g.N.Exact.bound bound wide c.args.market.now _
+    (record {
+      outcome = outcome_at g.N.Exact.value c.in_ok-cleared.cleared.outcome;
+      right = c.in_ok-cleared.ensures.right;
+      priced = c.in_ok-cleared.ensures.priced;
+      within = c.in_ok-cleared.ensures.within;
+      told = c.in_ok-told.ensures.tells;
     })
-    c.outcome_told.ensures.tells
+    fine.1 (c.in_ok-cleared.ensures.first fine.0)

@@ -7,7 +7,7 @@ use Rattle.command_answers.proofs.making.outcome_told.Goals as goal
 pub returns-in_ok-cleared_text-in-Cleared-clause-makes : goal.returns-in_ok-cleared_text-in-Cleared-clause-makes
 returns-in_ok-cleared_text-in-Cleared-clause-makes g c =
     let ring = c.args.ring.now in
-    ring_cleared g.N.Exact.value g.N.Exact.bound ring.buses ring.seed ring.market.now c.requires.ring c.args.outcome.now c.requires.right c.in-Cleared.answer _ c.requires.kept c.in-Cleared.is c.requires.within
+    ring_cleared g.N.Exact.value g.N.Exact.bound ring.buses ring.seed ring.market.now c.requires.ring c.args.outcome.now c.requires.right c.in-Cleared.answer _ c.requires.kept c.in-Cleared.is c.requires.priced c.requires.within
     (c.uncertified.ensures.telling ∙ ap (uncertified status.Done) c.in_ok-cleared_text-in-Cleared.ensures)
 
 pub unreachable-requires : goal.unreachable-requires
