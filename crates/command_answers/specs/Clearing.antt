@@ -30,7 +30,8 @@ pub record TellsCertified (bound : ℕ) (m : Parts) (o : Outcome Fraction) (t : 
 
 -- What is told is that of a right outcome of the market, with no limits taken before: the report of a right answer, of duals that show
 -- that no dispatch is feasible, or of two numbers of the market whose outcome passes the bound; each number of it is within the bound. An answer
--- has the first prices of its dispatch, or a number passed the bound on the way to these. Its certificate is that of the answer, or of the duals, with a part on reserve where the market lists it, and its numbers are within their bounds.
+-- has the first prices of its dispatch, or a number passed the bound on the way to these. Its certificate is that of the answer, or of the duals,
+-- with a part on reserve where the market lists it, and its numbers are within their bounds.
 pub record ClearsTo (bound : ℕ) (m : Parts) (t : Telling) : Type 0 where
   pub outcome : Outcome Fraction
   pub right : IsRightOutcome bound m [] outcome

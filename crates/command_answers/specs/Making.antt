@@ -36,8 +36,7 @@ summary a = codes "cleared\nwelfare " ++ written money_places a.welfare ++ codes
 
 -- What is told is the size of the ring, which is a market, with the worth and the surplus of a right answer of it, whose dispatch is of its best
 -- dispatches the one that goes first, which has the first prices of that or a number passed the bound on the way to these, and whose numbers are
--- within the bound; or, in their place, two of its numbers, each within the bound,
--- whose outcome passes it.
+-- within the bound; or, in their place, two of its numbers, each within the bound, whose outcome passes it.
 pub data MakesTo (bound : ℕ) (buses seed : ℕ) (t : Telling) : Type 0 where
   cleared : (a : Answer Fraction) → IsMarket (ring_of buses seed) → IsRight (ring_of buses seed) a
       → IsFirstFor (ring_of buses seed) (all_of (ring_of buses seed)) (dispatch_in a) → IsSettledAnswer bound (ring_of buses seed) a → IsAnswerWithin bound a

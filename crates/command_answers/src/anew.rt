@@ -16,14 +16,16 @@ pub(crate) fn is_made_anew(bits: NumberBits, is_passed: bool) -> bool
 
 /// Whether one of two things is so.
 pub(crate) fn is_either(one: bool, other: bool) -> bool
-    ensures { result ≡ false → (one ≡ false) × (other ≡ false) }
+    ensures none { result ≡ false → (one ≡ false) × (other ≡ false) }
+    ensures some { result ≡ true → (one ≡ true) ⊎ (other ≡ true) }
 {
     one || other
 }
 
 /// Whether settling was refused, or what is told ends with numbers that became too large.
 pub(crate) fn is_told_passed(is_refused: bool, status: Status) -> bool
-    ensures { result ≡ false → (is_refused ≡ false) × (status ≢ Status.Range) }
+    ensures none { result ≡ false → (is_refused ≡ false) × (status ≢ Status.Range) }
+    ensures some { result ≡ true → (is_refused ≡ true) ⊎ (status ≡ Status.Range) }
 {
     is_refused || status == Status::Range
 }

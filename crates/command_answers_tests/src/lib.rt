@@ -1,5 +1,6 @@
 //! Tests of `command_answers`: each command on a case of three buses, the texts of the five-bus system, limits that give way at a
-//! penalty, there and on the six-bus system, outages of units, factors of nine places, transmission rights, and which of several best dispatches is told.
+//! penalty, there and on the six-bus system, outages of units, factors of nine places, transmission rights, which of several best dispatches, and
+//! of several prices, is told.
 #![tactic(auto)]
 
 #[cfg(test)]

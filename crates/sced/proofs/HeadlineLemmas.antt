@@ -54,10 +54,8 @@ use Rattle.edit_replay.specs.Replays.{edited_by}
 use Rattle.report_text.specs.Reports.{range_text}
 use Rattle.report_text.proofs.OutcomeReading.{outcome_fits, reports_apart}
 use Rattle.replay_text.proofs.ReplayReading.{replays_read_apart}
-use Rattle.one_price.specs.FirstPrices.{AreFirstDuals}
-use Rattle.settled_answer.specs.Settled.{IsSettledAnswer, NoPricePasses}
-use Rattle.settled_answer.specs.Settled as settled_answer
-use Rattle.settled_answer.proofs.NumberLaws.{law_of_all_price_numbers}
+use Rattle.settled_answer.specs.Laws as prices
+use Rattle.settled_answer.specs.Settled.{IsSettledAnswer}
 use Rattle.settled_replay.specs.Laws.{LawOfOneReport}
 use Rattle.settled_replay.proofs.StepLemmas.{right_replies}
 use Rattle.command_answers.proofs.ReplayLemmas.{replies_fit}
@@ -164,20 +162,17 @@ law_of_one_dispatch law words others files beside text told s t m a b place at p
     tell-same m a b is.right.0 too.right.0 (law m (all_of m) (dispatch_in a) (dispatch_in b) is.right.1 too.right.1)
 
 -- ---- which prices
-settled-first : (bound : ℕ) (m : Parts) (a : Answer Fraction) → IsRight m a → IsFirstFor m (all_of m) (dispatch_in a) → IsSettledAnswer bound m a → NoPricePasses m bound → AreFirstDuals m (dispatch_in a) a.duals
-settled-first bound m a right goes (settled_answer.first is) none = is
-settled-first bound m a right goes (settled_answer.refused p chosen is) none = absurd (none a p right goes chosen is)
-
-pub law_of_first_prices : LawOfFirstPrices
-law_of_first_prices words files text s m a place prints reports =
+pub law_of_first_prices : prices.LawOfFirstPrices → prices.LawOfAllPriceNumbers → LawOfFirstPrices
+law_of_first_prices law numbers words files text s m a place prints reports =
     let is = reported words files text s m (outcome.Cleared a) place _ (printed words files text s prints) reports in
+    let told = law is.bound m (outcome.Cleared a) is.taken is.bound is.right is.settled in
     record {
       taken = is.taken;
       bound = is.bound;
       begins = is.begins;
       settled = is.settled;
-      fits = λ fit. settled-first is.bound m a is.right.0 is.right.1 is.settled (law_of_all_price_numbers m is.bound fit);
-      first = settled-first is.bound m a is.right.0 is.right.1 is.settled;
+      fits = λ fit. told (numbers m is.bound fit);
+      first = told;
     }
 
 pub law_of_one_set_of_prices : LawOfOneReport → LawOfOneSetOfPrices

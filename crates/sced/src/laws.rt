@@ -10,6 +10,7 @@ use factor_laws::laws::{
 use market_model::laws::{reserve_is_paid_for_the_need, surplus_is_not_negative};
 use one_dispatch::laws::one_goes_first;
 use rights_test::laws::payments_are_covered;
+use settled_answer::laws::{no_price_passes, prices_are_first};
 use settled_replay::laws::one_report;
 
 /// A run that puts a text was asked for nothing that the program does, for work on what the files stand for, for a ring, or on files with
@@ -46,7 +47,10 @@ pub fn one_dispatch()
 /// these; where none does, whichever choice of basic variables a clear ends with, they are first.
 pub fn first_prices()
     ensures { LawOfFirstPrices }
-{}
+{
+    prices_are_first();
+    no_price_passes();
+}
 
 /// What two runs print of one market as cleared is the same in dispatch, duals, bus prices, welfare and settlement, where both have first prices,
 /// by whichever bits each counts, and whatever was cleared before.

@@ -38,7 +38,7 @@ returns-clause-wider g c = λ bound wide none.
     let kept : to_z w64 (of_z w64 c.need_of-need.result) ≡ c.need_of-need.result = search (arith, ints, to_z-of_z) in
     let text = ap (λ (need : ℤ). replayed (with_need market need) c.args.steps.now outcomes) (kept ∙ c.need_of-need.ensures) in
     let is = c.in_ok-made.ensures.tells c.args.market same in
-    let fine = c.is_either.ensures none in
+    let fine = c.is_either.ensures.none none in
     let first = subst (λ (m : _). TellsRefusals g.N.Exact.bound m c.args.steps.now outcomes false) (ap (λ (s : SessionState). s.market) c.new-session.ensures)
     (subst (TellsRefusals g.N.Exact.bound c.new-session.result.market c.args.steps.now outcomes) fine.1 c.in_ok-printed.ensures.passed) in
     replays_to-wider g.N.Exact.bound bound wide g.N.Exact.value g.met.N.Exact.value_fits c.args.market c.args.steps.now c.new-session.result c.settled_replay.new.session c.in_ok-printed.printed.outcomes _ c.new-session.ensures

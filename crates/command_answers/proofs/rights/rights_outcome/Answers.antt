@@ -13,7 +13,7 @@ returns-clause-entitles g c = record {
 
 pub returns-clause-wider : goal.returns-clause-wider
 returns-clause-wider g c = λ bound wide none.
-    let fine = c.is_told_passed-is_passed.ensures none in
+    let fine = c.is_told_passed-is_passed.ensures.none none in
     entitles-wider g.N.Exact.bound bound wide c.args.market.now c.args.rights.now _
     (record {
       outcome = outcome_at g.N.Exact.value c.in_ok-cleared.cleared.outcome;
