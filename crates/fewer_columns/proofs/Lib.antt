@@ -1,2 +1,2 @@
 mod FewerLemmas
-mod OrderLemmas
+pub mod OrderLemmas

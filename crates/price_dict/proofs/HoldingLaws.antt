@@ -37,21 +37,21 @@ nil = whole (pos 0)
 at_member : {X Y : Type 0} (f : X → Y) (xs : List X) (x : X) (c : Contains xs x) (d : Y) → get_or (map f xs) c.0 d ≡ f x
 at_member f xs x c d = get_or-map f xs c.0 x d c.1 ∙ ap f c.2
 
-alone : {X : Type 0} (x y : X) → Contains (x ∷ []) y → y ≡ x
+pub alone : {X : Type 0} (x y : X) → Contains (x ∷ []) y → y ≡ x
 alone x y h = elim (Contains-cases x [] y h) [ inl e ↦ sym e | inr n ↦ absurd (Prim.omega (arith, n.1)) ]
 
 -- ---- the names put in
 module _ (m : Parts) (cs rs : List Variable) (d : Dictionary) (put : HasPutIn m cs rs d) where
-  row_taken : (v : Variable) → Contains rs v → Contains d.rows (name m v)
+  pub row_taken : (v : Variable) → Contains rs v → Contains d.rows (name m v)
   row_taken v c = subst (λ (ws : List ℕ). Contains ws (name m v)) (sym put.rows_named) (Contains-map (name m) rs v c)
 
-  column_taken : (v : Variable) → Contains cs v → Contains d.columns (name m v)
+  pub column_taken : (v : Variable) → Contains cs v → Contains d.columns (name m v)
   column_taken v c = subst (λ (ws : List ℕ). Contains ws (name m v)) (sym put.columns_named) (Contains-map (name m) cs v c)
 
-  taken_row : (w : ℕ) → Contains d.rows w → (v : Variable) × Contains rs v × (name m v ≡ w)
+  pub taken_row : (w : ℕ) → Contains d.rows w → (v : Variable) × Contains rs v × (name m v ≡ w)
   taken_row w c = Contains-from_map (name m) rs w (subst (λ (ws : List ℕ). Contains ws w) put.rows_named c)
 
-  taken_column : (w : ℕ) → Contains d.columns w → (v : Variable) × Contains cs v × (name m v ≡ w)
+  pub taken_column : (w : ℕ) → Contains d.columns w → (v : Variable) × Contains cs v × (name m v ≡ w)
   taken_column w c = Contains-from_map (name m) cs w (subst (λ (ws : List ℕ). Contains ws w) put.columns_named c)
 
 -- ---- the start
@@ -153,7 +153,7 @@ module _ (d : Dictionary) (sound : IsDictionary d) where
   unfolding system_in
   column_in w c = among-from d.columns w (Contains-from_filter (is_among d.columns) d.names w c).1
 
-  row_in : (w : ℕ) → Contains (system_in d).rows w → Contains d.rows w
+  pub row_in : (w : ℕ) → Contains (system_in d).rows w → Contains d.rows w
   unfolding system_in
   row_in w c = among-from d.rows w (Contains-from_filter (is_among d.rows) d.names w c).1
 
@@ -169,6 +169,63 @@ module _ (d : Dictionary) (sound : IsDictionary d) where
   unfolding system_in
   names_are = refl
 
+-- ---- the columns that are reached, over rows of the system of prices
+module _ (m : Parts) (x : Dispatch) (c : Caps) (market : IsMarket m) (rs : List Variable) (d : Dictionary) (put : HasPutIn m (columns_put m x) rs d) where
+  columns_are : (reached_system m x c).columns ≡ filter (is_kept m x) (map (name m) (prices m))
+  unfolding fewer price_system
+  columns_are = refl
+
+  pub rows_are : (reached_system m x c).rows ≡ map (name m) (worths m)
+  unfolding fewer price_system
+  rows_are = refl
+
+  columns_rise : IsStrictlyIncreasing (reached_system m x c).columns
+  unfolding fewer
+  columns_rise = IsStrictlyIncreasing-filter (is_kept m x) (price_system m x c).columns (law_of_the_system m x c market).columns_ascend
+
+  -- what is put in is kept
+  pub kept_column : (v : Variable) → Contains (columns_put m x) v → is_kept m x (name m v) ≡ true
+  kept_column v k =
+      among-tells (map (name m) (columns_put m x ++ worths m)) (name m v)
+      (Contains-map (name m) (columns_put m x ++ worths m) v (Contains-append_left (columns_put m x) (worths m) v k))
+
+  column_to : (w : ℕ) → Contains d.columns w → Contains (reached_system m x c).columns w
+  column_to w k =
+      let v = taken_column m (columns_put m x) rs d put w k in
+      subst (λ (ws : List ℕ). Contains ws w) (sym columns_are)
+      (subst (Contains (filter (is_kept m x) (map (name m) (prices m)))) v.2
+      (Contains-filter (is_kept m x) (map (name m) (prices m)) (name m v.0) (Contains-map (name m) (prices m) v.0 (among_prices m x v.0 v.1)) (kept_column v.0 v.1)))
+
+  -- and what is kept is put in
+  column_back : (w : ℕ) → Contains (reached_system m x c).columns w → Contains d.columns w
+  column_back w k =
+      let l = Contains-from_filter (is_kept m x) (map (name m) (prices m)) w (subst (λ (ws : List ℕ). Contains ws w) columns_are k) in
+      let v = Contains-from_map (name m) (columns_put m x ++ worths m) w (among-from (map (name m) (columns_put m x ++ worths m)) w l.1) in
+      elim (Contains-append_cases (columns_put m x) (worths m) v.0 v.1) [
+        | inl n ↦ subst (Contains d.columns) v.2 (column_taken m (columns_put m x) rs d put v.0 n)
+        | inr n ↦ absurd (worth_apart m market w l.0 (subst (Contains (map (name m) (worths m))) v.2 (Contains-map (name m) (worths m) v.0 n)))
+      ]
+
+  pub same_columns : (system_in d).columns ≡ (reached_system m x c).columns
+  same_columns =
+      ascending_same (system_in d).columns (reached_system m x c).columns (system_is d put.sound).columns_ascend columns_rise
+      (λ w k. column_to w (column_in d put.sound w k)) (λ w k. column_of d put.sound w (column_back w k))
+
+  -- a coefficient at names
+  coefficient_at : (r j : Variable) → Contains (worths m) r → Contains (prices m) j → (reached_system m x c).coefficient (name m r) (name m j) ≡ coefficient m r j
+  unfolding fewer price_system
+  coefficient_at r j k l =
+      ap₂ (coefficient m) (variable_at m (apart_rows m market) r (variable_is m r (Contains-append_right (prices m) (worths m) r k)))
+      (variable_at m (apart_rows m market) j (variable_is m j (Contains-append_left (prices m) (worths m) j l)))
+
+  pub same_coefficient : ((v : Variable) → Contains rs v → Contains (worths m) v) → (r j : ℕ) → Contains (system_in d).rows r → Contains (system_in d).columns j
+      → (system_in d).coefficient r j ≡ (reached_system m x c).coefficient r j
+  same_coefficient inside r j k l =
+      let u = taken_row m (columns_put m x) rs d put r (row_in d put.sound r k) in
+      let v = taken_column m (columns_put m x) rs d put j (column_in d put.sound j l) in
+      subst₂ (λ (a b : ℕ). (system_in d).coefficient a b ≡ (reached_system m x c).coefficient a b) u.2 v.2
+      (put.entries u.0 v.0 u.1 v.1 ∙ sym (coefficient_at u.0 v.0 (inside u.0 u.1) (among_prices m x v.0 v.1)))
+
 -- ---- the prices that are reached over all rows
 module _ (m : Parts) (x : Dispatch) (c : Caps) (market : IsMarket m) (d : Dictionary) (put : HasPutIn m (columns_put m x) (worths m) d) where
   abbrev cs : List Variable
@@ -182,29 +239,13 @@ module _ (m : Parts) (x : Dispatch) (c : Caps) (market : IsMarket m) (d : Dictio
   unfolding fewer price_system
   variables_are = refl
 
-  columns_are : (reached_system m x c).columns ≡ filter (is_kept m x) (map (name m) (prices m))
-  unfolding fewer price_system
-  columns_are = refl
-
-  rows_are : (reached_system m x c).rows ≡ map (name m) (worths m)
-  unfolding fewer price_system
-  rows_are = refl
-
   variables_rise : IsStrictlyIncreasing (reached_system m x c).variables
   unfolding fewer
   variables_rise = IsStrictlyIncreasing-filter (is_kept m x) (price_system m x c).variables whole_is.ascending
 
-  columns_rise : IsStrictlyIncreasing (reached_system m x c).columns
-  unfolding fewer
-  columns_rise = IsStrictlyIncreasing-filter (is_kept m x) (price_system m x c).columns whole_is.columns_ascend
-
   rows_rise : IsStrictlyIncreasing (reached_system m x c).rows
   unfolding fewer
   rows_rise = whole_is.rows_ascend
-
-  -- what is put in is kept
-  kept_column : (v : Variable) → Contains cs v → is_kept m x (name m v) ≡ true
-  kept_column v k = among-tells (map (name m) (cs ++ worths m)) (name m v) (Contains-map (name m) (cs ++ worths m) v (Contains-append_left cs (worths m) v k))
 
   kept_row : (v : Variable) → Contains (worths m) v → is_kept m x (name m v) ≡ true
   kept_row v k = among-tells (map (name m) (cs ++ worths m)) (name m v) (Contains-map (name m) (cs ++ worths m) v (Contains-append_right cs (worths m) v k))
@@ -218,26 +259,11 @@ module _ (m : Parts) (x : Dispatch) (c : Caps) (market : IsMarket m) (d : Dictio
         | inr k ↦ inr (subst (Contains d.rows) v.2 (row_taken m cs (worths m) d put v.0 k))
       ]
 
-  column_to : (w : ℕ) → Contains d.columns w → Contains (reached_system m x c).columns w
-  column_to w k =
-      let v = taken_column m cs (worths m) d put w k in
-      subst (λ (ws : List ℕ). Contains ws w) (sym columns_are)
-      (subst (Contains (filter (is_kept m x) (map (name m) (prices m)))) v.2
-      (Contains-filter (is_kept m x) (map (name m) (prices m)) (name m v.0) (Contains-map (name m) (prices m) v.0 (among_prices m x v.0 v.1)) (kept_column v.0 v.1)))
-
-  column_back : (w : ℕ) → Contains (reached_system m x c).columns w → Contains d.columns w
-  column_back w k =
-      let l = Contains-from_filter (is_kept m x) (map (name m) (prices m)) w (subst (λ (ws : List ℕ). Contains ws w) columns_are k) in
-      elim (from_kept w l.1) [
-        | inl n ↦ n
-        | inr n ↦ absurd (worth_apart m market w l.0 (subst (λ (ws : List ℕ). Contains ws w) put.rows_named n))
-      ]
-
   row_to : (w : ℕ) → Contains d.rows w → Contains (reached_system m x c).rows w
-  row_to w k = subst (λ (ws : List ℕ). Contains ws w) (put.rows_named ∙ sym rows_are) k
+  row_to w k = subst (λ (ws : List ℕ). Contains ws w) (put.rows_named ∙ sym (rows_are m x c market (worths m) d put)) k
 
   row_back : (w : ℕ) → Contains (reached_system m x c).rows w → Contains d.rows w
-  row_back w k = subst (λ (ws : List ℕ). Contains ws w) (rows_are ∙ sym put.rows_named) k
+  row_back w k = subst (λ (ws : List ℕ). Contains ws w) (rows_are m x c market (worths m) d put ∙ sym put.rows_named) k
 
   variable_to : (w : ℕ) → Contains d.names w → Contains (reached_system m x c).variables w
   variable_to w k = subst (λ (ws : List ℕ). Contains ws w) (sym variables_are) (elim (put.sound.put_in.either w k) [
@@ -249,7 +275,7 @@ module _ (m : Parts) (x : Dispatch) (c : Caps) (market : IsMarket m) (d : Dictio
         let v = taken_column m cs (worths m) d put w l in
         subst (Contains (filter (is_kept m x) (map (name m) (variables m)))) v.2
         (Contains-filter (is_kept m x) (map (name m) (variables m)) (name m v.0) (Contains-map (name m) (variables m) v.0 (Contains-append_left (prices m) (worths m) v.0 (among_prices m x v.0 v.1)))
-        (kept_column v.0 v.1))
+        (kept_column m x c market (worths m) d put v.0 v.1))
   ])
 
   variable_back : (w : ℕ) → Contains (reached_system m x c).variables w → Contains d.names w
@@ -259,13 +285,6 @@ module _ (m : Parts) (x : Dispatch) (c : Caps) (market : IsMarket m) (d : Dictio
         | inr n ↦ put.sound.put_in.first_named w n
       ]
 
-  -- a coefficient at names
-  coefficient_at : (r j : Variable) → Contains (worths m) r → Contains (prices m) j → (reached_system m x c).coefficient (name m r) (name m j) ≡ coefficient m r j
-  unfolding fewer price_system
-  coefficient_at r j k l =
-      ap₂ (coefficient m) (variable_at m (apart_rows m market) r (variable_is m r (Contains-append_right (prices m) (worths m) r k)))
-      (variable_at m (apart_rows m market) j (variable_is m j (Contains-append_left (prices m) (worths m) j l)))
-
   same_rows : SameRows (system_in d) (reached_system m x c)
   same_rows =
       let sound : IsDictionary d = put.sound in
@@ -273,13 +292,9 @@ module _ (m : Parts) (x : Dispatch) (c : Caps) (market : IsMarket m) (d : Dictio
       let s : System = reached_system m x c in
       record {
         variables = names_are d sound ∙ ascending_same d.names s.variables sound.ascending variables_rise variable_to variable_back;
-        columns = ascending_same (system_in d).columns s.columns own.columns_ascend columns_rise (λ w k. column_to w (column_in d sound w k)) (λ w k. column_of d sound w (column_back w k));
+        columns = same_columns m x c market (worths m) d put;
         rows = ascending_same (system_in d).rows s.rows own.rows_ascend rows_rise (λ w k. row_to w (row_in d sound w k)) (λ w k. row_of d sound w (row_back w k));
-        coefficient = λ r j k l.
-            let u = taken_row m cs (worths m) d put r (row_in d sound r k) in
-            let v = taken_column m cs (worths m) d put j (column_in d sound j l) in
-            subst₂ (λ (a b : ℕ). (system_in d).coefficient a b ≡ s.coefficient a b) u.2 v.2
-            (put.entries u.0 v.0 u.1 v.1 ∙ sym (coefficient_at u.0 v.0 u.1 (among_prices m x v.0 v.1)));
+        coefficient = same_coefficient m x c market (worths m) d put (λ v k. k);
       }
 
 -- with all rows it holds them

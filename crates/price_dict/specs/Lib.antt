@@ -1,3 +1,4 @@
 pub mod Holding
+pub mod Marked
 pub mod Reached
 pub mod Refusals

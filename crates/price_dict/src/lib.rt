@@ -2,10 +2,12 @@
 //! used up.
 #![tactic(auto)]
 
+mod blocks;
 mod entries;
 mod names;
 mod reached;
 mod rows;
 
+pub use blocks::start_with;
 pub use reached::Reached;
 pub use rows::start;

@@ -22,7 +22,7 @@ use price_system::Variable;
 use std::alloc::Global;
 
 /// A dictionary with these columns, and the sum of prices alone as a row, in a market of so many limits.
-fn summed<N: Exact>(
+pub(crate) fn summed<N: Exact>(
     alloc: Global,
     market: &Market,
     limits: usize,
@@ -30,7 +30,8 @@ fn summed<N: Exact>(
 ) -> Result<Dict<N>, Memory>
     requires limits { limits ≡ length (rows market.now) }
     requires columns { AreColumns market.now columns.now }
-    ensures { IfOk result (HasPutIn market.now columns.now (take 1 (worths market.now))) }
+    ensures put { IfOk result (HasPutIn market.now columns.now (take 1 (worths market.now))) }
+    ensures basics { IfOk result (λ dict. dict.basics ≡ dict.rows) }
 {
     let _lines = market.lines();
     let names = names_of(alloc, market, limits, columns)?;
@@ -41,7 +42,7 @@ fn summed<N: Exact>(
 
 /// Adds a row where the columns are the other variables. None is refused, since the table has the entries as they are put in. All is as before where
 /// there is no memory.
-fn put_row<N: Exact>(dict: &mut Dict<N>, name: u32, entries: &[N]) -> Result<(), Memory>
+pub(crate) fn put_row<N: Exact>(dict: &mut Dict<N>, name: u32, entries: &[N]) -> Result<(), Memory>
     requires live { dict.old.spent ≡ false }
     requires sound { IsDictionary dict.old }
     requires others { dict.old.others ≡ dict.old.columns }

@@ -1,3 +1,4 @@
+mod AloneLemmas
 mod BoundLists
 mod CapLemmas
 mod CapSums

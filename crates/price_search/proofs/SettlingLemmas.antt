@@ -1,5 +1,5 @@
 -- What a dispatch reaches by its flows, caps that some duals keep, and that the dictionary of the first best point shows what MW are worth.
-use Rattle.std.specs.Prelude.{◌≡◌, ℕ, ◌+◌, ◌<◌, Bool, if◌then◌else◌, List, [], ◌∷◌, length, map, slice_index, IfErr, Result, Ok, Err, refl}
+use Rattle.std.specs.Prelude.{◌≡◌, ℕ, ◌+◌, ◌<◌, Bool, if◌then◌else◌, List, [], ◌∷◌, ◌++◌, length, map, slice_index, IfErr, Result, Ok, Err, refl}
 use Rattle.std.proofs.Common.{arith, ap, sym, ◌∙◌, subst, get_or}
 use Rattle.std.proofs.lemmas.List.{get_or-map, length-map}
 use Rattle.std.proofs.lemmas.List.Elements.{Contains-append_right}
@@ -51,7 +51,7 @@ use Rattle.price_search.specs.declared.point.PricePoint.{PricePoint}
 use Rattle.price_search.specs.declared.posing.PriceBounds.{PriceBounds}
 use Rattle.price_search.specs.Energy.{ShowsWorths}
 use Rattle.price_search.specs.Points.{IsPointOf}
-use Rattle.price_search.specs.PriceBounds.{ArePriceBounds}
+use Rattle.price_search.specs.PriceBounds.{AreBounds, ArePriceBounds}
 use Rattle.price_search.specs.Searching.{AsksFirst, HoldsFirstPrices}
 use Rattle.price_search.specs.Settling.{HasCaps, IsPointRefusal, IsSupportedWithin, of_pair}
 use Rattle.price_search.proofs.KeptLemmas.{put_is_kept}
@@ -182,3 +182,11 @@ module _ {N : Type 0} (value : N → Fraction) where
   pub pair_refused : (bound : ℕ) (m : Parts) (x : Dispatch) (c : Caps) (stop : Stop N) → OnPassed stop (IsPairOf value bound (reached_system m x c)) → StopsBy value (IsPointRefusal m x c bound) stop
   pair_refused bound m x c (StoppedBy p) pair = of_pair pair
   pair_refused bound m x c NoMemory pair = tt
+
+-- the bounds that are posed
+pub bounds_posed : {N : Type 0} (value : N → Fraction) (m : Parts) (x : Dispatch) (c : Caps) (posing : PriceBounds N) (bs : List (Bounds N)) → ArePriceBounds value m x c posing → bs ≡ posing.bounds
+    → AreBounds value m x c (columns_put m x ++ worths m) bs
+bounds_posed {N} value m x c posing bs are same = record {
+  lows = ap (map (λ (b : Bounds N). value b.low)) same ∙ are.lows;
+  highs = ap (map (λ (b : Bounds N). value b.high)) same ∙ are.highs;
+}

@@ -1,3 +1,4 @@
+pub mod Alone
 pub mod Caps
 pub mod Energy
 pub mod Laws

@@ -16,7 +16,11 @@ use Rattle.price_dict.specs.Reached.{reached_system}
 use Rattle.price_dict.specs.Refusals.{IsEntriesRefusal}
 use Rattle.price_search.specs.Caps.{ArePriceCaps, IsCapsRefusal}
 use Rattle.price_search.specs.Energy.{IsEnergyRefusal}
+use Rattle.price_search.specs.Points.{IsPointOf}
+use Rattle.price_search.specs.PriceBounds.{ArePriceBounds}
 use Rattle.price_search.specs.Refusals.{IsBoundsRefusal}
+use Rattle.price_search.specs.declared.point.PricePoint.{PricePoint}
+use Rattle.price_search.specs.declared.posing.PriceBounds.{PriceBounds}
 
 -- some proper duals within the caps support the dispatch
 pub record IsSupportedWithin (m : Parts) (x : Dispatch) (c : Caps) : Type 0 where
@@ -24,6 +28,12 @@ pub record IsSupportedWithin (m : Parts) (x : Dispatch) (c : Caps) : Type 0 wher
   pub proper : ProperDuals m duals
   pub supported : Supports m x duals
   pub within : KeepsCaps m x c duals
+
+-- these are the prices and the bounds of the system of prices of a dispatch, within whose caps some proper duals support it
+pub record IsPosed {N : Type 0} (value : N → Fraction) (m : Parts) (x : Dispatch) (c : Caps) (p : PricePoint N) (b : PriceBounds N) : Type 0 where
+  pub point : IsPointOf value m x p
+  pub supported : IsSupportedWithin m x c
+  pub posing : ArePriceBounds value m x c b
 
 -- some proper duals support it of which the caps lose nothing
 pub record HasCaps (m : Parts) (x : Dispatch) (c : Caps) : Type 0 where

@@ -2,6 +2,7 @@
 //! and the price of energy by blocks.
 #![tactic(auto)]
 
+mod alone;
 mod caps;
 mod energy;
 pub mod laws;

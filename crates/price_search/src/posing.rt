@@ -41,7 +41,7 @@ pub(crate) struct PriceBounds<N> {
 }
 
 /// Whether two numbers are the same.
-fn is_same<N: Exact>(left: N, right: N) -> bool
+pub(crate) fn is_same<N: Exact>(left: N, right: N) -> bool
     ensures { result ≡ are_same (N.value left) (N.value right) }
 {
     match left.order(right) {

@@ -10,7 +10,7 @@ ghost use Rattle.market_model.specs.Stops.{StopsBy};
 ghost use Rattle.market_model.specs.SumTables.{IsRefusedInBusPrices};
 ghost use Rattle.market_model.specs.Valued.{answer_at, duals_at, price_at};
 ghost use Rattle.one_price.specs.FirstPrices.{AreFirstDuals};
-ghost use Rattle.settled_answer.specs.Repriced.{with_prices};
+ghost use Rattle.settled_answer.specs.Repriced.{with_new, with_prices};
 ghost use Rattle.settled_answer.specs.Settled.{IsSettlingRefusal};
 
 use bus_prices::prices;
@@ -89,23 +89,23 @@ fn priced<N: Exact>(
     })
 }
 
-/// The first of the duals that support the dispatch of an answer, with the bus prices and the settlement that they make. `reach` is what the
-/// dispatch carries and which rows it reaches.
+/// The first of the duals that support the dispatch of an answer, with the bus prices and the settlement that they make: nothing where its own are
+/// plainly the only ones. `reach` is what the dispatch carries and which rows it reaches.
 pub(crate) fn repriced<N: Exact>(
     alloc: Global,
     market: &Market,
     answer: &Answer<N>,
     reach: &Reach<N>,
-) -> Result<Repricing<N>, Stop<N>>
+) -> Result<Option<Repricing<N>>, Stop<N>>
     requires right { IsRight market.now (answer_at N.value answer.now) }
     requires fits { FitsMarket market.now answer.now }
     requires reach { IsReach N.value market.now (dispatch_in (answer_at N.value answer.now)) reach.now }
-    ensures first { IfOk result (λ made. AreFirstDuals market.now (dispatch_in (answer_at N.value answer.now)) (duals_at N.value made.duals)) }
-    ensures fits { IfOk result (λ made. FitsMarket market.now (with_prices answer.now made)) }
-    ensures right { IfOk result (λ made. IsRight market.now (answer_at N.value (with_prices answer.now made))) }
+    ensures first { IfOk result (λ made. AreFirstDuals market.now (dispatch_in (answer_at N.value answer.now)) (duals_at N.value (with_new answer.now made).duals)) }
+    ensures fits { IfOk result (λ made. FitsMarket market.now (with_new answer.now made)) }
+    ensures right { IfOk result (λ made. IsRight market.now (answer_at N.value (with_new answer.now made))) }
     ensures stops { IfErr result (StopsBy N.value (IsSettlingRefusal N.bound market.now (answer_at N.value answer.now))) }
 {
-    let duals = first_duals(
+    let found = first_duals(
         alloc,
         market,
         answer.dispatch.slice(),
@@ -113,5 +113,8 @@ pub(crate) fn repriced<N: Exact>(
         &answer.duals,
         reach,
     )?;
-    priced(alloc, market, answer, &reach.flows, duals)
+    match found {
+        Some(duals) => Ok(Some(priced(alloc, market, answer, &reach.flows, duals)?)),
+        None => Ok(None),
+    }
 }

@@ -49,7 +49,11 @@ pub fn settled<N: Exact>(
     ensures settled { IfOk result (IsSettled N.value N.bound market.now answer) }
 {
     match repriced(alloc, market, &answer, reach) {
-        Ok(made) => Ok(SettledAnswer {
+        Ok(None) => Ok(SettledAnswer {
+            answer,
+            passed: None,
+        }),
+        Ok(Some(made)) => Ok(SettledAnswer {
             answer: Answer {
                 dispatch: answer.dispatch,
                 reserve: answer.reserve,
