@@ -10,7 +10,7 @@ use exact_fraction::{Exact, Passed, Sign};
 use linear_dict::Dict;
 
 /// Whether a number is not 0.
-fn has_value<N: Exact>(number: N) -> bool
+fn is_not_zero<N: Exact>(number: N) -> bool
     ensures { result ≡ true → N.value number ≢ whole (pos 0) }
 {
     match number.sign() {
@@ -27,15 +27,15 @@ fn unknown_column<N: Exact>(dict: &Dict<N>, known: &[bool], row: usize) -> Optio
     ensures { IfSome result (λ column. (column < length dict.now.others) × (cell (length dict.now.others) dict.now.table row column ≢ whole (pos 0))) }
 {
     for column in 0..dict.column_count() {
-        if !known[column] && has_value(dict.entry(row, column)) {
+        if !known[column] && is_not_zero(dict.entry(row, column)) {
             return Some(column);
         }
     }
     None
 }
 
-/// Exchanges the variable of a row place, which is known, for one that is not, where the row has an entry of such. After an error the dictionary
-/// is of no use.
+/// Exchanges the variable of a row place, which is known, for an other one that is not known, where the row has an entry there. After an error the
+/// dictionary is of no use.
 fn solve_row<N: Exact>(dict: &mut Dict<N>, known: &mut [bool], row: usize) -> Result<(), Passed<N>>
     requires row { (0 < row) × (row < length dict.old.basics) }
     requires solved { (d : Dictionary) × (marks : List Bool) × IsSolvedBefore d marks row dict.old known.old }
@@ -49,7 +49,7 @@ fn solve_row<N: Exact>(dict: &mut Dict<N>, known: &mut [bool], row: usize) -> Re
     Ok(())
 }
 
-/// Does so with the variables of all rows behind the first one.
+/// Exchanges the variables of all rows behind the first one so.
 fn solve<N: Exact>(dict: &mut Dict<N>, known: &mut [bool]) -> Result<(), Passed<N>>
     requires live { dict.old.spent ≡ false }
     requires sound { IsDictionary dict.old }
@@ -75,8 +75,7 @@ fn are_all_marked(known: &[bool]) -> bool
 }
 
 /// Whether the rows have one point at most where these other variables, by column place, and the basic variables of all rows behind the first one
-/// are known. Where a number passes its bound on the way, or one row cannot be solved while another could, that is left open. The dictionary is of no
-/// use afterwards.
+/// are known. Where a number passes its bound on the way, the answer is no, which promises nothing. The dictionary is of no use afterwards.
 pub fn leaves_one_point<N: Exact>(dict: &mut Dict<N>, known: &mut [bool]) -> bool
     requires live { dict.old.spent ≡ false }
     requires sound { IsDictionary dict.old }

@@ -17,7 +17,7 @@ use Rattle.price_system.specs.declared.variables.Variable.TheVariants.{Block, Su
 use Rattle.price_system.specs.PriceSystem.{Caps, block_name, energy_coefficient, name, prices, sum_name, worths}
 use Rattle.price_system.proofs.NameLemmas.{block_listed, sum_listed}
 use Rattle.price_dict.specs.Holding.{HasPutIn}
-use Rattle.price_dict.specs.Marked.{HoldsBlocks, HoldsMarked, IsMarked, IsMarkedRow}
+use Rattle.price_dict.specs.Marked.{HoldsMarkedRows, HoldsMarked, IsMarked, IsMarkedRow}
 use Rattle.price_dict.specs.Reached.{AreColumns, columns_put, reached_system}
 use Rattle.price_dict.proofs.ColumnLists.{worth_apart}
 use Rattle.price_dict.proofs.HoldingLaws.{alone, put_more, row_in, rows_are, same_coefficient, same_columns, taken_column, taken_row}
@@ -124,7 +124,7 @@ module _ (m : Parts) (x : Dispatch) (market : IsMarket m) (marks : List Bool) (d
       at_block (k ∷ js) zero h = refl
       at_block (k ∷ js) (suc i) h = at_block js i (Prim.omega (arith, h))
 
-  pub holds_blocks : HoldsBlocks m x marks d
+  pub holds_blocks : HoldsMarkedRows m x marks d
   holds_blocks = record {
     live = holds.put.live;
     sound = holds.put.sound;

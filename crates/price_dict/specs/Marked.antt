@@ -16,7 +16,7 @@ use Rattle.price_dict.specs.Reached.{columns_put, reached_system}
 abbrev pub IsMarked : List Bool → ℕ → ℕ → Type 0
 IsMarked marks upto j = (j < upto) × (slice_index_or marks j false ≡ true)
 
--- these prices were put in as its columns, and as its rows the sum and some blocks before a place, each of them marked
+-- these prices were put in as its columns, and as its rows their sum and what a MW is worth of some blocks before a place, each of them marked
 pub record HoldsMarked (m : Parts) (columns : List Variable) (marks : List Bool) (upto : ℕ) (d : Dictionary) : Type 0 where
   pub blocks : List ℕ
   pub marked : (j : ℕ) → Contains blocks j → IsMarked marks upto j
@@ -30,9 +30,9 @@ pub record IsMarkedRow (m : Parts) (marks : List Bool) (row : ℕ) : Type 0 wher
   pub marked : slice_index_or marks block false ≡ true
   pub named : row ≡ block_name m block
 
--- Its columns are the prices that may be other than 0, and none was exchanged. Each point of the whole system of prices meets its rows, which are the
--- sum and behind it marked blocks.
-pub record HoldsBlocks (m : Parts) (x : Dispatch) (marks : List Bool) (d : Dictionary) : Type 0 where
+-- Its other variables are the prices that may be other than 0. Each point of the rows of the system of prices without those that have to be 0 meets its
+-- rows, of which all behind the first are those of marked blocks.
+pub record HoldsMarkedRows (m : Parts) (x : Dispatch) (marks : List Bool) (d : Dictionary) : Type 0 where
   pub live : d.spent ≡ false
   pub sound : IsDictionary d
   pub others : d.others ≡ map (name m) (columns_put m x)

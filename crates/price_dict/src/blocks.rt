@@ -4,7 +4,7 @@ ghost use Rattle.std.specs.Prelude.{◌≡◌, IfErr, IfOk, length};
 ghost use Rattle.market_model.specs.Dispatch.{Dispatch};
 ghost use Rattle.market_model.specs.Stops.{StopsBy};
 ghost use Rattle.price_system.specs.PriceSystem.{sum_name as sum_name_of};
-ghost use Rattle.price_dict.specs.Marked.{HoldsBlocks, HoldsMarked};
+ghost use Rattle.price_dict.specs.Marked.{HoldsMarkedRows, HoldsMarked};
 ghost use Rattle.price_dict.specs.Reached.{AreColumns, AreReached};
 ghost use Rattle.price_dict.specs.Refusals.{IsColumnsRefusal, IsEntriesRefusal};
 
@@ -51,7 +51,7 @@ fn put_marked<N: Exact>(
 
 /// The dictionary of the prices that support a dispatch, without those that have to be 0, in which the rows are the sum and what a MW is worth of the
 /// blocks that are marked. The prices are the other variables, and all rows are basic.
-pub fn start_with<N: Exact>(
+pub fn start_with_marked<N: Exact>(
     alloc: Global,
     market: &Market,
     reached: Reached<'_>,
@@ -59,7 +59,7 @@ pub fn start_with<N: Exact>(
 ) -> Result<Dict<N>, Stop<N>>
     requires reached { (x : Dispatch) × AreReached market.now x reached }
     requires marks { length marks.now ≡ length market.now.blocks }
-    ensures holds { (x : Dispatch) → AreReached market.now x reached.entry → IfOk result (HoldsBlocks market.now x marks.now) }
+    ensures holds { (x : Dispatch) → AreReached market.now x reached.entry → IfOk result (HoldsMarkedRows market.now x marks.now) }
     ensures stops { (x : Dispatch) → AreReached market.now x reached.entry → IfErr result (StopsBy N.value (IsEntriesRefusal market.now x N.bound)) }
 {
     let _lines = market.lines();

@@ -8,6 +8,6 @@ mod names;
 mod reached;
 mod rows;
 
-pub use blocks::start_with;
+pub use blocks::start_with_marked;
 pub use reached::Reached;
 pub use rows::start;

@@ -1,4 +1,3 @@
-mod AloneLemmas
 mod BoundLists
 mod CapLemmas
 mod CapSums
@@ -6,6 +5,7 @@ mod EnergyLemmas
 mod FirstLemmas
 mod KeptLemmas
 pub mod NumberLaws
+mod OnlyPointLemmas
 mod PosedLemmas
 mod ReadingLemmas
 mod RowLemmas

@@ -1,8 +1,8 @@
-pub mod Alone
 pub mod Caps
 pub mod Energy
 pub mod Laws
 pub mod Numbers
+pub mod OnlyPoint
 pub mod Points
 pub mod PriceBounds
 pub mod Reading

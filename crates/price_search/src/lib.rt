@@ -2,10 +2,10 @@
 //! and the price of energy by blocks.
 #![tactic(auto)]
 
-mod alone;
 mod caps;
 mod energy;
 pub mod laws;
+mod only_point;
 mod point;
 mod posing;
 mod reading;

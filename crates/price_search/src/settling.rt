@@ -12,9 +12,9 @@ ghost use Rattle.price_search.specs.Points.{IsPointOf, caps_at};
 ghost use Rattle.price_search.specs.Searching.{HoldsFirstPrices};
 ghost use Rattle.price_search.specs.Settling.{HasCaps, IsPointRefusal, IsPosed, IsPriceRefusal, IsSearchRefusal};
 
-use crate::alone::has_one_point;
 use crate::caps::price_caps;
 use crate::energy::energy_price;
+use crate::only_point::has_one_point;
 use crate::point::{PriceCaps, PricePoint};
 use crate::posing::{PriceBounds, price_bounds};
 use crate::reading::duals_shown;
@@ -42,7 +42,8 @@ fn first_point_dict<N: Exact>(
     first_prices_dict(alloc, dict, posing.prices.slice(), posing.bounds.slice())
 }
 
-/// Of the duals that support the dispatch of a point those that are to be printed, by caps that lose none of them: nothing where there is only one choice.
+/// Of the duals that support the dispatch of a point those that are to be printed, by caps that some of them give: nothing where these are
+/// plainly the first.
 fn first_duals_within<N: Exact>(
     alloc: Global,
     market: &Market,
@@ -66,7 +67,7 @@ fn first_duals_within<N: Exact>(
 }
 
 /// Of the duals that support the dispatch of a point those that are to be printed, from some that do, by the caps that these give: nothing where
-/// these are the only ones.
+/// these are plainly the first.
 fn first_duals_at<N: Exact>(
     alloc: Global,
     market: &Market,
@@ -86,7 +87,7 @@ fn first_duals_at<N: Exact>(
 /// Of the duals that support a dispatch those that are to be printed, from some that do. All prices but that of energy add up to the least that they
 /// can, and then each is as low as can be, one after the other: those of rooms, from the last unit that offers reserve to the first, then those of
 /// limits, from the last row to the first and of each down before up, then that of reserve. Energy has the least price that it may have beside them;
-/// where there is no least, the greatest; where there is neither, 0. Nothing where those that are handed in are plainly the only ones. What is
+/// where there is no least, the greatest; where there is neither, 0. Nothing where those that are handed in are plainly the first. What is
 /// accepted is in 10^-9 MW, prices are in 10^-6 a MWh. `reach` is what the dispatch carries and which rows it reaches.
 pub fn first_duals<'a, N: Exact>(
     alloc: Global,

@@ -9,6 +9,6 @@ abbrev pub with_prices : {N : Type 0} → Answer N → Repricing N → Answer N
 with_prices a r = record { dispatch = a.dispatch; reserve = a.reserve; duals = r.duals; prices = r.prices; welfare = a.welfare; money = r.money }
 
 -- the answer with what was made anew of it, or as it is where nothing was
-abbrev pub with_new : {N : Type 0} → Answer N → Option (Repricing N) → Answer N
-with_new a None = a
-with_new a (Some r) = with_prices a r
+abbrev pub as_repriced : {N : Type 0} → Answer N → Option (Repricing N) → Answer N
+as_repriced a None = a
+as_repriced a (Some r) = with_prices a r

@@ -10,7 +10,7 @@ ghost use Rattle.market_model.specs.Stops.{StopsBy};
 ghost use Rattle.market_model.specs.SumTables.{IsRefusedInBusPrices};
 ghost use Rattle.market_model.specs.Valued.{answer_at, duals_at, price_at};
 ghost use Rattle.one_price.specs.FirstPrices.{AreFirstDuals};
-ghost use Rattle.settled_answer.specs.Repriced.{with_new, with_prices};
+ghost use Rattle.settled_answer.specs.Repriced.{as_repriced, with_prices};
 ghost use Rattle.settled_answer.specs.Settled.{IsSettlingRefusal};
 
 use bus_prices::prices;
@@ -90,7 +90,7 @@ fn priced<N: Exact>(
 }
 
 /// The first of the duals that support the dispatch of an answer, with the bus prices and the settlement that they make: nothing where its own are
-/// plainly the only ones. `reach` is what the dispatch carries and which rows it reaches.
+/// plainly the first. `reach` is what the dispatch carries and which rows it reaches.
 pub(crate) fn repriced<N: Exact>(
     alloc: Global,
     market: &Market,
@@ -100,9 +100,9 @@ pub(crate) fn repriced<N: Exact>(
     requires right { IsRight market.now (answer_at N.value answer.now) }
     requires fits { FitsMarket market.now answer.now }
     requires reach { IsReach N.value market.now (dispatch_in (answer_at N.value answer.now)) reach.now }
-    ensures first { IfOk result (λ made. AreFirstDuals market.now (dispatch_in (answer_at N.value answer.now)) (duals_at N.value (with_new answer.now made).duals)) }
-    ensures fits { IfOk result (λ made. FitsMarket market.now (with_new answer.now made)) }
-    ensures right { IfOk result (λ made. IsRight market.now (answer_at N.value (with_new answer.now made))) }
+    ensures first { IfOk result (λ made. AreFirstDuals market.now (dispatch_in (answer_at N.value answer.now)) (duals_at N.value (as_repriced answer.now made).duals)) }
+    ensures fits { IfOk result (λ made. FitsMarket market.now (as_repriced answer.now made)) }
+    ensures right { IfOk result (λ made. IsRight market.now (answer_at N.value (as_repriced answer.now made))) }
     ensures stops { IfErr result (StopsBy N.value (IsSettlingRefusal N.bound market.now (answer_at N.value answer.now))) }
 {
     let found = first_duals(

@@ -15,8 +15,8 @@ use limit_screen::Reach;
 use market_model::{Answer, Market, Memory, Outcome, Stop};
 use std::alloc::Global;
 
-/// The answer that is to be printed, and the operation whose outcome passed the bound on the way to the first prices, where one did; then the
-/// answer is the one that was handed in.
+/// The answer that is to be printed, and the operation whose outcome passed the bound on the way to the first prices, where they were not found for
+/// that; then the answer is the one that was handed in.
 #[derive(Drop)]
 pub struct SettledAnswer<N> {
     pub answer: Answer<N>,

@@ -11,7 +11,7 @@ use Rattle.price_search.specs.Points.{caps_at}
 use Rattle.price_search.specs.Refusals.{IsBoundsRefusal}
 use Rattle.price_search.specs.Searching.{HoldsFirstPrices}
 use Rattle.price_search.specs.Settling.{IsPointRefusal, IsSearchRefusal, of_bounds, of_energy, of_entries, of_point}
-use Rattle.price_search.proofs.AloneLemmas.{only_are_first}
+use Rattle.price_search.proofs.OnlyPointLemmas.{only_are_first}
 use Rattle.price_search.proofs.SettlingLemmas.{bounds_posed, first_are, point, same_dispatch, shows_worths, stops_weaker, supported_within}
 use Rattle.price_search.proofs.settling.first_duals_within.Goals as goal
 

@@ -1,4 +1,4 @@
--- Duals that are the only ones to support a dispatch.
+-- Duals that are the only ones within caps to support a dispatch.
 -- Source: the dual of a basic solution that is not degenerate is the only one (Chvátal, Linear Programming).
 use Rattle.std.specs.Prelude.{◌≡◌, ℕ, ◌<◌, Bool, true, false, List, length, map, Contains, slice_index_or}
 use Rattle.fraction_theory.specs.Fraction.{Fraction}
@@ -9,7 +9,7 @@ use Rattle.limit_screen.specs.Reaching.{are_same}
 use Rattle.simplex_core.specs.declared.bounds.Bounds.{Bounds}
 use Rattle.price_system.specs.PriceSystem.{Caps, price_system}
 
--- of a block a part is accepted, and not all, so that a MW of its unit is worth its price
+-- Of a block a part is accepted, and not all. At duals that support the dispatch a MW of its unit is worth its price.
 pub record IsMarginal (m : Parts) (x : Dispatch) (j : ℕ) : Type 0 where
   pub within : j < length m.blocks
   pub some : are_same (accepted x j) zero ≡ false
@@ -29,7 +29,7 @@ pub record AreFixed {N : Type 0} (value : N → Fraction) (bounds : List (Bounds
   pub fixed : (i : ℕ) → i < count → slice_index_or marks i false ≡ true
       → slice_index_or (map (λ (b : Bounds N). value b.low) bounds) i zero ≡ slice_index_or (map (λ (b : Bounds N). value b.high) bounds) i zero
 
--- no two points of the system of prices differ, and a part of some block is accepted
+-- no two points of the system of prices differ, and of some block a part is accepted and not all
 pub record IsOnlyPoint (m : Parts) (x : Dispatch) (c : Caps) : Type 0 where
   pub only : (v w : ℕ → Fraction) → IsPoint (price_system m x c) v → IsPoint (price_system m x c) w → (n : ℕ) → Contains (price_system m x c).variables n → v n ≡ w n
   pub block : ℕ

@@ -3,10 +3,10 @@ use Rattle.std.proofs.lemmas.Result.{err_from_is_err_and}
 use Rattle.market_model.specs.Dispatch.{Dispatch}
 use Rattle.market_model.specs.declared.stops.Stop.TheVariants.{Memory as NoMemory}
 use Rattle.one_point.specs.Known.{LeavesOnePoint}
-use Rattle.price_search.specs.Alone.{AreFixed, AreMarginal, HasMarked}
+use Rattle.price_search.specs.OnlyPoint.{AreFixed, AreMarginal, HasMarked}
 use Rattle.price_search.specs.PriceBounds.{dispatch_at}
-use Rattle.price_search.proofs.AloneLemmas.{columns_within, one_alone}
-use Rattle.price_search.proofs.alone.has_one_point.Goals as goal
+use Rattle.price_search.proofs.OnlyPointLemmas.{columns_within, one_alone}
+use Rattle.price_search.proofs.only_point.has_one_point.Goals as goal
 
 pub fixed_columns-requires : goal.fixed_columns-requires
 fixed_columns-requires g c =

@@ -1,5 +1,5 @@
-use Rattle.price_search.specs.Alone.{AreFixed}
-use Rattle.price_search.proofs.alone.fixed_columns.Given as goal
+use Rattle.price_search.specs.OnlyPoint.{AreFixed}
+use Rattle.price_search.proofs.only_point.fixed_columns.Given as goal
 
 abbrev pub invariant-loop-place : goal.invariant-loop-place
 invariant-loop-place g l = AreFixed g.N.Exact.value l.bounds l.place l.fixed

@@ -1,7 +1,7 @@
 use Rattle.std.proofs.Common.{◌+◌, ◌<◌, arith, length, subst, sym}
-use Rattle.price_search.specs.Alone.{AreFixed}
-use Rattle.price_search.proofs.AloneLemmas.{fixed_more}
-use Rattle.price_search.proofs.alone.fixed_columns.Goals as goal
+use Rattle.price_search.specs.OnlyPoint.{AreFixed}
+use Rattle.price_search.proofs.OnlyPointLemmas.{fixed_more}
+use Rattle.price_search.proofs.only_point.fixed_columns.Goals as goal
 
 pub loop-place-preserved : goal.loop-place-preserved
 loop-place-preserved g c =

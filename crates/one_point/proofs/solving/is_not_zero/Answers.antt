@@ -1,7 +1,7 @@
 use Rattle.std.proofs.Common.{inl, inr, sym, ◌∙◌}
 use Rattle.fraction_theory.specs.declared.Sign.TheVariants.{Below, Above}
 use Rattle.fraction_theory.proofs.SignLaws.{not_nil_by_sign}
-use Rattle.one_point.proofs.solving.has_value.Goals as goal
+use Rattle.one_point.proofs.solving.is_not_zero.Goals as goal
 
 pub returns-in-Below : goal.returns-in-Below
 returns-in-Below g c = λ _ zero. elim c.in-Below.is [

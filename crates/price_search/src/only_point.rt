@@ -1,4 +1,4 @@
-//! Whether duals that support a dispatch are plainly the only ones: the blocks of which a part is accepted fix all prices.
+//! Whether the duals that support a dispatch, within caps, are plainly one set alone: the blocks of which a part is accepted fix all prices.
 
 ghost use Rattle.std.specs.Prelude.{◌≡◌, ◌++◌, ◌≤◌, IfErr, IfOk, false, length, true};
 ghost use Rattle.market_model.specs.Dispatch.{Dispatch, zero};
@@ -7,7 +7,7 @@ ghost use Rattle.limit_screen.specs.Reaching.{are_same};
 ghost use Rattle.price_system.specs.PriceSystem.{Caps, worths};
 ghost use Rattle.price_dict.specs.Reached.{columns_put};
 ghost use Rattle.price_dict.specs.Refusals.{IsEntriesRefusal};
-ghost use Rattle.price_search.specs.Alone.{AreFixed, AreMarginal, HasMarked, IsOnlyPoint};
+ghost use Rattle.price_search.specs.OnlyPoint.{AreFixed, AreMarginal, HasMarked, IsOnlyPoint};
 ghost use Rattle.price_search.specs.Points.{IsPointOf};
 ghost use Rattle.price_search.specs.PriceBounds.{AreBounds, dispatch_at};
 
@@ -19,7 +19,7 @@ use linear_dict::Dict;
 use market_model::{Market, Stop, block_quantity, datum};
 use one_point::leaves_one_point;
 use plain_list::{List, Memory};
-use price_dict::start_with;
+use price_dict::start_with_marked;
 use simplex_core::Bounds;
 use std::alloc::Global;
 
@@ -77,8 +77,8 @@ fn fixed_columns<N: Exact>(
     Ok(fixed)
 }
 
-/// Whether the system of prices has one point at most, and a part of some block is accepted, by the bounds of its variables. Where a number passes its
-/// bound on the way, that is left open.
+/// Whether the system of prices has one point at most, and of some block a part is accepted and not all, by the bounds of its variables. Where a
+/// number passes its bound in an exchange, the answer is no, which promises nothing.
 pub(crate) fn has_one_point<N: Exact>(
     alloc: Global,
     market: &Market,
@@ -97,7 +97,7 @@ pub(crate) fn has_one_point<N: Exact>(
     if !is_some_marked(marks.slice()) {
         return Ok(false);
     }
-    let mut dict: Dict<N> = start_with(alloc, market, point.reached, marks.slice())?;
+    let mut dict: Dict<N> = start_with_marked(alloc, market, point.reached, marks.slice())?;
     let mut known = fixed_columns(alloc, bounds, dict.column_count())?;
     Ok(leaves_one_point(&mut dict, known.slice_mut()))
 }

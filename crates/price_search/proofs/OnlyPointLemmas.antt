@@ -43,9 +43,9 @@ use Rattle.price_system.proofs.PointLaws.{block_worth, greatest, least as at_lea
 use Rattle.price_system.proofs.NameLemmas.{variable_is}
 use Rattle.price_system.proofs.SystemLemmas.{law_of_the_system}
 use Rattle.one_point.specs.Known.{AgreeBehind, AgreeWhere, LeavesOnePoint}
-use Rattle.price_dict.specs.Marked.{HoldsBlocks}
+use Rattle.price_dict.specs.Marked.{HoldsMarkedRows}
 use Rattle.price_dict.specs.Reached.{columns_put, is_kept, reached_system}
-use Rattle.price_search.specs.Alone.{AreFixed, AreMarginal, HasMarked, IsMarginal, IsOnlyPoint}
+use Rattle.price_search.specs.OnlyPoint.{AreFixed, AreMarginal, HasMarked, IsMarginal, IsOnlyPoint}
 use Rattle.price_search.specs.PriceBounds.{AreBounds}
 use Rattle.price_search.proofs.KeptLemmas.{columns_are, may_leave, put_is}
 use Rattle.price_search.proofs.SettlingLemmas.{by_keep}
@@ -181,7 +181,7 @@ module _ (m : Parts) (x : Dispatch) (c : Caps) (market : IsMarket m) where
           subst (λ (n : ℕ). v n ≡ w n) (sym here) (column_same i few mark)
 
   -- ---- two points of the system
-  module _ (law : LawOfFewerPoints) (marks : List Bool) (marginal : AreMarginal m x (length m.blocks) marks) (d : Dictionary) (holds : HoldsBlocks m x marks d) (known : List Bool) (alone : LeavesOnePoint d known)
+  module _ (law : LawOfFewerPoints) (marks : List Bool) (marginal : AreMarginal m x (length m.blocks) marks) (d : Dictionary) (holds : HoldsMarkedRows m x marks d) (known : List Bool) (alone : LeavesOnePoint d known)
       (v w : ℕ → Fraction) (is : IsPoint s v) (also : IsPoint s w) (where_known : AgreeWhere known d.others v w) where
     system : IsSystem s
     system = law_of_the_system m x c market
@@ -230,7 +230,7 @@ module _ (m : Parts) (x : Dispatch) (c : Caps) (market : IsMarket m) where
 
   -- ---- what is known leaves one point
   module _ {N : Type 0} (value : N → Fraction) (bounds : List (Bounds N)) (are : AreBounds value m x c (columns_put m x ++ worths m) bounds) (marks : List Bool)
-      (marginal : AreMarginal m x (length m.blocks) marks) (d : Dictionary) (holds : HoldsBlocks m x marks d) where
+      (marginal : AreMarginal m x (length m.blocks) marks) (d : Dictionary) (holds : HoldsMarkedRows m x marks d) where
     others_long : length d.others ≡ length (columns_put m x)
     others_long = ap length holds.others ∙ length-map (columns_put m x) (name m)
 

@@ -8,7 +8,7 @@ use Rattle.price_dict.specs.Reached.{AreColumns}
 use Rattle.price_dict.specs.Refusals.{IsColumnsRefusal}
 use Rattle.price_dict.proofs.ColumnLists.{are_columns, column_refused, columns_reached}
 use Rattle.price_dict.proofs.MarkedLaws.{holds_blocks, marked_none}
-use Rattle.price_dict.proofs.blocks.start_with.Goals as goal
+use Rattle.price_dict.proofs.blocks.start_with_marked.Goals as goal
 
 pub summed-requires-clause-columns : goal.summed-requires-clause-columns
 summed-requires-clause-columns g c =
