@@ -16,3 +16,4 @@ pub mod RowLemmas
 pub mod SplitLemmas
 pub mod StartLemmas
 pub mod TableLemmas
+mod WideLemmas

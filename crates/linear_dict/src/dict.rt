@@ -10,7 +10,7 @@ ghost use Rattle.linear_dict.specs.Places.{StandsAt};
 ghost use Rattle.linear_dict.specs.Tables.{cell};
 
 use crate::adding::{AddStop, append, make_room, make_room_for_name, row_entries};
-use crate::column::widened_table;
+use crate::column::{make_room_for_column, widen_table};
 use crate::index::{Variable, add_variable, rank};
 use crate::note::{Note, blank_note};
 use crate::place::Place;
@@ -325,23 +325,23 @@ impl<N: Exact> Dict<N> {
         requires absent { ¬ (Contains self.old.names column) }
         ensures { MatchResult result (λ _. AddsColumn self.old column self.new) (λ _. self.new ≡ self.old) }
     {
-        let alloc = *self.table.allocator();
         let (rows, columns) = (self.rows.len(), self.columns.len());
-        let coefficients = widened_table(alloc, &self.coefficients, rows, columns)?;
-        let table = widened_table(alloc, &self.table, self.basics.len(), self.others.len())?;
+        let (basics, others) = (self.basics.len(), self.others.len());
+        make_room_for_column(&mut self.coefficients, rows)?;
+        make_room_for_column(&mut self.table, basics)?;
         make_room_for_name(&mut self.columns)?;
         make_room_for_name(&mut self.others)?;
         let variable = Variable {
             name: column,
-            place: Place::Column(self.others.len()),
+            place: Place::Column(others),
             put: Place::Column(columns),
             note: blank_note(),
         };
         add_variable(&mut self.names, &mut self.variables, variable)?;
         self.columns.push_reserved(column);
         self.others.push_reserved(column);
-        self.coefficients = coefficients;
-        self.table = table;
+        widen_table(&mut self.coefficients, rows, columns);
+        widen_table(&mut self.table, basics, others);
         Ok(())
     }
 
