@@ -52,7 +52,7 @@ pub trait Exact: Copy {
     ghost use Rattle.fraction_theory.specs.Order.{◌<ℚ◌};
     ghost use Rattle.fraction_theory.specs.Signs.{sign_of};
     ghost use Rattle.std.specs.Ordering.{MatchOrdering};
-    ghost use Rattle.std.specs.Prelude.{IfSome};
+    ghost use Rattle.std.specs.Prelude.{◌↔◌, IfSome, IsTrue};
     ghost use Rattle.exact_fraction.specs.Floor.{IsFloor};
     ghost use Rattle.exact_fraction.specs.Passes.{IsExact, IsExactWith};
     ghost use Rattle.exact_fraction.specs.Written.{written, parts_text};
@@ -85,6 +85,10 @@ pub trait Exact: Copy {
     /// The true order of the values. Nothing is multiplied, so nothing passes the bound.
     fn order(self, other: Self) -> Ordering
         ensures { MatchOrdering result (value self <ℚ value other) (value self ≡ value other) (value other <ℚ value self) };
+
+    /// Whether the two numbers are one.
+    fn is_same(self, other: Self) -> bool
+        ensures { IsTrue result ↔ (value self ≡ value other) };
 
     /// The greatest whole number that is not above this one, where 64 bits hold it.
     fn floor(self) -> Option<i64>

@@ -4,6 +4,7 @@ ghost use Rattle.std.specs.Option.{IfSome};
 
 use exact_fraction::{Exact, Frac, Frac63, Op, Passed, Sign};
 use linear_dict::{AddStop, Dict, Note, Place};
+use one_point::leaves_one_point;
 use std::alloc::Global;
 use std::cmp::Ordering;
 use std::process::Abort;
@@ -242,6 +243,26 @@ fn two_rows<N: Exact>(alloc: Global, first: (N, N), second: (N, N)) -> Option<Di
     }
 }
 
+/// Whether what row 9 over columns 7 and 3 is, and what column 7 is where that is known, leave one point.
+fn leaves_one<N: Exact>(rt: &impl Abort, alloc: Global, row: (N, N), is_known: bool) -> bool {
+    let one = N::of_parts(1, 1);
+    let mut dict = two_rows(alloc, (one, one), row).expect(rt, "memory");
+    if dict.spent() {
+        return false;
+    }
+    let mut known = [is_known, false];
+    dict.column_count() == known.len() && leaves_one_point(&mut dict, &mut known)
+}
+
+/// One of two columns has to be known, and the other one has to be in the row.
+fn one_point<N: Exact>(rt: &impl Abort, alloc: Global) {
+    let (zero, one, two) = (N::of_parts(0, 1), N::of_parts(1, 1), N::of_parts(2, 1));
+    assert!(rt; leaves_one(rt, alloc, (one, two), true));
+    assert!(rt; leaves_one(rt, alloc, (zero, two), true));
+    assert!(rt; !leaves_one(rt, alloc, (one, two), false));
+    assert!(rt; !leaves_one(rt, alloc, (one, zero), true));
+}
+
 /// Two rows over x and z: solving the first for x is refused with these two numbers, and the dictionary is spent.
 fn refuses_pivot<N: Exact>(
     rt: &impl Abort,
@@ -351,6 +372,12 @@ fn adds_columns(rt: HostRuntime) {
 fn names_places_and_notes(rt: HostRuntime) {
     names::<Frac>(&rt, rt.alloc());
     names::<Frac63>(&rt, rt.alloc());
+}
+
+#[test]
+fn one_point_is_told(rt: HostRuntime) {
+    one_point::<Frac>(&rt, rt.alloc());
+    one_point::<Frac63>(&rt, rt.alloc());
 }
 
 #[test]

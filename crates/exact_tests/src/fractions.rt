@@ -70,6 +70,7 @@ fn calls<N: Exact>(rt: &impl Abort) {
     );
     assert!(rt; is(Ok(half.neg()), N::of_parts(1, 2)));
     assert!(rt; third.order(half) == Ordering::Greater);
+    assert!(rt; half.is_same(N::of_parts(-1, 2)) && !half.is_same(third));
     assert!(rt; half.sign() == Sign::Below && third.sign() == Sign::Above);
     match inverse(half) {
         Some(inverse) => assert!(rt; is_written(inverse, 0, "-2")),

@@ -68,7 +68,9 @@ fn solved_63(rt: &impl Abort, posed: Posed<Frac63>)
             assert!(rt; has_value(&solved, 1, fraction(60, 1)));
             assert!(rt; has_value(&solved, 2, fraction(0, 1)));
             assert!(rt; has_reduced(&solved, 2, fraction(-20, 1)));
-            assert!(rt; !solved.into_dict().spent());
+            let dict = solved.into_dict();
+            assert!(rt; !dict.spent());
+            assert!(rt; dict.has_reduced_prices());
         }
         _ => assert!(rt; false),
     }
@@ -81,6 +83,7 @@ fn two_columns_63(rt: &impl Abort, alloc: Global) {
     match posed_63(rt, dict, 250).run() {
         Run::Empty { dict, row, above } => {
             assert!(rt; row == 0 && above);
+            assert!(rt; !dict.has_reduced_prices());
             solved_63(rt, posed_63(rt, dict, 60));
         }
         _ => assert!(rt; false),
@@ -111,7 +114,9 @@ fn solved_127(rt: &impl Abort, posed: Posed<Frac>)
             assert!(rt; has_value(&solved, 1, fraction(60, 1)));
             assert!(rt; has_value(&solved, 2, fraction(0, 1)));
             assert!(rt; has_reduced(&solved, 2, fraction(-20, 1)));
-            assert!(rt; !solved.into_dict().spent());
+            let dict = solved.into_dict();
+            assert!(rt; !dict.spent());
+            assert!(rt; dict.has_reduced_prices());
         }
         _ => assert!(rt; false),
     }

@@ -1,12 +1,11 @@
 -- A dictionary after one more column.
-use Rattle.std.specs.Prelude.{◌≡◌, ℕ, ◌+◌, ◌*◌, ◌<◌, ◌≤◌, Bool, true, false, not, cond, pos, List, [], ◌∷◌, ◌++◌, length, filter, insert, map, take, drop, refl}
+use Rattle.std.specs.Prelude.{◌≡◌, ℕ, ◌+◌, ◌*◌, ◌<◌, ◌≤◌, Bool, true, false, not, cond, pos, List, [], ◌∷◌, ◌++◌, length, filter, insert, take, drop, refl}
 use Rattle.std.specs.List.{Contains}
 use Rattle.std.specs.List.Sorted.{IsStrictlyIncreasing}
-use Rattle.std.proofs.Common.{arith, ap, sym, ◌∙◌, subst, inl, inr, get_or, length-append, append_assoc}
-use Rattle.std.proofs.lemmas.List.{get_or_append_left, get_or-take, get_or-drop, length-map, length-take, length-drop, map-append, take-map, drop-map, take-append-drop}
+use Rattle.std.proofs.Common.{arith, ap, sym, ◌∙◌, subst, inl, inr, length-append}
+use Rattle.std.proofs.lemmas.List.{take-append-drop}
 use Rattle.std.proofs.lemmas.List.Elements.{filter-append, Contains-append_left, Contains-push_cases}
 use Rattle.std.proofs.Math.Path.{subst₃}
-use Rattle.std.proofs.Math.Seq.{get_or-append_seam}
 use mathlib.Core.Path.{ap₂}
 use Rattle.fraction_theory.specs.Fraction.{Fraction, whole, ◌+ℚ◌, ◌*ℚ◌}
 use Rattle.fraction_theory.specs.Sums.{sum_by}
@@ -18,11 +17,11 @@ use Rattle.linear_system.specs.Choices.{Choice, IsChoice, MeetsTable, basics, ot
 use Rattle.linear_system.specs.Systems.{System, MeetsRows, activity}
 use Rattle.linear_dict.specs.Dictionaries.{AddsColumn, Dictionary, IsDictionary, choice_of, entry_of, system_in}
 use Rattle.linear_dict.specs.Places.{IsSplit, is_among, place_in}
-use Rattle.linear_dict.specs.Tables.{Shows, cell, widened, widened_cell}
+use Rattle.linear_dict.specs.Tables.{cell, widened, widened_cell}
 use Rattle.linear_dict.proofs.GrowLemmas.{split_second}
-use Rattle.linear_dict.proofs.NameLemmas.{among-from, among-not, among-tells, lt_or_le, place_in-within}
+use Rattle.linear_dict.proofs.NameLemmas.{among-from, among-not, among-tells, place_in-within}
 use Rattle.linear_dict.proofs.ProductLemmas.{zero_times}
-use Rattle.linear_dict.proofs.RowLemmas.{cell-new, cell-old, filter-insert, place-push_new, place-push_old}
+use Rattle.linear_dict.proofs.RowLemmas.{filter-insert, place-push_new, place-push_old}
 use Rattle.linear_dict.proofs.SplitLemmas.{in_basics, in_others}
 use Rattle.linear_dict.proofs.TableLemmas.{shows_table}
 
@@ -30,11 +29,11 @@ abbrev nil : Fraction
 nil = whole (pos 0)
 
 -- ---- the table
-widened_cell-old : (f : ℕ → ℕ → Fraction) (columns i j : ℕ) → j < columns → widened_cell f columns i j ≡ f i j
+pub widened_cell-old : (f : ℕ → ℕ → Fraction) (columns i j : ℕ) → j < columns → widened_cell f columns i j ≡ f i j
 unfolding widened_cell
 widened_cell-old f columns i j h = put_at-elsewhere columns nil (f i) j (λ e. Prim.omega (arith, e, h))
 
-widened_cell-new : (f : ℕ → ℕ → Fraction) (columns i : ℕ) → widened_cell f columns i columns ≡ nil
+pub widened_cell-new : (f : ℕ → ℕ → Fraction) (columns i : ℕ) → widened_cell f columns i columns ≡ nil
 unfolding widened_cell
 widened_cell-new f columns i = put_at-here columns nil (f i) columns refl
 
@@ -51,55 +50,6 @@ widened-new : (rows columns : ℕ) (xs : List Fraction) (i : ℕ) → i < rows �
 unfolding widened
 widened-new rows columns xs i hi =
     (shows_table rows (columns + 1) (widened_cell (cell columns xs) columns)).at i columns hi (Prim.omega arith) ∙ widened_cell-new (cell columns xs) columns i
-
--- no row yet, and one row more
-pub shows_none : (columns : ℕ) (f : ℕ → ℕ → Fraction) → Shows 0 columns [] f
-shows_none columns f = record { count = Prim.omega arith; at = λ i j hi hj. absurd (Prim.omega (arith, hi)) }
-
-shows_row : (rows columns : ℕ) (xs ys : List Fraction) (f : ℕ → ℕ → Fraction) → Shows rows columns xs f → length ys ≡ columns → ((j : ℕ) → j < columns → get_or ys j nil ≡ f rows j) → Shows (rows + 1) columns (xs ++ ys) f
-shows_row rows columns xs ys f s n e = record {
-  count = length-append xs ys ∙ Prim.omega (arith, s.count, n);
-  at = λ i j hi hj. elim (lt_or_le i rows) [
-    | inl l ↦ cell-old columns xs ys rows i j s.count l hj ∙ s.at i j l hj
-    | inr l ↦
-        let last : i ≡ rows = Prim.omega (arith, hi, l) in
-        ap (λ (k : ℕ). cell columns (xs ++ ys) k j) last ∙ cell-new columns xs ys rows j s.count ∙ e j hj ∙ ap (λ (k : ℕ). f k j) (sym last)
-  ];
-}
-
-wide_entry : (columns row : ℕ) (xs : List Fraction) (j : ℕ) → row * columns + columns ≤ length xs → j < columns + 1
-    → get_or (take columns (drop (row * columns) xs) ++ nil ∷ []) j nil ≡ widened_cell (cell columns xs) columns row j
-unfolding cell
-wide_entry columns row xs j room h =
-    let size : length (take columns (drop (row * columns) xs)) ≡ columns = length-take columns (drop (row * columns) xs) ∙ Prim.omega (arith, length-drop (row * columns) xs, room) in
-    elim (lt_or_le j columns) [
-      | inl l ↦ get_or_append_left (take columns (drop (row * columns) xs)) (nil ∷ []) nil j (Prim.omega (arith, l, size))
-          ∙ get_or-take columns (drop (row * columns) xs) j nil l ∙ get_or-drop (row * columns) xs j nil ∙ sym (widened_cell-old (cell columns xs) columns row j l)
-      | inr l ↦
-          let last : j ≡ columns = Prim.omega (arith, h, l) in
-          ap (λ (k : ℕ). get_or (take columns (drop (row * columns) xs) ++ nil ∷ []) k nil) (last ∙ sym size)
-          ∙ get_or-append_seam (take columns (drop (row * columns) xs)) nil [] nil ∙ sym (ap (widened_cell (cell columns xs) columns row) last ∙ widened_cell-new (cell columns xs) columns row)
-    ]
-
--- a row and a 0 behind it, put behind the rows before it
-pub wide_row : {N : Type 0} (value : N → Fraction) (table wide wider : List N) (columns row count : ℕ) (zero : N) → row * columns + columns ≤ length table → count ≡ columns
-    → wider ≡ (wide ++ take count (drop (row * columns) table)) ++ zero ∷ [] → value zero ≡ whole (pos 0)
-    → Shows row (columns + 1) (map value wide) (widened_cell (cell columns (map value table)) columns)
-    → Shows (row + 1) (columns + 1) (map value wider) (widened_cell (cell columns (map value table)) columns)
-wide_row value table wide wider columns row count zero room all is none s =
-    let xs : List Fraction = map value table in
-    let start : ℕ = row * columns in
-    let ys : List Fraction = take columns (drop start xs) in
-    let enough : start + columns ≤ length xs = Prim.omega (arith, room, length-map table value) in
-    let size : length ys ≡ columns = length-take columns (drop start xs) ∙ Prim.omega (arith, length-drop start xs, enough) in
-    let same : map value wider ≡ map value wide ++ (ys ++ nil ∷ []) =
-    ap (map value) (is ∙ ap (λ (n : ℕ). (wide ++ take n (drop start table)) ++ zero ∷ []) all) ∙ map-append value (wide ++ take columns (drop start table)) (zero ∷ [])
-    ∙ ap₂ (λ (a : List Fraction) (z : Fraction). a ++ z ∷ [])
-    (map-append value wide (take columns (drop start table)) ∙ ap (λ (a : List Fraction). map value wide ++ a) (sym (take-map value columns (drop start table)) ∙ ap (take columns) (sym (drop-map value start table)))) none
-    ∙ append_assoc (map value wide) ys (nil ∷ []) in
-    subst (λ (zs : List Fraction). Shows (row + 1) (columns + 1) zs (widened_cell (cell columns xs) columns)) (sym same)
-    (shows_row row (columns + 1) (map value wide) (ys ++ nil ∷ []) (widened_cell (cell columns xs) columns) s
-    (length-append ys (nil ∷ []) ∙ ap (λ (k : ℕ). k + 1) size) (λ j h. wide_entry columns row xs j enough h))
 
 -- the cells of a wider table by the names of its rows and columns
 module _ (rows columns : List ℕ) (xs : List Fraction) (column : ℕ) (distinct : Distinct columns) (absent : ¬ (Contains columns column))
@@ -204,7 +154,7 @@ module _ (d new : Dictionary) (column : ℕ) (h : IsDictionary d) (absent : ¬ (
       ∙ filter-insert (is_among d.basics) d.names k.rank column (among-not d.basics column (λ m. absent (h.split.first_named column m)))
 
   -- sums over the columns, and over the others
-  column_sum : (f : ℕ → Fraction) → f column ≡ whole (pos 0) → sum_by f after.columns ≡ sum_by f s.columns
+  pub column_sum : (f : ℕ → Fraction) → f column ≡ whole (pos 0) → sum_by f (system_in new).columns ≡ sum_by f (system_in d).columns
   unfolding after s system_in
   column_sum f z =
       ap (sum_by f) (ap₂ (λ (cs ns : List ℕ). filter (is_among cs) ns) k.columns k.names) ∙ sum-insert f (is_among (d.columns ++ column ∷ [])) d.names k.rank column z

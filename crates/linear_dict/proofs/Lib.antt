@@ -2,6 +2,7 @@ pub mod AddColumnLemmas
 pub mod AddRowLemmas
 pub mod AddingLemmas
 pub mod CauseLemmas
+pub mod ChangeLemmas
 pub mod ColumnLaws
 pub mod ColumnLemmas
 pub mod ExchangeLemmas
@@ -12,6 +13,7 @@ pub mod NameLemmas
 pub mod NoteLemmas
 pub mod PivotLemmas
 pub mod ProductLemmas
+pub mod ReducedPriceLemmas
 pub mod RowLemmas
 pub mod SplitLemmas
 pub mod StartLemmas

@@ -32,7 +32,7 @@ done-other : (row c upto i j : ℕ) → ¬ ((i ≡ row) × (j ≡ upto)) → is_
 unfolding is_done
 done-other row c upto i j n = Prim.grind (arith, nat_tests)
 
-done-yet : (row c upto i j : ℕ) → (i ≢ row) ⊎ (upto ≤ j) ⊎ (j ≡ c) → is_done row c upto i j ≡ false
+pub done-yet : (row c upto i j : ℕ) → (i ≢ row) ⊎ (upto ≤ j) ⊎ (j ≡ c) → is_done row c upto i j ≡ false
 unfolding is_done
 done-yet row c upto i j h = Prim.grind (arith, nat_tests)
 
@@ -46,11 +46,11 @@ below-no i n h = Prim.grind (arith, nat_tests)
 below-yes : (i n : ℕ) → i < n → nat_lt i n ≡ true
 below-yes i n h = Prim.grind (arith, nat_tests)
 
-done-all : (row c upto j : ℕ) → j < upto → j ≢ c → is_done row c upto row j ≡ true
+pub done-all : (row c upto j : ℕ) → j < upto → j ≢ c → is_done row c upto row j ≡ true
 unfolding is_done
 done-all row c upto j h n = Prim.grind (arith, nat_tests)
 
-stage-done : (g : ℕ → Fraction) (f : ℕ → ℕ → Fraction) (row c upto i j : ℕ) → is_done row c upto i j ≡ true → stage g f row c upto i j ≡ g j
+pub stage-done : (g : ℕ → Fraction) (f : ℕ → ℕ → Fraction) (row c upto i j : ℕ) → is_done row c upto i j ≡ true → stage g f row c upto i j ≡ g j
 unfolding stage
 stage-done g f row c upto i j e = ap (λ (b : Bool). if b then g j else f i j) e
 
@@ -61,7 +61,7 @@ any_branch true false x y e = e
 any_branch false true x y e = sym e
 any_branch false false x y e = refl
 
-stage-yet : (g : ℕ → Fraction) (f : ℕ → ℕ → Fraction) (row c upto i j : ℕ) → is_done row c upto i j ≡ false → stage g f row c upto i j ≡ f i j
+pub stage-yet : (g : ℕ → Fraction) (f : ℕ → ℕ → Fraction) (row c upto i j : ℕ) → is_done row c upto i j ≡ false → stage g f row c upto i j ≡ f i j
 unfolding stage
 stage-yet g f row c upto i j e = ap (λ (b : Bool). if b then g j else f i j) e
 

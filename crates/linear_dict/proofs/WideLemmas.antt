@@ -5,20 +5,12 @@ use Rattle.std.proofs.Math.Nat.{mul-le-mul_right}
 use Rattle.std.proofs.lemmas.List.{get_or_append_left, get_or-set_same, get_or-set_other, length-append, length-map}
 use Rattle.fraction_theory.specs.Fraction.{Fraction, whole}
 use Rattle.linear_dict.specs.Tables.{cell, widened, widened_cell}
-use Rattle.fraction_theory.proofs.ListSums.{put_at-elsewhere, put_at-here}
+use Rattle.linear_dict.proofs.ColumnLemmas.{widened_cell-new, widened_cell-old}
 use Rattle.linear_dict.proofs.NameLemmas.{lt_or_le}
 use Rattle.linear_dict.proofs.TableLemmas.{shows_is, within}
 
 abbrev nil : Fraction
 nil = whole (pos 0)
-
-wider-old : (f : ℕ → ℕ → Fraction) (columns i j : ℕ) → j < columns → widened_cell f columns i j ≡ f i j
-unfolding widened_cell
-wider-old f columns i j h = put_at-elsewhere columns nil (f i) j (λ e. Prim.omega (arith, e, h))
-
-wider-new : (f : ℕ → ℕ → Fraction) (columns i : ℕ) → widened_cell f columns i columns ≡ nil
-unfolding widened_cell
-wider-new f columns i = put_at-here columns nil (f i) columns refl
 
 -- n items were copied to a place, and those before a place or from one on stay
 abbrev CopiedTo : {X : Type 0} → List X → List X → ℕ → ℕ → ℕ → Type 0
@@ -67,11 +59,11 @@ module _ {N : Type 0} (value : N → Fraction) (z : N) (none : value z ≡ nil) 
               let from : row * columns + (row * columns + row + j - (row * columns + row)) ≡ row * columns + j = Prim.omega arith in
               ap value (get_or-set_other ys (row * columns + row + columns) (row * columns + row + j) z z (λ e. Prim.omega (arith, l, e))
               ∙ copied (row * columns + row + j) z (Prim.omega arith) (Prim.omega (arith, l)) ∙ ap (λ (k : ℕ). get_or xs k z) from)
-              ∙ sym (at columns xs row j) ∙ sym (wider-old (cell columns (map value xs)) columns row j l)
+              ∙ sym (at columns xs row j) ∙ sym (widened_cell-old (cell columns (map value xs)) columns row j l)
           | inr l ↦
               let last : j ≡ columns = Prim.omega (arith, h, l) in
               ap (λ (k : ℕ). value (get_or zs (row * columns + row + k) z)) last ∙ ap value (get_or-set_same ys (row * columns + row + columns) z z room) ∙ none
-              ∙ sym (ap (widened_cell (cell columns (map value xs)) columns row) last ∙ wider-new (cell columns (map value xs)) columns row)
+              ∙ sym (ap (widened_cell (cell columns (map value xs)) columns row) last ∙ widened_cell-new (cell columns (map value xs)) columns row)
         ]
 
     pub moved_behind : (i j : ℕ) → row < i → j < columns + 1 → cell (columns + 1) (map value zs) i j ≡ cell (columns + 1) (map value xs) i j
@@ -127,11 +119,11 @@ module _ {N : Type 0} (value : N → Fraction) (rows columns : ℕ) (old : List 
     where
       widened_same : (j : ℕ) → j < columns + 1 → widened_cell (cell columns (map value now)) columns row j ≡ widened_cell (cell columns (map value old)) columns row j
       widened_same j n = elim (lt_or_le j columns) [
-        | inl l ↦ wider-old (cell columns (map value now)) columns row j l ∙ moved.below row j (Prim.omega (arith, place)) l ∙ sym (wider-old (cell columns (map value old)) columns row j l)
+        | inl l ↦ widened_cell-old (cell columns (map value now)) columns row j l ∙ moved.below row j (Prim.omega (arith, place)) l ∙ sym (widened_cell-old (cell columns (map value old)) columns row j l)
         | inr l ↦
             let last : j ≡ columns = Prim.omega (arith, n, l) in
-            ap (widened_cell (cell columns (map value now)) columns row) last ∙ wider-new (cell columns (map value now)) columns row
-            ∙ sym (ap (widened_cell (cell columns (map value old)) columns row) last ∙ wider-new (cell columns (map value old)) columns row)
+            ap (widened_cell (cell columns (map value now)) columns row) last ∙ widened_cell-new (cell columns (map value now)) columns row
+            ∙ sym (ap (widened_cell (cell columns (map value old)) columns row) last ∙ widened_cell-new (cell columns (map value old)) columns row)
       ]
 
   pub moved_all : (now : List N) → IsMoved rows now → map value now ≡ widened rows columns (map value old)

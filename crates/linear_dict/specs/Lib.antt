@@ -1,7 +1,9 @@
 pub mod Adding
 pub mod Causes
+pub mod Changes
 pub mod Dictionaries
 pub mod Indexes
 pub mod Notes
 pub mod Places
+pub mod ReducedPrices
 pub mod Tables

@@ -1,4 +1,4 @@
-ghost use Rattle.std.specs.Prelude.{◌≡◌, ◌≢◌, ◌<◌, pos, true, IfErr, IfOk, MatchResult, ◌∷◌, [], ℕ, List, length, map, false, slice_index};
+ghost use Rattle.std.specs.Prelude.{◌≡◌, ◌≢◌, ◌<◌, pos, true, IfErr, IfOk, MatchResult, ◌∷◌, [], ℕ, IsTrue, List, length, map, false, slice_index};
 ghost use Rattle.std.specs.List.{AllPairs, Contains};
 ghost use Rattle.linear_dict.specs.Indexes.{IsStartedIndex, name_of};
 ghost use Rattle.linear_system.specs.Choices.{IsChoice};
@@ -7,9 +7,11 @@ ghost use Rattle.linear_dict.specs.Causes.{AddShare, IsPairOf, IsPairWith, IsRef
 ghost use Rattle.linear_dict.specs.Dictionaries.{AddsColumn, AddsRow, IsDictionary, IsStart, choice_of, note_of, pivoted, system_in, with_note};
 ghost use Rattle.linear_dict.specs.Notes.{noted};
 ghost use Rattle.linear_dict.specs.Places.{StandsAt};
+ghost use Rattle.linear_dict.specs.ReducedPrices.{HasReducedPrices};
 ghost use Rattle.linear_dict.specs.Tables.{cell};
 
 use crate::adding::{AddStop, append, make_room, make_room_for_name, row_entries};
+use crate::changes::{Change, make_room_for_changes};
 use crate::column::{make_room_for_column, widen_table};
 use crate::index::{Variable, add_variable, rank};
 use crate::note::{Note, blank_note};
@@ -33,12 +35,20 @@ pub struct Dict<N: Exact> {
     names: Vec<u32>,
     variables: Vec<Variable<N>>,
     spent: bool,
+    /// Where a pivot lists the columns that it changes: there is room for each.
+    changes: Vec<Change<N>>,
+    /// Whether a column was ever added, without which a pivot finds hardly two alike.
+    is_widened: bool,
+    /// Whether it is known that the reduced prices that are noted are those of the table.
+    is_priced: bool,
 }
 
 impl<N: Exact> Model for Dict<N> {
-    ghost use Rattle.std.specs.Prelude.{◌≡◌, map};
+    ghost use Rattle.std.specs.Prelude.{◌≡◌, ◌≤◌, IsTrue, length, map};
+    ghost use Rattle.std.specs.Vec.{vec_capacity};
     ghost use Rattle.linear_dict.specs.Dictionaries.{Dictionary, IsDictionary, dictionary_code, seen};
     ghost use Rattle.linear_dict.specs.Indexes.{IsIndex, name_of};
+    ghost use Rattle.linear_dict.specs.ReducedPrices.{HasReducedPrices};
 
     ghost Value = { Dictionary };
 
@@ -50,7 +60,10 @@ impl<N: Exact> Model for Dict<N> {
     ghost invariant = { λ d. IsIndex d.variables.items d.basics.items d.others.items d.rows.items d.columns.items
         × IsDictionary (seen N.value d.columns.items d.rows.items d.coefficients.items d.others.items d.basics.items
         d.table.items d.variables.items d.spent)
-        × (d.names.items ≡ map name_of d.variables.items) };
+        × (d.names.items ≡ map name_of d.variables.items)
+        × (length d.others.items ≤ vec_capacity d.changes)
+        × (IsTrue d.is_priced → HasReducedPrices (seen N.value d.columns.items d.rows.items d.coefficients.items d.others.items
+        d.basics.items d.table.items d.variables.items d.spent)) };
 }
 
 /// A copy of the items.
@@ -114,6 +127,9 @@ impl<N: Exact> Dict<N> {
     {
         let (names, variables) = started(alloc, columns, row)?;
         let rows = [row];
+        let Ok(changes) = Vec::with_capacity(alloc, columns.len()) else {
+            return Err(Memory);
+        };
         Ok(Dict {
             columns: copied(alloc, columns)?,
             rows: copied(alloc, &rows)?,
@@ -124,6 +140,9 @@ impl<N: Exact> Dict<N> {
             names,
             variables,
             spent: false,
+            changes,
+            is_widened: false,
+            is_priced: false,
         })
     }
 
@@ -266,6 +285,7 @@ impl<N: Exact> Dict<N> {
         requires within { rank < length self.old.names }
         ensures { self.new ≡ with_note self.old (slice_index self.old.names rank) (noted N.value note) }
     {
+        self.is_priced = false;
         self.variables[rank].note = note;
     }
 
@@ -277,6 +297,22 @@ impl<N: Exact> Dict<N> {
     {
         let rank = self.rank_of(name);
         self.set_note_at(rank, note);
+    }
+
+    /// Whether it is known that the reduced prices that are noted are those of the table, since they were and only rows and columns
+    /// were put in. Otherwise they may be so or not.
+    pub fn has_reduced_prices(&self) -> bool
+        ensures { IsTrue result → HasReducedPrices self.now }
+    {
+        self.is_priced
+    }
+
+    /// Keeps in mind that they are, until a note is changed or a variable exchanged.
+    pub fn keep_reduced_prices(&mut self)
+        requires { HasReducedPrices self.old }
+        ensures { self.new ≡ self.old }
+    {
+        self.is_priced = true;
     }
 
     /// Adds a row, `entries` times the columns as put in, which is basic at a new last row place. All is as before after
@@ -327,6 +363,7 @@ impl<N: Exact> Dict<N> {
     {
         let (rows, columns) = (self.rows.len(), self.columns.len());
         let (basics, others) = (self.basics.len(), self.others.len());
+        make_room_for_changes(&mut self.changes, others + 1)?;
         make_room_for_column(&mut self.coefficients, rows)?;
         make_room_for_column(&mut self.table, basics)?;
         make_room_for_name(&mut self.columns)?;
@@ -342,6 +379,7 @@ impl<N: Exact> Dict<N> {
         self.others.push_reserved(column);
         widen_table(&mut self.coefficients, rows, columns);
         widen_table(&mut self.table, basics, others);
+        self.is_widened = true;
         Ok(())
     }
 
@@ -358,7 +396,16 @@ impl<N: Exact> Dict<N> {
         ensures sound { IsDictionary self.new }
     {
         self.spent = true;
-        pivot_table(&mut self.table, self.basics.len(), self.others.len(), r, c)?;
+        self.is_priced = false;
+        pivot_table(
+            &mut self.table,
+            self.basics.len(),
+            self.others.len(),
+            r,
+            c,
+            &mut self.changes,
+            self.is_widened,
+        )?;
         let leaving = self.basics[r];
         let entering = self.others[c];
         let leaving_rank = rank(&self.names, leaving);

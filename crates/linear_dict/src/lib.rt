@@ -3,6 +3,7 @@
 #![tactic(auto)]
 
 mod adding;
+mod changes;
 mod column;
 mod dict;
 mod index;

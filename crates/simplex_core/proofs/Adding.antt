@@ -75,11 +75,11 @@ module _ (d : Dictionary) (h : IsDictionary d) (w : ℕ) where
   unfolding value_so_far
   value_so_far-other k c = ap (λ (b : Bool). if b then with_value (note_of d w) (sum_by (bound_term d w) (take k d.names)) else note_of d w) (choice_other d h w c)
 
-  reduced_note-basic : Contains d.basics w → reduced_note d w ≡ note_of d w
+  pub reduced_note-basic : Contains d.basics w → reduced_note d w ≡ note_of d w
   unfolding reduced_note
   reduced_note-basic c = ap (λ (b : Bool). if b then note_of d w else with_reduced (note_of d w) (reduced (system_in d) (choice_of d) w)) (choice_basic d h w c)
 
-  reduced_note-other : Contains d.others w → reduced_note d w ≡ with_reduced (note_of d w) (reduced (system_in d) (choice_of d) w)
+  pub reduced_note-other : Contains d.others w → reduced_note d w ≡ with_reduced (note_of d w) (reduced (system_in d) (choice_of d) w)
   unfolding reduced_note
   reduced_note-other c = ap (λ (b : Bool). if b then note_of d w else with_reduced (note_of d w) (reduced (system_in d) (choice_of d) w)) (choice_other d h w c)
 

@@ -2,6 +2,7 @@ pub mod Adding
 pub mod AnewLaws
 pub mod FixedLemmas
 pub mod Helping
+pub mod KeepLemmas
 pub mod MoveLemmas
 pub mod Nexts
 pub mod NoteLaws

@@ -1,5 +1,5 @@
 -- Refused operations as working pairs of a dictionary's own system.
-use Rattle.std.specs.Prelude.{◌≡◌, ◌≢◌, ℕ, ◌<◌, pos, Bool, true, false, List, [], ◌∷◌, ◌==◌, Result, Ok, Err, IfErr, length, slice_index, if◌then◌else◌, refl}
+use Rattle.std.specs.Prelude.{◌≡◌, ◌≢◌, ℕ, ◌<◌, pos, Bool, true, false, List, [], ◌∷◌, ◌==◌, Result, Ok, Err, IfErr, IfOk, length, slice_index, if◌then◌else◌, refl}
 use Rattle.std.specs.List.{Contains}
 use Rattle.std.proofs.Common.{arith, ap, ap₂, sym, ◌∙◌, subst, subst₂, inl, inr}
 use Rattle.std.proofs.lemmas.List.{take_all}
@@ -119,6 +119,10 @@ module _ (d : Dictionary) (h : IsDictionary d) (live : d.spent ≡ false) where
 pub if_err_as : {A E : Type 0} (P Q : E → Type 0) (r : Result A E) → ((e : E) → P e → Q e) → IfErr r P → IfErr r Q
 if_err_as P Q (Ok a) f h = tt
 if_err_as P Q (Err e) f h = f e h
+
+pub if_ok_as : {A E : Type 0} (P Q : A → Type 0) (r : Result A E) → ((a : A) → P a → Q a) → IfOk r P → IfOk r Q
+if_ok_as P Q (Ok a) f h = f a h
+if_ok_as P Q (Err e) f h = tt
 
 -- a moved note asks nothing of other notes
 pub move_same : (e : Dictionary) (ns : List Noted) (v k : ℕ) (far price : Fraction) (w : ℕ) → note_of (record e { notes = ns }) w ≡ note_of e w

@@ -18,7 +18,7 @@ use Rattle.simplex_theory.proofs.PosedNumbers.{value_other, reduced_basic, posed
 use Rattle.simplex_core.specs.Fixed.{IsFixedPair, IsFixedPairPosed}
 use Rattle.simplex_core.specs.States.{state_of, IsReady}
 use Rattle.simplex_core.specs.Turns.{noted_anew}
-use Rattle.simplex_core.specs.Posings.{HasNotes, IsPairPosed, IsPosing, column_note, row_note, low_at, high_at, asks_high, at_asked, value_note}
+use Rattle.simplex_core.specs.Posings.{HasNotes, IsPairPosed, IsPosing, IsPut, column_note, row_note, low_at, high_at, asks_high, at_asked, value_note}
 use Rattle.simplex_core.specs.declared.bounds.Bounds.{Bounds}
 use Rattle.simplex_core.proofs.AnewLaws.{anew_sound, anew_basics, anew_others, anew_keeps, anew_system, anew_choice, anew_reduced}
 use Rattle.simplex_core.proofs.FixedLemmas.{fixed_of}
@@ -191,21 +191,30 @@ module _ {N : Type 0} (value : N → Fraction) (d : Dictionary) (h : IsDictionar
   same_rows : e.rows ≡ d.rows
   same_rows = ap Dictionary.rows columns.is
 
-  pub put_frame : f ≡ record d { notes = f.notes }
-  put_frame = rows.is ∙ ap (λ (x : Dictionary). let y : Dictionary = record x { notes = f.notes } in y) columns.is
+  pub put_both : IsPut value d prices bounds f
+  put_both = record {
+    is = rows.is ∙ ap (λ (x : Dictionary). let y : Dictionary = record x { notes = f.notes } in y) columns.is;
+    count = rows.count ∙ ap (λ (x : Dictionary). length x.names) columns.is;
+    columns = λ k l.
+        let w : ℕ = slice_index d.columns k in
+        rows.rest w (λ m. h.put_in.apart w (subst (λ (rs : List ℕ). Contains rs w) same_rows m) (Contains-at d.columns k l)) ∙ columns.each k l;
+    rows = λ k l.
+        let m : k < length e.rows = Prim.omega (arith, l, ap length same_rows) in
+        ap (λ (rs : List ℕ). note_of f (slice_index rs k)) (sym same_rows) ∙ rows.each k m ∙ ap (λ (n : ℕ). row_note value n bounds k) count;
+  }
 
-  pub put_both : IsDictionary f
-  put_both = put_sound e e.rows (row_note value (length prices) bounds) f (put_sound d d.columns (column_note value prices bounds) e h columns) rows
+module _ {N : Type 0} (value : N → Fraction) (d : Dictionary) (h : IsDictionary d) (prices : List N) (bounds : List (Bounds N)) (f : Dictionary) (put : IsPut value d prices bounds f) where
+  put_frame : f ≡ record d { notes = f.notes }
+  put_frame = put.is
 
-  pub column_is : (k : ℕ) → k < length d.columns → note_of f (slice_index d.columns k) ≡ column_note value prices bounds k
-  column_is k l =
-      let w : ℕ = slice_index d.columns k in
-      rows.rest w (λ m. h.put_in.apart w (subst (λ (rs : List ℕ). Contains rs w) same_rows m) (Contains-at d.columns k l)) ∙ columns.each k l
+  pub put_is_sound : IsDictionary f
+  put_is_sound = subst IsDictionary (sym put.is) (renoted_dictionary d f.notes put.count h)
 
-  pub row_is : (k : ℕ) → k < length d.rows → note_of f (slice_index d.rows k) ≡ row_note value (length d.columns) bounds k
-  row_is k l =
-      let m : k < length e.rows = Prim.omega (arith, l, ap length same_rows) in
-      ap (λ (rs : List ℕ). note_of f (slice_index rs k)) (sym same_rows) ∙ rows.each k m ∙ ap (λ (n : ℕ). row_note value n bounds k) count
+  column_is : (k : ℕ) → k < length d.columns → note_of f (slice_index d.columns k) ≡ column_note value prices bounds k
+  column_is = put.columns
+
+  row_is : (k : ℕ) → k < length d.rows → note_of f (slice_index d.rows k) ≡ row_note value (length d.columns) bounds k
+  row_is = put.rows
 
   put_named : (w : ℕ) → Contains f.names w → Contains d.names w
   put_named w c = subst (λ (x : Dictionary). Contains x.names w) put_frame c
@@ -231,9 +240,9 @@ module _ {N : Type 0} (value : N → Fraction) (d : Dictionary) (h : IsDictionar
   -- values stay 0 while the others find their bounds
   pub stood_blank : (g : Dictionary) → g ≡ noted_anew f (stand_note f) → (b : ℕ) → Contains g.basics b → (note_of g b).value ≡ whole (pos 0)
   stood_blank g eg b c =
-      let basic : Contains f.basics b = subst (λ (bs : List ℕ). Contains bs b) (ap Dictionary.basics eg ∙ anew_basics f put_both (stand_note f)) c in
-      let named : Contains f.names b = put_both.split.first_named b basic in
-      ap (λ (x : Dictionary). (note_of x b).value) eg ∙ ap Noted.value (note_anew f (stand_note f) b named ∙ stand-basic f put_both b basic) ∙ put_value b named
+      let basic : Contains f.basics b = subst (λ (bs : List ℕ). Contains bs b) (ap Dictionary.basics eg ∙ anew_basics f put_is_sound (stand_note f)) c in
+      let named : Contains f.names b = put_is_sound.split.first_named b basic in
+      ap (λ (x : Dictionary). (note_of x b).value) eg ∙ ap Noted.value (note_anew f (stand_note f) b named ∙ stand-basic f put_is_sound b basic) ∙ put_value b named
 
   module _ (size : length bounds ≡ length d.columns + length d.rows) (ordered : All (λ b. value b.low ≤ℚ value b.high) bounds) where
     pub put_ordered : (w : ℕ) → Contains f.names w → (note_of f w).low ≤ℚ (note_of f w).high
@@ -266,12 +275,12 @@ module _ {N : Type 0} (value : N → Fraction) (d : Dictionary) (h : IsDictionar
         others = ap Dictionary.others put_frame;
         basics = ap Dictionary.basics put_frame;
         table = ap Dictionary.table put_frame;
-        price = λ k l. stands_price f put_both put_live put_ordered put_reduced (slice_index d.columns k) ∙ ap Noted.price (column_is k l);
-        column_low = λ k l. stands_low f put_both put_live put_ordered put_reduced (slice_index d.columns k) ∙ ap Noted.low (column_is k l);
-        column_high = λ k l. stands_high f put_both put_live put_ordered put_reduced (slice_index d.columns k) ∙ ap Noted.high (column_is k l);
-        row_low = λ k l. stands_low f put_both put_live put_ordered put_reduced (slice_index d.rows k) ∙ ap Noted.low (row_is k l);
-        row_high = λ k l. stands_high f put_both put_live put_ordered put_reduced (slice_index d.rows k) ∙ ap Noted.high (row_is k l);
-        ready = stands_ready f put_both put_live put_ordered put_reduced;
+        price = λ k l. stands_price f put_is_sound put_live put_ordered put_reduced (slice_index d.columns k) ∙ ap Noted.price (column_is k l);
+        column_low = λ k l. stands_low f put_is_sound put_live put_ordered put_reduced (slice_index d.columns k) ∙ ap Noted.low (column_is k l);
+        column_high = λ k l. stands_high f put_is_sound put_live put_ordered put_reduced (slice_index d.columns k) ∙ ap Noted.high (column_is k l);
+        row_low = λ k l. stands_low f put_is_sound put_live put_ordered put_reduced (slice_index d.rows k) ∙ ap Noted.low (row_is k l);
+        row_high = λ k l. stands_high f put_is_sound put_live put_ordered put_reduced (slice_index d.rows k) ∙ ap Noted.high (row_is k l);
+        ready = stands_ready f put_is_sound put_live put_ordered put_reduced;
       }
 
       pub posing : (g k : Dictionary) → g ≡ noted_anew f (stand_note f) → k ≡ noted_anew g (value_note g) → IsPosing value d prices bounds k
@@ -282,12 +291,12 @@ module _ {N : Type 0} (value : N → Fraction) (d : Dictionary) (h : IsDictionar
       pub posed_pair : (most : ℕ) (p : Passed N) → IsFixedPair value most f p → IsFixedPairPosed value most d prices bounds p
       unfolding end noted_anew
       posed_pair most p pair =
-          (end, posed_so, fixed_of end f (sym (stands_system f put_both put_live put_ordered put_reduced)) (λ w o equal. o) most p.op (value p.left) (value p.right) pair)
+          (end, posed_so, fixed_of end f (sym (stands_system f put_is_sound put_live put_ordered put_reduced)) (λ w o equal. o) most p.op (value p.left) (value p.right) pair)
 
       pub posed_pair_later : (most : ℕ) (p : Passed N) (g : Dictionary) → g ≡ noted_anew f (stand_note f) → IsFixedPair value most g p → IsFixedPairPosed value most d prices bounds p
       posed_pair_later most p g eg pair =
-          posed_pair most p (fixed_of f g (ap system_in eg ∙ stands_first f put_both put_live put_ordered put_reduced)
-          (λ w o equal. subst (λ (ws : List ℕ). Contains ws w) (sym (ap Dictionary.others eg ∙ anew_others f put_both (stand_note f))) o) most p.op (value p.left) (value p.right) pair)
+          posed_pair most p (fixed_of f g (ap system_in eg ∙ stands_first f put_is_sound put_live put_ordered put_reduced)
+          (λ w o equal. subst (λ (ws : List ℕ). Contains ws w) (sym (ap Dictionary.others eg ∙ anew_others f put_is_sound (stand_note f))) o) most p.op (value p.left) (value p.right) pair)
 
 -- as a pair without what is said of its choices
 pub posed_plain : {N : Type 0} (value : N → Fraction) (most : ℕ) (d : Dictionary) (prices : List N) (bounds : List (Bounds N)) (p : Passed N)

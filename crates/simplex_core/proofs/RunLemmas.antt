@@ -7,6 +7,7 @@ use Rattle.linear_system.specs.Systems.{System}
 use Rattle.linear_system.specs.Choices.{Choice, basics, value}
 use Rattle.linear_system.proofs.ChoiceLaws.{basics_are}
 use Rattle.linear_dict.specs.Dictionaries.{Dictionary, system_in, choice_of}
+use Rattle.linear_dict.specs.ReducedPrices.{HasReducedPrices}
 use Rattle.simplex_theory.specs.States.{IsWithin, IsSolved, IsOutOfReach, Violates}
 use Rattle.simplex_theory.specs.Steps.{IsStep, Leaves, Helps, opposite_if}
 use Rattle.simplex_theory.proofs.PosedNumbers.{posed_value, posed_reduced}
@@ -28,6 +29,11 @@ use Rattle.simplex_core.proofs.FixedLemmas.{fixed_after, fixed_pair, fixed_throu
 use Rattle.simplex_core.proofs.Nexts.{IsTurn}
 use Rattle.simplex_core.proofs.Pairs.{first_leaving}
 use Rattle.simplex_core.proofs.TurnLaws.{turned_ready, turned_step, turned_system, turned_columns, turned_rows, turned_coefficients, turned_names}
+
+-- the reduced prices of a ready dictionary are those of its table
+pub ready_reduced : (d : Dictionary) → IsReady d → HasReducedPrices d
+unfolding state_of choice_of system_in
+ready_reduced d ready = record { of = λ w c. posed_reduced (system_in d) (state_of d) ready.posed w c }
 
 pub keeps_itself : (d : Dictionary) → IsReady d → Keeps d d
 keeps_itself d ready = record { columns = refl; rows = refl; coefficients = refl; names = refl; system = refl; ready = ready }

@@ -1,5 +1,5 @@
 -- What posing a dictionary makes of prices and bounds.
-use Rattle.std.specs.Prelude.{◌≡◌, ℕ, ◌<◌, ◌+◌, pos, Bool, true, false, if◌then◌else◌, List, length, map, slice_index, slice_index_or}
+use Rattle.std.specs.Prelude.{◌≡◌, ◌⊎◌, ℕ, ◌<◌, ◌+◌, pos, Bool, true, false, if◌then◌else◌, List, length, map, slice_index, slice_index_or}
 use Rattle.std.specs.List.{Contains}
 use Rattle.fraction_theory.specs.Fraction.{Fraction, whole, ◌+ℚ◌, ◌*ℚ◌}
 use Rattle.fraction_theory.specs.Signs.{sign_of}
@@ -10,7 +10,9 @@ use Rattle.exact_fraction.specs.declared.Passed.{Passed}
 use Rattle.linear_dict.specs.Causes.{IsPairOf}
 use Rattle.linear_dict.specs.Dictionaries.{Dictionary, system_in, choice_of, note_of}
 use Rattle.linear_dict.specs.Notes.{Noted}
+use Rattle.linear_dict.specs.Places.{place_in}
 use Rattle.simplex_core.specs.States.{IsReady}
+use Rattle.simplex_core.specs.Turns.{noted_anew}
 use Rattle.simplex_core.specs.declared.bounds.Bounds.{Bounds}
 
 -- the numbers of a place
@@ -41,6 +43,36 @@ pub record HasNotes (d : Dictionary) (names : List ℕ) (f : ℕ → Noted) (e :
   pub each : (k : ℕ) → k < length names → note_of e (slice_index names k) ≡ f k
   pub rest : (w : ℕ) → ¬ (Contains names w) → note_of e w ≡ note_of d w
 
+-- d with these prices and bounds noted, and nothing else
+pub record IsPut {N : Type 0} (value : N → Fraction) (d : Dictionary) (prices : List N) (bounds : List (Bounds N)) (f : Dictionary) : Type 0 where
+  pub is : f ≡ record d { notes = f.notes }
+  pub count : length f.notes ≡ length d.names
+  pub columns : (k : ℕ) → k < length d.columns → note_of f (slice_index d.columns k) ≡ column_note value prices bounds k
+  pub rows : (k : ℕ) → k < length d.rows → note_of f (slice_index d.rows k) ≡ row_note value (length d.columns) bounds k
+
+-- The price p of a variable is the one that is noted, or else the variable is not basic, and had neither a price nor a reduced price.
+abbrev pub KeepsPrice : Dictionary → ℕ → Fraction → Type 0
+KeepsPrice d w p = ((note_of d w).price ≡ p) ⊎ (Contains d.others w × ((note_of d w).price ≡ whole (pos 0)) × ((note_of d w).reduced ≡ whole (pos 0)))
+
+-- these prices of the columns do so, by their places
+abbrev pub KeepsPrices : {N : Type 0} → (N → Fraction) → Dictionary → List N → Type 0
+KeepsPrices value d prices = (k : ℕ) → k < length d.columns → KeepsPrice d (slice_index d.columns k) (column_price value prices k)
+
+-- the price of a name, by its place among the columns
+unfoldable pub price_put : {N : Type 0} → (N → Fraction) → Dictionary → List N → ℕ → Fraction
+price_put value d prices w = column_price value prices (place_in d.columns w)
+
+-- what the objective of these prices gains for a unit of a variable
+unfoldable pub reduced_put : {N : Type 0} → (N → Fraction) → Dictionary → List N → ℕ → Fraction
+reduced_put value d prices w = reduced (record (system_in d) { price = price_put value d prices }) (choice_of d) w
+
+-- the notes of columns and rows with these prices and bounds that have their reduced prices
+abbrev pub kept_column : {N : Type 0} → (N → Fraction) → Dictionary → List N → List (Bounds N) → ℕ → Noted
+kept_column value d prices bounds k = record (column_note value prices bounds k) { reduced = reduced_put value d prices (slice_index d.columns k) }
+
+abbrev pub kept_row : {N : Type 0} → (N → Fraction) → Dictionary → List (Bounds N) → ℕ → ℕ → Noted
+kept_row value d bounds columns k = record (row_note value columns bounds k) { reduced = (note_of d (slice_index d.rows k)).reduced }
+
 -- whether a reduced price of this sign asks for the high bound
 abbrev pub asks_high : Sign → Bool
 asks_high Below = false
@@ -60,6 +92,10 @@ price_added d j w =
 -- an other variable's note with its reduced price
 unfoldable pub reduced_note : Dictionary → ℕ → Noted
 reduced_note d w = if (choice_of d).basic w then note_of d w else record (note_of d w) { reduced = reduced (system_in d) (choice_of d) w }
+
+-- d with these prices and bounds, and the reduced prices of these, noted
+abbrev pub IsPriced : {N : Type 0} → (N → Fraction) → Dictionary → List N → List (Bounds N) → Dictionary → Type 0
+IsPriced value d prices bounds e = (f : Dictionary) × IsPut value d prices bounds f × (e ≡ noted_anew f (reduced_note f))
 
 -- an other variable's note at the bound that its reduced price asks for
 unfoldable pub asked_note : Dictionary → ℕ → Noted

@@ -1,14 +1,15 @@
 // Prices and bounds for a dictionary.
-ghost use Rattle.std.specs.Prelude.{◌≡◌, ℕ, ◌+◌, ◌<◌, ◌≤◌, IfErr, IfOk, pos, false, length, slice_index};
+ghost use Rattle.std.specs.Prelude.{◌≡◌, ℕ, ◌+◌, ◌<◌, ◌≤◌, IfErr, IfOk, IsTrue, pos, false, length, slice_index};
 ghost use Rattle.std.specs.List.{All, Contains};
 ghost use Rattle.fraction_theory.specs.Fraction.{whole};
 ghost use Rattle.fraction_theory.specs.Order.{◌≤ℚ◌};
 ghost use Rattle.linear_dict.specs.Causes.{IsRefused};
 ghost use Rattle.linear_dict.specs.Dictionaries.{IsDictionary, note_of, system_in};
 ghost use Rattle.linear_dict.specs.Notes.{noted};
+ghost use Rattle.linear_dict.specs.ReducedPrices.{HasReducedPrices};
 ghost use Rattle.simplex_core.specs.Fixed.{IsFixedPair, IsFixedPairPosed};
 ghost use Rattle.simplex_core.specs.Operations.{BoundShare, PriceShare};
-ghost use Rattle.simplex_core.specs.Posings.{HasNotes, IsPairPosed, IsPosing, asked_note, bound_added, column_note, price_added, reduced_note, row_note, term_note, value_note};
+ghost use Rattle.simplex_core.specs.Posings.{HasNotes, IsPairPosed, IsPosing, IsPriced, KeepsPrice, KeepsPrices, asked_note, bound_added, column_note, kept_column, kept_row, price_added, reduced_note, row_note, term_note, value_note};
 ghost use Rattle.simplex_core.specs.Turns.{noted_anew};
 
 use crate::bounds::Bounds;
@@ -16,6 +17,7 @@ use crate::exchange::bound_on;
 use crate::solving::Posed;
 use exact_fraction::{Exact, Passed, Sign, exact_sum};
 use linear_dict::{Dict, Note, Place};
+use std::cmp::Ordering;
 
 /// The note of a variable that does not stand at a bound yet.
 fn term<N: Exact>(price: N, bounds: Bounds<N>) -> Note<N>
@@ -197,6 +199,103 @@ fn put_basics<N: Exact>(dict: &mut Dict<N>) -> Result<(), Passed<N>>
     Ok(())
 }
 
+/// Whether the price of a column may be changed with no other reduced price than its own: it stays, or the column is not basic and had
+/// neither a price nor a reduced price.
+fn keeps_price<N: Exact>(dict: &Dict<N>, column: usize, price: N) -> bool
+    requires live { dict.now.spent ≡ false }
+    requires sound { IsDictionary dict.now }
+    requires column { column < length dict.now.columns }
+    ensures { IsTrue result → KeepsPrice dict.now (slice_index dict.now.columns column) (N.value price) }
+{
+    let name = dict.column_name(column);
+    let rank = dict.rank_of(name);
+    let note = dict.note_at(rank);
+    if let Ordering::Equal = note.price.order(price) {
+        return true;
+    }
+    match (dict.place_at(rank), note.price.sign(), note.reduced.sign()) {
+        (Place::Column(_), Sign::Zero, Sign::Zero) => true,
+        _ => false,
+    }
+}
+
+/// Whether all prices may be.
+fn keeps_prices<N: Exact>(dict: &Dict<N>, prices: &[N]) -> bool
+    requires live { dict.now.spent ≡ false }
+    requires sound { IsDictionary dict.now }
+    requires prices { length prices.now ≡ length dict.now.columns }
+    ensures { IsTrue result → KeepsPrices N.value dict.now prices.now }
+{
+    for k in 0..prices.len() {
+        if !keeps_price(dict, k, prices[k]) {
+            return false;
+        }
+    }
+    true
+}
+
+/// Notes prices and bounds of the columns, and takes up the reduced prices where these are those of the table.
+fn keep_columns<N: Exact>(dict: &mut Dict<N>, prices: &[N], bounds: &[Bounds<N>])
+    requires live { dict.old.spent ≡ false }
+    requires sound { IsDictionary dict.old }
+    requires prices { length prices.now ≡ length dict.old.columns }
+    requires bounds { length dict.old.columns ≤ length bounds.now }
+    requires priced { HasReducedPrices dict.old }
+    requires kept { KeepsPrices N.value dict.old prices.now }
+    ensures { HasNotes dict.old dict.old.columns (kept_column N.value dict.old prices.now bounds.now) dict.new }
+{
+    for k in 0..prices.len() {
+        let price = prices[k];
+        let name = dict.column_name(k);
+        let note = dict.note(name);
+        let reduced = match note.price.order(price) {
+            Ordering::Equal => note.reduced,
+            Ordering::Less | Ordering::Greater => price,
+        };
+        let blank = term(price, bounds[k]);
+        dict.set_note(name, Note { reduced, ..blank });
+    }
+}
+
+/// Notes bounds of the rows, and takes up their reduced prices. They stand behind the first `columns` of the bounds.
+fn keep_rows<N: Exact>(dict: &mut Dict<N>, columns: usize, bounds: &[Bounds<N>])
+    requires live { dict.old.spent ≡ false }
+    requires sound { IsDictionary dict.old }
+    requires bounds { length bounds.now ≡ columns + length dict.old.rows }
+    ensures { HasNotes dict.old dict.old.rows (kept_row N.value dict.old bounds.now columns) dict.new }
+{
+    for k in 0..dict.row_count() {
+        let name = dict.row_name(k);
+        let reduced = dict.note(name).reduced;
+        let blank = term(N::of_parts(0, 1), bounds[columns + k]);
+        dict.set_note(name, Note { reduced, ..blank });
+    }
+}
+
+/// Notes prices and bounds, and gives each variable its reduced price: it is taken up where it is known and stays, and else made anew.
+fn put_prices<N: Exact>(
+    dict: &mut Dict<N>,
+    prices: &[N],
+    bounds: &[Bounds<N>],
+) -> Result<(), Passed<N>>
+    requires live { dict.old.spent ≡ false }
+    requires sound { IsDictionary dict.old }
+    requires prices { length prices.now ≡ length dict.old.columns }
+    requires bounds { length bounds.now ≡ length dict.old.columns + length dict.old.rows }
+    requires ordered { All (λ b. N.value b.low ≤ℚ N.value b.high) bounds.now }
+    ensures priced { IfOk result (λ _. IsPriced N.value dict.old prices.now bounds.now dict.new) }
+    ensures pair { IfErr result (IsFixedPairPosed N.value N.bound dict.old prices.now bounds.now) }
+{
+    if dict.has_reduced_prices() && keeps_prices(dict, prices) {
+        keep_columns(dict, prices, bounds);
+        keep_rows(dict, prices.len(), bounds);
+        return Ok(());
+    }
+    put_columns(dict, prices, bounds);
+    put_rows(dict, prices.len(), bounds);
+    put_reduced(dict)
+}
+
 /// Poses a dictionary at these prices of its columns and these bounds of its columns and then of its rows, each in the
 /// order in which they were put in. Nothing is asked of the values: they follow.
 pub fn pose<N: Exact>(
@@ -215,9 +314,7 @@ pub fn pose<N: Exact>(
     let mut dict = dict;
     let live = !dict.spent();
     prove!(live);
-    put_columns(&mut dict, prices, bounds);
-    put_rows(&mut dict, prices.len(), bounds);
-    put_reduced(&mut dict)?;
+    put_prices(&mut dict, prices, bounds)?;
     put_others(&mut dict);
     put_basics(&mut dict)?;
     Ok(Posed { dict })

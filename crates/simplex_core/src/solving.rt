@@ -78,6 +78,7 @@ fn settle<N: Exact>(dict: &mut Dict<N>) -> Result<Option<Leaving>, Passed<N>>
             None => return Ok(Some(variable)),
         }
     }
+    dict.keep_reduced_prices();
     Ok(None)
 }
 

@@ -3,6 +3,7 @@ use Rattle.std.proofs.lemmas.Result.{err_from_is_err_and}
 use Rattle.fraction_theory.specs.Fraction.{Fraction}
 use Rattle.linear_dict.specs.Dictionaries.{choice_of}
 use Rattle.market_model.specs.Dispatch.{dispatch_with}
+use Rattle.market_model.specs.declared.stops.Stop.TheVariants.{Memory as NoMemory}
 use Rattle.market_system.specs.Ties.{IsFirstFor}
 use Rattle.market_dict.specs.Takings.{taken_of}
 use Rattle.market_dict.proofs.FirstLemmas.{first_for, first_holds, pair_over, solved_by}
@@ -34,3 +35,15 @@ returns-clause-first g c = λ ts best.
       ((holds, goes.shows, goes.solved), solved_by m ts e market (holds, goes.shows, goes.solved) _ is),
       subst (IsFirstFor m (taken_of ts)) (sym is) (first_for m ts c.args.dict e market best.0 goes),
     )
+
+pub returns-in_err-dispatch-clause-pair : goal.returns-in_err-dispatch-clause-pair
+returns-in_err-dispatch-clause-pair g c = λ ts best.
+    let p = err_from_is_err_and c.from_residual-in_err-dispatch.result c.from_residual-in_err-dispatch.ensures.1 in
+    let given : c.from_residual-in_err-dispatch.result ≡ Err NoMemory = p.1 ∙ ap Err p.2 in
+    rw given tt
+
+pub returns-in_err-reserve-clause-pair : goal.returns-in_err-reserve-clause-pair
+returns-in_err-reserve-clause-pair g c = λ ts best.
+    let p = err_from_is_err_and c.from_residual-in_err-reserve.result c.from_residual-in_err-reserve.ensures.1 in
+    let given : c.from_residual-in_err-reserve.result ≡ Err NoMemory = p.1 ∙ ap Err p.2 in
+    rw given tt

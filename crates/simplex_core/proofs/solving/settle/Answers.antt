@@ -1,13 +1,15 @@
 use Rattle.std.proofs.Common.{◌<◌, ℕ, Bool, Option, subst, sym}
 use Rattle.std.proofs.lemmas.Result.{err_from_is_err_and}
-use Rattle.linear_dict.specs.Dictionaries.{Dictionary, choice_of}
+use Rattle.linear_dict.specs.Dictionaries.{Dictionary, choice_of, system_in}
+use Rattle.simplex_theory.specs.States.{IsSolved}
 use Rattle.simplex_core.specs.Fixed.{KeepsFixed}
-use Rattle.simplex_core.specs.Outcomes.{Keeps}
+use Rattle.simplex_core.specs.Outcomes.{Keeps, ShowsChoice}
+use Rattle.simplex_core.specs.States.{state_of}
 use Rattle.simplex_core.specs.Searches.{IsEntering}
 use Rattle.simplex_core.specs.declared.enter.Candidate.{Candidate}
 use Rattle.simplex_core.proofs.FixedLemmas.{fixed_own}
 use Rattle.simplex_core.proofs.Nexts.{IsTurn, to_come, to_come_falls}
-use Rattle.simplex_core.proofs.RunLemmas.{fixed_before, fixed_turned, keeps_itself, keeps_turned, shows_choice, solved_at, empty_at}
+use Rattle.simplex_core.proofs.RunLemmas.{fixed_before, fixed_turned, keeps_itself, keeps_turned, ready_reduced, shows_choice, solved_at, empty_at}
 use Rattle.simplex_core.proofs.solving.settle.Goals as goal
 
 pub loop-variable-init : goal.loop-variable-init
@@ -52,7 +54,15 @@ returns-in-None-clause-settled g c =
     (c.loop-variable.invariant.kept, shows_choice d c.loop-variable.invariant.kept.ready, empty_at d c.loop-variable.invariant.kept.ready v c.in-Some.variable.row a c.in-Some.ensures.2 idle c.in-Some.ensures.0 c.in-Some.ensures.1)
 
 pub returns-clause-settled : goal.returns-clause-settled
-returns-clause-settled g c = (c.loop-variable.invariant.kept, shows_choice c.loop-variable.dict c.loop-variable.invariant.kept.ready, solved_at c.loop-variable.dict c.loop-variable.invariant.kept.ready c.in_default.ensures)
+returns-clause-settled g c =
+    subst (λ (x : Dictionary). Keeps c.args.dict.now x × ShowsChoice x × IsSolved (system_in x) (state_of x)) (sym c.keep_reduced_prices.ensures)
+    (c.loop-variable.invariant.kept, shows_choice c.loop-variable.dict c.loop-variable.invariant.kept.ready, solved_at c.loop-variable.dict c.loop-variable.invariant.kept.ready c.in_default.ensures)
+
+pub keep_reduced_prices-requires : goal.keep_reduced_prices-requires
+keep_reduced_prices-requires g c = ready_reduced c.loop-variable.dict c.loop-variable.invariant.kept.ready
+
+pub returns-clause-fixed : goal.returns-clause-fixed
+returns-clause-fixed g c = subst (λ (x : Dictionary). KeepsFixed c.args.dict.now (choice_of x)) (sym c.keep_reduced_prices.ensures) c.loop-variable.invariant.fixed
 
 pub returns-in_err-candidate-clause-pair : goal.returns-in_err-candidate-clause-pair
 returns-in_err-candidate-clause-pair g c =

@@ -1,11 +1,13 @@
 use Rattle.std.proofs.Common.{◌≡◌, ◌∙◌, ◌++◌, ◌∷◌, [], ℕ, List, arith, ap, subst, length, map}
 use mathlib.Core.Path.{ap₂}
 use Rattle.std.specs.List.{Contains}
-use Rattle.linear_dict.specs.Dictionaries.{AddsColumn, Dictionary, seen}
+use Rattle.linear_dict.specs.Dictionaries.{AddsColumn, Dictionary, IsDictionary, seen}
+use Rattle.linear_dict.specs.ReducedPrices.{HasReducedPrices}
 use Rattle.linear_dict.specs.Tables.{widened}
 use Rattle.linear_dict.specs.declared.index.Variable.{Variable}
 use Rattle.linear_dict.specs.declared.place.Place.TheVariants.{Column}
 use Rattle.linear_dict.proofs.AddColumnLemmas.{add_column_in_code, index_with_column}
+use Rattle.linear_dict.proofs.ReducedPriceLemmas.{reduced_with_column}
 use Rattle.linear_dict.proofs.dict.Dict.add_column.Goals as goal
 
 pub add_variable-requires-clause-absent : goal.add_variable-requires-clause-absent
@@ -45,4 +47,16 @@ invariant_of-self-2 g c =
           (c.push_reserved.ensures.items ∙ ap (λ (xs : List ℕ). xs ++ c.args.column ∷ []) c.make_room_for_name.ensures.same) c.self.invariant.0,
       (returns g c).sound,
       c.add_variable.ensures.named,
+      Prim.omega (
+        arith,
+        place,
+        c.push_reserved-2.ensures.len,
+        c.push_reserved-2.new.self.ok.0,
+        ap length c.make_room_for_name-2.ensures.same,
+        c.make_room_for_name-2.new.names.ok.0,
+        c.in_ok-make_room_for_changes.ensures.room,
+      ),
+      λ told. reduced_with_column c.args.self.now
+          (seen g.N.Exact.value c.push_reserved.new.self.items s.rows.items c.widen_table.new.table.items c.push_reserved-2.new.self.items s.basics.items c.widen_table-2.new.table.items c.add_variable.new.variables.items s.spent)
+          c.args.column (subst IsDictionary c.self.view_is c.self.invariant.1) c.requires.absent (returns g c) (subst HasReducedPrices c.self.view_is (c.self.invariant.4 told)),
     )

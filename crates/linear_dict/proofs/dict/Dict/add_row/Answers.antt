@@ -10,6 +10,7 @@ use Rattle.linear_dict.specs.Causes.{AddShare, IsPairWith, IsRefused, RowShare}
 use Rattle.linear_dict.proofs.CauseLemmas.{on_passed_as, refused_as}
 use Rattle.linear_dict.specs.Dictionaries.{Dictionary, seen}
 use Rattle.linear_dict.proofs.AddRowLemmas.{row_asks, row_pair, add_row_lists, adds_row_to, places_within}
+use Rattle.linear_dict.proofs.ReducedPriceLemmas.{reduced_with_row}
 use Rattle.linear_dict.proofs.dict.Dict.add_row.Goals as goal
 
 pub row_entries-requires : goal.row_entries-requires
@@ -54,8 +55,15 @@ invariant_of-self-2 g c =
     (c.push_reserved.ensures.items ∙ ap (λ (xs : List ℕ). xs ++ c.args.row ∷ []) same.0)
     (c.push_reserved-2.ensures.items ∙ ap (λ (xs : List ℕ). xs ++ c.args.row ∷ []) same.1)
     (c.append.ensures ∙ ap (λ (xs : List g.row.N.Denot). xs ++ c.args.entries.now) same.2)
-    (c.append-2.ensures ∙ ap₂ ◌++◌ same.3 c.deref-3.ensures.value) in
-    (p.0, p.1.sound, c.add_variable.ensures.named)
+    (c.append-2.ensures ∙ ap₂ ◌++◌ same.3 c.deref-3.ensures.value) in (
+      p.0,
+      p.1.sound,
+      c.add_variable.ensures.named,
+      c.self.invariant.3,
+      λ told. reduced_with_row value (seen value s.columns.items s.rows.items s.coefficients.items s.others.items s.basics.items table vs s.spent)
+          (seen value s.columns.items c.push_reserved.new.self.items c.append.new.list.items s.others.items c.push_reserved-2.new.self.items c.append-2.new.list.items c.add_variable.new.variables.items s.spent)
+          c.args.row c.args.entries.now c.self.invariant.1 (λ m. c.requires.absent (subst (λ (d : Dictionary). Contains d.names c.args.row) c.self.view_is m)) p.1 (c.self.invariant.4 told),
+    )
 
 pub returns-clause-added : goal.returns-clause-added
 returns-clause-added g c =

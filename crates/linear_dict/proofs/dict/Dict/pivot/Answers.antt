@@ -1,5 +1,5 @@
-use Rattle.std.proofs.Common.{◌≡◌, ◌≢◌, ◌∙◌, ℕ, List, pos, arith, ap, sym, subst, subst₂, length, map}
-use Rattle.std.proofs.lemmas.List.{length-map}
+use Rattle.std.proofs.Common.{◌≡◌, false, true, ◌≢◌, ◌∙◌, ℕ, List, pos, arith, ap, sym, subst, subst₂, length, map}
+use Rattle.std.proofs.lemmas.List.{length-map, length-set}
 use Rattle.std.proofs.lemmas.Result.{err_from_is_err_and}
 use mathlib.Core.Path.{ap₂}
 use Rattle.std.specs.List.{Contains}
@@ -26,6 +26,20 @@ returns-in_err-pivot_table-clause-sound g c =
     spent_dictionary
     (seen value s.columns.items s.rows.items s.coefficients.items s.others.items s.basics.items s.table.items s.variables.items s.spent)
     (map value new) c.self.invariant.1 (length-map new value ∙ c.pivot_table.ensures.count ∙ sym (length-map s.table.items value))
+
+pub invariant_of-self : goal.invariant_of-self
+invariant_of-self g c =
+    let s = c.self.inside in
+    let value = g.N.Exact.value in
+    let new : List g.row.N.Denot = c.pivot_table.new.table.items in (
+      c.self.invariant.0,
+      spent_dictionary
+          (seen value s.columns.items s.rows.items s.coefficients.items s.others.items s.basics.items s.table.items s.variables.items s.spent)
+          (map value new) c.self.invariant.1 (length-map new value ∙ c.pivot_table.ensures.count ∙ sym (length-map s.table.items value)),
+      c.self.invariant.2,
+      Prim.omega (arith, c.self.invariant.3, c.pivot_table.ensures.capacity),
+      λ told. let no : false ≡ true = told in absurd Prim.cc,
+    )
 
 pub returns-in_err-pivot_table-clause-pair : goal.returns-in_err-pivot_table-clause-pair
 returns-in_err-pivot_table-clause-pair g c =
@@ -79,8 +93,13 @@ invariant_of-self-2 g c =
     (c.rank-entering_rank.ensures.place ∙ ap (λ (us : List ℕ). place_in us c.index-entering.result.now) (c.deref-2.ensures.value ∙ c.self.invariant.2))
     c.index_mut.ensures.value c.index_mut-2.ensures.value
     (c.in_ok-pivot_table.ensures.pivoted
-    ∙ ap₂ (λ (m n : ℕ). table_of m n (pivoted_cell (cell n (map g.N.Exact.value s.table.items)) c.args.r c.args.c)) rows columns) in
-    (p.0, p.2, c.self.invariant.2 ∙ sym p.3)
+    ∙ ap₂ (λ (m n : ℕ). table_of m n (pivoted_cell (cell n (map g.N.Exact.value s.table.items)) c.args.r c.args.c)) rows columns) in (
+      p.0,
+      p.2,
+      c.self.invariant.2 ∙ sym p.3,
+      Prim.omega (arith, c.self.invariant.3, c.pivot_table.ensures.capacity, length-set s.others.items c.args.c c.index-leaving.result.now),
+      λ told. let no : false ≡ true = told in absurd Prim.cc,
+    )
 
 pub returns-clause-pivoted : goal.returns-clause-pivoted
 returns-clause-pivoted g c =

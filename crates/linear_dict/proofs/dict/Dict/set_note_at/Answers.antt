@@ -1,4 +1,4 @@
-use Rattle.std.proofs.Common.{◌<◌, ◌∙◌, ℕ, List, ap, arith, get_or, length, refl, slice_set, subst, sym}
+use Rattle.std.proofs.Common.{◌<◌, ◌∙◌, ◌≡◌, false, true, ℕ, List, ap, arith, get_or, length, refl, slice_set, subst, sym}
 use Rattle.std.proofs.lemmas.List.{length-map}
 use Rattle.linear_dict.specs.Dictionaries.{Dictionary, IsDictionary, seen, with_note}
 use Rattle.linear_dict.specs.Notes.{noted}
@@ -21,6 +21,8 @@ invariant_of-self g c =
       subst IsDictionary (seen_note g.N.Exact.value s.columns.items s.rows.items s.coefficients.items s.others.items s.basics.items s.table.items vs s.spent c.args.rank was now c.index_mut.ensures.value refl)
           (noted_dictionary _ c.args.rank (noted g.N.Exact.value c.args.note) c.self.invariant.1),
       c.self.invariant.2 ∙ sym (map-set_same name_of vs c.args.rank now was (ap name_of c.index_mut.ensures.value)),
+      c.self.invariant.3,
+      λ told. let no : false ≡ true = told in absurd Prim.cc,
     )
 
 pub returns : goal.returns
