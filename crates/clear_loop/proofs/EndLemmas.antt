@@ -1,17 +1,22 @@
 -- How a clear ends, and what it comes to so.
-use Rattle.std.specs.Prelude.{◌≡◌, ℕ, List, Result, Ok, Err}
+use Rattle.std.specs.Prelude.{◌≡◌, ℕ, List, IsSome, Result, Ok, Err}
 use Rattle.std.proofs.Common.{subst, sym}
 use Rattle.fraction_theory.specs.Fraction.{Fraction}
 use Rattle.market_model.specs.declared.answered.Farkas.{Farkas}
 use Rattle.market_model.specs.declared.limits.Row.{Row}
 use Rattle.market_model.specs.declared.participants.Parts.{Parts}
+use Rattle.market_model.specs.Fitting.{FitsOutcome}
 use Rattle.market_model.specs.Valued.{outcome_at, duals_at}
 use Rattle.market_system.specs.Growth.{Growth, PricesOnly}
 use Rattle.market_system.specs.Outcomes.{IsClear}
 use Rattle.market_system.specs.SolvedLaws.{AreRows}
+use Rattle.limit_screen.specs.Reaching.{IsReachOf}
 use Rattle.market_dict.specs.Chosen.{IsChosenOutcome}
 use Rattle.market_dict.specs.Takings.{limits_of}
 use Rattle.market_dict.specs.declared.taking.Taking.{Taking}
+use Rattle.clear_loop.specs.Clearing.{KeepsAfter, TakesAfter}
+use Rattle.clear_loop.specs.Growing.{Grown}
+use Rattle.clear_loop.specs.Keeping.{Kept}
 use Rattle.clear_loop.specs.Reached.{outcome_at_end}
 use Rattle.clear_loop.specs.Rounds.{IsEnd}
 use Rattle.clear_loop.specs.declared.reached.ReachedAnswer.{ReachedAnswer}
@@ -29,3 +34,24 @@ pub ended_chosen : {N : Type 0} (value : N → Fraction) (m : Parts) (ts : List 
     → IsChosenOutcome m (outcome_at value (outcome_at_end end).outcome)
 ended_chosen value m ts (Ok r) is = is.5
 ended_chosen value m ts (Err f) is = tt
+
+-- it fits the market
+pub ended_fits : {N : Type 0} (value : N → Fraction) (m : Parts) (ts : List Taking) (end : Result (ReachedAnswer N) (Farkas N)) → IsEnd value m (limits_of ts) end
+    → FitsOutcome m (outcome_at_end end).outcome
+ended_fits value m ts (Ok r) is = is.0
+ended_fits value m ts (Err f) is = tt
+
+-- its dispatch carries and reaches what is told
+pub ended_reach : {N : Type 0} (value : N → Fraction) (m : Parts) (ts : List Taking) (end : Result (ReachedAnswer N) (Farkas N)) → IsEnd value m (limits_of ts) end
+    → IsReachOf value m (outcome_at_end end).outcome (outcome_at_end end).reach
+ended_reach value m ts (Ok r) is = is.4
+ended_reach value m ts (Err f) is = tt
+
+-- after it what was taken has grown, and a dictionary is kept
+pub ended_takes : {N : Type 0} (m : Parts) (before after : List Taking) (end : Result (ReachedAnswer N) (Farkas N)) → Grown m before after → TakesAfter m before (outcome_at_end end).outcome after
+ended_takes m before after (Ok r) grown = grown
+ended_takes m before after (Err f) grown = grown
+
+pub ended_keeps : {N : Type 0} (k : Kept) (end : Result (ReachedAnswer N) (Farkas N)) → IsSome k.dict → KeepsAfter (outcome_at_end end).outcome k
+ended_keeps k (Ok r) some = some
+ended_keeps k (Err f) some = some

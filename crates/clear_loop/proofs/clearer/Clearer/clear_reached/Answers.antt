@@ -1,13 +1,17 @@
-use Rattle.std.proofs.Common.{◌≡◌, ◌∙◌, ap, subst, sym}
+use Rattle.std.proofs.Common.{◌≡◌, ◌∙◌, ap, refl, subst, sym}
+use Rattle.std.specs.Prelude.{IsSome}
+use Rattle.limit_screen.specs.Reaching.{IsReachOf}
+use Rattle.market_model.specs.Fitting.{FitsOutcome}
 use Rattle.market_model.specs.Valued.{outcome_at, passed_at}
 use Rattle.market_system.specs.Growth.{Growth}
 use Rattle.market_system.specs.Outcomes.{IsClear}
 use Rattle.market_system.specs.WorkingPairs.{IsRangeOf}
 use Rattle.market_dict.specs.Chosen.{IsChosenOutcome}
 use Rattle.market_dict.specs.Takings.{limits_of}
+use Rattle.clear_loop.specs.Clearing.{KeepsAfter, TakesAfter}
 use Rattle.clear_loop.specs.Keeping.{Kept}
 use Rattle.clear_loop.specs.declared.reached.ReachedOutcome.{ReachedOutcome}
-use Rattle.clear_loop.proofs.EndLemmas.{ended_chosen, ended_clear}
+use Rattle.clear_loop.proofs.EndLemmas.{ended_chosen, ended_clear, ended_fits, ended_keeps, ended_reach, ended_takes}
 use Rattle.clear_loop.proofs.StartLemmas.{start_listed, start_rows}
 use Rattle.clear_loop.proofs.clearer.Clearer.clear_reached.Given.{Over}
 use Rattle.clear_loop.proofs.clearer.Clearer.clear_reached.Goals as goal
@@ -50,3 +54,33 @@ returns-in-Ok-clause-chosen g c =
     let ended = c.in-Ok.field-0 in
     subst (λ (o : ReachedOutcome g.row.N.Denot). IsChosenOutcome m (outcome_at value o.outcome)) (sym c.outcome_at_end.ensures)
     (ended_chosen value m ended.taken.takings ended.end c.in-Ok.ensures.ended.end)
+
+pub returns-in-Ok-clause-fits : goal.returns-in-Ok-clause-fits
+returns-in-Ok-clause-fits g c =
+    let m = c.args.market.now in
+    let ended = c.in-Ok.field-0 in
+    subst (λ (o : ReachedOutcome g.row.N.Denot). FitsOutcome m o.outcome) (sym c.outcome_at_end.ensures)
+    (ended_fits g.N.Exact.value m ended.taken.takings ended.end c.in-Ok.ensures.ended.end)
+
+pub returns-in-Ok-clause-reach : goal.returns-in-Ok-clause-reach
+returns-in-Ok-clause-reach g c =
+    let value = g.N.Exact.value in
+    let m = c.args.market.now in
+    let ended = c.in-Ok.field-0 in
+    subst (λ (o : ReachedOutcome g.row.N.Denot). IsReachOf value m o.outcome o.reach) (sym c.outcome_at_end.ensures)
+    (ended_reach value m ended.taken.takings ended.end c.in-Ok.ensures.ended.end)
+
+pub returns-in-Ok-clause-takings : goal.returns-in-Ok-clause-takings
+returns-in-Ok-clause-takings g c =
+    let m = c.args.market.now in
+    let before = c.args.self.now.taken.takings in
+    let ended = c.in-Ok.field-0 in
+    let old : c.replace-before.result.taken.takings ≡ before = ap (λ (k : Kept). k.taken.takings) c.replace-before.ensures.value in
+    let new : c.keeping.result.taken.takings ≡ ended.taken.takings = ap (λ (k : Kept). k.taken.takings) c.keeping.ensures in
+    subst (λ (o : ReachedOutcome g.row.N.Denot). TakesAfter m before o.outcome c.keeping.result.taken.takings) (sym c.outcome_at_end.ensures)
+    (ended_takes m before c.keeping.result.taken.takings ended.end (rw new (rw old at c.in-Ok.ensures.grown)))
+
+pub returns-in-Ok-clause-kept : goal.returns-in-Ok-clause-kept
+returns-in-Ok-clause-kept g c =
+    subst (λ (o : ReachedOutcome g.row.N.Denot). KeepsAfter o.outcome c.keeping.result) (sym c.outcome_at_end.ensures)
+    (ended_keeps c.keeping.result c.in-Ok.field-0.end (subst (λ (k : Kept). IsSome k.dict) (sym c.keeping.ensures) refl))
