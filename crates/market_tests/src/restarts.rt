@@ -23,6 +23,16 @@ fn between<N: Exact>(low: i32, high: i32) -> Bounds<N>
     }
 }
 
+/// Prices of two columns.
+fn two_prices<N: Exact>(alloc: Global) -> Option<Vec<N>>
+    ensures { IfSome result (λ prices. vec_len prices ≡ 2) }
+{
+    let mut prices = Vec::new(alloc);
+    prices.push(N::of_parts(-10, 1)).ok()?;
+    prices.push(N::of_parts(-30, 1)).ok()?;
+    Some(prices)
+}
+
 /// Bounds of two columns, and of a row that is to be this.
 fn bounds_to<N: Exact>(alloc: Global, sum: i32) -> Option<Vec<Bounds<N>>>
     ensures count { IfSome result (λ bounds. vec_len bounds ≡ 3) }
@@ -44,7 +54,7 @@ fn sums_up<N: Exact>(alloc: Global, warm: &mut Warm<N>, sum: i32) -> Option<bool
     if !start.is_kept() {
         return None;
     }
-    let prices = vec![in alloc; N::of_parts(-10, 1), N::of_parts(-30, 1)].ok()?;
+    let prices = two_prices(alloc)?;
     let bounds = bounds_to(alloc, sum)?;
     match start.repose(&prices, &bounds) {
         Ok(posed) => match posed.run() {
