@@ -3,6 +3,7 @@
 use crate::networks::read_network;
 use factor_tables::outage_rows;
 use market_model::Pickup;
+use outage_choice::choose_outages;
 use outage_list::{OutageFault, Outages, UnitOutageFault, UnitOutages, listed, unit_outages};
 use record_reading::{FrameFault, Why};
 use std::alloc::Global;
@@ -48,6 +49,18 @@ fn branches_lost(alloc: Global, table: &str) -> Result<Outages, OutageFault> {
 fn lists_outages(rt: HostRuntime) -> Result<(), Fail> {
     let outages = branches_lost(rt.alloc(), "branch\n4\n1\n3\n")?;
     assert_eq!(rt; outages.slice(), [4, 1, 3].as_slice());
+    Ok(())
+}
+
+/// Branch 2 is radial, and branch 5 out of service.
+#[test]
+fn chooses_outages(rt: HostRuntime) -> Result<(), Fail> {
+    let Some(network) = read_network(rt.alloc(), CASE) else {
+        panic!(&rt; "no network");
+    };
+    let choice = choose_outages(rt.alloc(), &network)?;
+    assert_eq!(rt; choice.listed.slice(), [1, 3, 4].as_slice());
+    assert_eq!(rt; choice.radial.slice(), [2].as_slice());
     Ok(())
 }
 

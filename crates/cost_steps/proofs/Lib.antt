@@ -1,0 +1,9 @@
+mod Comparing
+mod Cuts
+mod Machine
+mod Marks
+mod Orders
+mod Rounding
+mod Segments
+mod Slopes
+mod StepLemmas

@@ -1,0 +1,4 @@
+pub mod Costs
+pub mod Parts
+pub mod Rounding
+pub mod Steps
