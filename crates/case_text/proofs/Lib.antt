@@ -1,3 +1,4 @@
+mod CostsLemmas
 pub mod RowLemmas
 pub mod NestLemmas
 pub mod StatementLemmas

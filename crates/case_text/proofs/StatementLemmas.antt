@@ -17,7 +17,7 @@ use Rattle.record_reading.specs.Steps.{and_then}
 use Rattle.record_reading.proofs.StepLemmas.{then-ok}
 use Rattle.case_text.specs.Nests.{Nest, first_nest, step, behind_brackets}
 use Rattle.case_text.specs.Matrices.{CaseMatrices}
-use Rattle.case_text.specs.Statements.{Setting, behind_end, ended, plain_value, bracketed, value_by, statement_at, matrix_rows, not_version_one}
+use Rattle.case_text.specs.Statements.{Setting, behind_end, ended, plain_value, bracketed, value_by, Read, statement_of, statement_at, matrix_rows, not_version_one}
 use Rattle.case_text.specs.Settings.{Settings, with_setting, all_set}
 use Rattle.case_text.specs.Cases.{past_separators, case_from, at_end, function_from, statements_from}
 use Rattle.scaled_decimal.specs.Reading.{is_number_text}
@@ -143,13 +143,19 @@ rest-value word.Equals text stop line field value tokens read e = absurd (no-ok 
 rest-value (word.Closing closing) text stop line field value tokens read e = absurd (no-ok (fault.Code line) read _ refl e)
 rest-value word.Unclosed text stop line field value tokens read e = absurd (no-ok (fault.Code line) read _ refl e)
 
-pub rest-statement : (text : List ℕ) (stop : Option ℕ) (head : Token) (tokens : List Token) (read : Setting × List Token) → statement_at text stop head tokens ≡ Ok read → IsRest read.1 tokens
-unfolding statement_at
-rest-statement text stop head [] read e = absurd (no-ok (fault.Code head.line) read _ refl e)
-rest-statement text stop head (equals ∷ []) read e = absurd (no-ok (fault.Code head.line) read _ refl e)
-rest-statement text stop head (equals ∷ value ∷ tokens) read e =
+pub rest-statement : (field : Option Field) (text : List ℕ) (stop : Option ℕ) (head : Token) (tokens : List Token) (read : Setting × List Token) →
+    statement_of field text stop head tokens ≡ Ok read → IsRest read.1 tokens
+unfolding statement_of
+rest-statement field text stop head [] read e = absurd (no-ok (fault.Code head.line) read _ refl e)
+rest-statement field text stop head (equals ∷ []) read e = absurd (no-ok (fault.Code head.line) read _ refl e)
+rest-statement field text stop head (equals ∷ value ∷ tokens) read e =
     rest-more read.1 (value ∷ tokens) equals (rest-more read.1 tokens value
-    (rest-value (word_of text value) text stop head.line (field_of (text_of text head)) value tokens read (allowed _ (fault.Code head.line) read _ e)))
+    (rest-value (word_of text value) text stop head.line field value tokens read (allowed _ (fault.Code head.line) read _ e)))
+
+-- a statement that was read as one that sets the field that its head names
+pub as-read : (text : List ℕ) (stop : Option ℕ) (head : Token) (tokens : List Token) (field : Option Field) (read : Read Setting) → field ≡ field_of (text_of text head) →
+    statement_of field text stop head tokens ≡ read → statement_at text stop head tokens ≡ read
+as-read text stop head tokens field read e h = ap (λ f. statement_of f text stop head tokens) (sym e) ∙ h
 
 -- ---- from statement to statement
 case-wait : (text : List ℕ) (stop : Option ℕ) (settings : Settings) (n : ℕ) (tokens : List Token) → case_from text stop settings n tokens ≡ case_from text stop settings 0 (drop n tokens)
@@ -207,7 +213,7 @@ case-goes whole text stop settings next tokens left rest head setting is first r
     case-head whole text stop settings tokens left head is first
     ∙ ap (λ z. and_then z (λ r. and_then (with_setting settings r.0.field r.0.rows) (λ n. case_from text stop n (length left - length r.1) left))) read
     ∙ ap (λ z. and_then z (λ n. case_from text stop n (length left - length rest) left)) set
-    ∙ case-rest text stop next rest left (rest-statement text stop head left (setting, rest) read)
+    ∙ case-rest text stop next rest left (rest-statement (field_of (text_of text head)) text stop head left (setting, rest) read)
 
 pub case-misread : (whole : Result CaseMatrices CaseFault) (text : List ℕ) (stop : Option ℕ) (settings : Settings) (tokens left : List Token) (head : Token) (why : CaseFault) →
     whole ≡ case_from text stop settings 0 tokens → past_separators text tokens ≡ head ∷ left → statement_at text stop head left ≡ Err why → whole ≡ Err why
@@ -226,7 +232,7 @@ case-unset whole text stop settings tokens left rest head setting why is first r
 pub fewer : (text : List ℕ) (tokens left rest : List Token) (head : Token) (stop : Option ℕ) (setting : Setting) → past_separators text tokens ≡ head ∷ left →
     statement_at text stop head left ≡ Ok (setting, rest) → length rest < length tokens
 fewer text tokens left rest head stop setting first read =
-    let h = rest-statement text stop head left (setting, rest) read in
+    let h = rest-statement (field_of (text_of text head)) text stop head left (setting, rest) read in
     Prim.omega (arith, length-past text tokens, ap (λ (x : List Token). length x) first, h.within, length-drop h.count left, ap (λ (x : List Token). length x) h.is)
 
 pub as-ok : (read whole : Result CaseMatrices CaseFault) → whole ≡ read → IfOk read (λ case. whole ≡ Ok case)

@@ -5,6 +5,7 @@ pub mod Matrices
 pub mod Statements
 pub mod Settings
 pub mod Cases
+pub mod Costs
 pub mod Readers
 pub mod Nesting
 pub mod Views

@@ -63,11 +63,15 @@ value_by word.Quoted text stop line field value tokens =
 value_by (word.Opening opening) text stop line field value tokens = bracketed text stop line field opening tokens
 value_by _ text stop line field value tokens = Err (fault.Code line)
 
--- a statement from its head on: what it sets, `=`, and a value
-unfoldable pub statement_at : List ℕ → Option ℕ → Token → List Token → Read Setting
-statement_at text stop head [] = Err (fault.Code head.line)
-statement_at text stop head (equals ∷ []) = Err (fault.Code head.line)
-statement_at text stop head (equals ∷ value ∷ tokens) =
+-- a statement from its head on, which sets this field: what it sets, `=`, and a value
+unfoldable pub statement_of : Option Field → List ℕ → Option ℕ → Token → List Token → Read Setting
+statement_of field text stop head [] = Err (fault.Code head.line)
+statement_of field text stop head (equals ∷ []) = Err (fault.Code head.line)
+statement_of field text stop head (equals ∷ value ∷ tokens) =
     if is_run (word_of text head) && is_target (text_of text head) && is_equals (word_of text equals)
-    then value_by (word_of text value) text stop head.line (field_of (text_of text head)) value tokens
+    then value_by (word_of text value) text stop head.line field value tokens
     else Err (fault.Code head.line)
+
+-- the same, where a case reads it
+abbrev pub statement_at : List ℕ → Option ℕ → Token → List Token → Read Setting
+statement_at text stop head tokens = statement_of (field_of (text_of text head)) text stop head tokens

@@ -18,6 +18,7 @@ use std::fmt;
 use std::marker::Model;
 use thiserror::Error;
 
+mod costs;
 pub mod laws;
 mod matrices;
 mod names;
@@ -26,6 +27,7 @@ mod settings;
 mod statements;
 mod words;
 
+pub use costs::{CostsFault, RawCosts, read_costs};
 use matrices::{MatrixRows, cell_of, width_of};
 
 /// A field that a case has to set.

@@ -5,7 +5,7 @@ ghost use Rattle.case_tokens.specs.TokenLists.{IsWithin};
 ghost use Rattle.case_text.specs.Words.{word_of};
 ghost use Rattle.case_text.specs.Names.{takes_bracket};
 ghost use Rattle.case_text.specs.Nests.{behind_brackets, first_nest};
-ghost use Rattle.case_text.specs.Statements.{behind_end, plain_value, matrix_rows, bracketed, value_by, statement_at};
+ghost use Rattle.case_text.specs.Statements.{behind_end, plain_value, matrix_rows, bracketed, value_by, statement_of};
 ghost use Rattle.case_text.specs.Cases.{case_from, named_from, is_run_of, function_from, statements_from, past_separators, at_end};
 ghost use Rattle.case_text.specs.Settings.{no_settings};
 ghost use Rattle.case_text.specs.Matrices.{CaseMatrices};
@@ -35,7 +35,7 @@ pub struct Setting<'a> {
 }
 
 /// The next token outside brackets, where tokens have no fault.
-fn token_outside(tokens: &mut Tokens<'_>) -> Option<Token>
+pub fn token_outside(tokens: &mut Tokens<'_>) -> Option<Token>
     ensures same { SameEnd tokens.old tokens.new }
     ensures next { MatchOption result (tokens.old.left.tokens ≡ []) (IsNext tokens.old tokens.new) }
     ensures end { result ≡ None → tokens.new ≡ tokens.old }
@@ -173,25 +173,25 @@ fn read_value<'a>(
     }
 }
 
-/// A statement from its head on: what it sets, `=`, a value, and its end.
-#[tactic(auto, unfolding(crate::specs::Statements::statement_at))]
-fn read_statement<'a>(
+/// A statement from its head on, which sets this field: what it sets, `=`, a value, and its end.
+#[tactic(auto, unfolding(crate::specs::Statements::statement_of))]
+pub fn read_statement<'a>(
     alloc: Global,
     tokens: &mut Tokens<'_>,
     text: &'a [u8],
+    field: Option<Field>,
     head: Token,
 ) -> Result<Setting<'a>, CaseFault>
     requires text { tokens.old.text ≡ text.now }
     requires within { IsWithin (length text.now) head }
     ensures same { SameEnd tokens.old tokens.new }
-    ensures ok { IfOk result (λ setting. statement_at text.entry.now tokens.old.left.fault head tokens.old.left.tokens
+    ensures ok { IfOk result (λ setting. statement_of field text.entry.now tokens.old.left.fault head tokens.old.left.tokens
         ≡ Ok (setting_of setting, tokens.new.left.tokens)) }
     ensures err { IfErr result (λ e. e ≢ CaseFault.Memory →
-        statement_at text.entry.now tokens.old.left.fault head tokens.old.left.tokens ≡ Err e) }
+        statement_of field text.entry.now tokens.old.left.fault head tokens.old.left.tokens ≡ Err e) }
 {
     let line = head.line;
-    let name = text_of(text, head);
-    let is_head = is_run(word_of(text, head)) && is_target(name);
+    let is_head = is_run(word_of(text, head)) && is_target(text_of(text, head));
     let Some(equals) = token_outside(tokens) else {
         return Err(CaseFault::Code { line });
     };
@@ -199,7 +199,7 @@ fn read_statement<'a>(
         return Err(CaseFault::Code { line });
     };
     if is_head && is_equals(word_of(text, equals)) {
-        read_value(alloc, tokens, text, line, field_of(name), value)
+        read_value(alloc, tokens, text, line, field, value)
     } else {
         Err(CaseFault::Code { line })
     }
@@ -218,7 +218,7 @@ fn next_token(tokens: &mut Tokens<'_>) -> Result<Option<Token>, CaseFault>
 }
 
 /// The first token of the next statement, and none at the end of the text.
-fn next_head(tokens: &mut Tokens<'_>, text: &[u8]) -> Result<Option<Token>, CaseFault>
+pub fn next_head(tokens: &mut Tokens<'_>, text: &[u8]) -> Result<Option<Token>, CaseFault>
     requires { tokens.old.text ≡ text.now }
     ensures same { SameEnd tokens.old tokens.new }
     ensures head { IfOk result (λ found. MatchOption found
@@ -248,7 +248,8 @@ fn read_settings<'a>(
 {
     let mut settings = no_settings();
     while let Some(head) = next_head(tokens, text)? {
-        let Setting { field, rows } = read_statement(alloc, tokens, text, head)?;
+        let named = field_of(text_of(text, head));
+        let Setting { field, rows } = read_statement(alloc, tokens, text, named, head)?;
         settings = with_setting(settings, field, rows)?;
     }
     all_set(settings)
