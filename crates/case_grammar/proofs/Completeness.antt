@@ -26,7 +26,7 @@ use Rattle.case_text.specs.Words.{word_of, word_by, mark_of, text_of, is_separat
 use Rattle.case_text.specs.Names.{is_target, is_name_text, field_of, is_version_one, is_version_two, takes_number, takes_text, takes_bracket}
 use Rattle.case_text.specs.Nests.{first_nest}
 use Rattle.case_text.specs.Matrices.{CaseMatrices, matrix_of}
-use Rattle.case_text.specs.Statements.{Setting, Read, behind_end, ended, plain_value, not_version_one, matrix_rows, bracketed, value_by, statement_at}
+use Rattle.case_text.specs.Statements.{Setting, Read, behind_end, ended, plain_value, not_version_one, matrix_rows, bracketed, value_by, statement_of, statement_at}
 use Rattle.case_text.specs.Settings.{Settings, no_settings, with_setting, with_field, all_set}
 use Rattle.case_text.specs.Cases.{case_from, named_from, function_from, statements_from, without_mark, case_of}
 use Rattle.case_text.proofs.StatementLemmas as statement_lemmas
@@ -284,7 +284,7 @@ pub record ReadsStatement (text : List ℕ) (s : Statement) (field : Option Fiel
 statement-by : (text : List ℕ) (head equals value : Token) (tokens : List Token) (target : List ℕ) (field : Option Field) (read : Read Setting) → word_of text head ≡ word.Run → text_of text head ≡ target →
     is_target target ≡ true → word_of text equals ≡ word.Equals → field_of target ≡ field → value_by (word_of text value) text None head.line field value tokens ≡ read →
     statement_at text None head (equals ∷ value ∷ tokens) ≡ read
-unfolding statement_at
+unfolding statement_of
 statement-by text head equals value tokens target field read run is t w f e =
     cond-true _ _ _ (and_from _ _ (and_from _ _ (ap is_run run) (ap is_target is ∙ t)) (ap is_equals w))
     ∙ ap (λ (o : Option Field). value_by (word_of text value) text None head.line o value tokens) (ap field_of is ∙ f) ∙ e
@@ -350,7 +350,7 @@ case-step text settings next token tokens behind setting run e s =
     case-other text settings token tokens (ap is_separator run)
     ∙ ap (λ read. and_then read (λ (x : Setting × List Token). and_then (with_setting settings (x.0).field (x.0).rows) (λ next. case_from text None next (length tokens - length x.1) tokens))) e
     ∙ ap (λ read. and_then read (λ next. case_from text None next (length tokens - length behind) tokens)) s
-    ∙ case-rest text next behind tokens (statement_lemmas.rest-statement text None token tokens (setting, behind) e)
+    ∙ case-rest text next behind tokens (statement_lemmas.rest-statement (field_of (text_of text token)) text None token tokens (setting, behind) e)
 
 -- ---- what is told of the fields
 pub same-itself : (f : Field) → same_field f f ≡ true

@@ -17,7 +17,7 @@ use Rattle.case_text.specs.Words.{word_of, text_of, is_separator, is_equals, is_
 use Rattle.case_text.specs.Names.{is_target, is_name_text, is_version_one, field_of, takes_number, takes_text, takes_bracket}
 use Rattle.case_text.specs.Nests.{Nest, first_nest, step, step_by, behind_brackets}
 use Rattle.case_text.specs.Matrices.{CaseMatrices}
-use Rattle.case_text.specs.Statements.{Setting, behind_end, ended, plain_value, bracketed, value_by, statement_at, matrix_rows, not_version_one}
+use Rattle.case_text.specs.Statements.{Setting, behind_end, ended, plain_value, bracketed, value_by, statement_of, statement_at, matrix_rows, not_version_one}
 use Rattle.case_text.specs.Settings.{Settings, no_settings, with_setting, all_set}
 use Rattle.case_text.specs.Cases.{case_from, at_end, is_run_of, named_from, function_from, statements_from, without_mark, case_of}
 use Rattle.case_text.proofs.StatementLemmas.{allowed, refused, no-ok, same-ok, rest-statement}
@@ -130,7 +130,7 @@ failed-test false why value read e = refl
 
 statement-fine : (text : List ℕ) (stop : Option ℕ) (head : Token) (tokens : List Token) (read : Setting × List Token) → statement_at text stop head tokens ≡ Ok read → AreFine text read.1 →
     AreFine text (head ∷ tokens)
-unfolding statement_at
+unfolding statement_of
 statement-fine text stop head [] read e h = absurd (no-ok (fault.Code head.line) read _ refl e)
 statement-fine text stop head (equals ∷ []) read e h = absurd (no-ok (fault.Code head.line) read _ refl e)
 statement-fine text stop head (equals ∷ value ∷ tokens) read e h =
@@ -152,7 +152,7 @@ case-fine text stop settings zero (token ∷ tokens) case e = elim (cases_Bool (
       let p = then-ok (statement_at text stop token tokens)
       (λ (read : Setting × List Token). and_then (with_setting settings (read.0).field (read.0).rows) (λ next. case_from text stop next (length tokens - length read.1) tokens)) case d in
       let q = then-ok (with_setting settings ((p.0).0).field ((p.0).0).rows) (λ next. case_from text stop next (length tokens - length (p.0).1) tokens) case p.2 in
-      let r = rest-statement text stop token tokens p.0 p.1 in
+      let r = rest-statement (field_of (text_of text token)) text stop token tokens p.0 p.1 in
       statement-fine text stop token tokens p.0 p.1
       (subst (AreFine text)
       (ap (λ m. drop m tokens) (Prim.omega (arith, r.within, length-drop r.count tokens, ap (λ (x : List Token). length x) r.is)) ∙ sym r.is)

@@ -21,7 +21,7 @@ use Rattle.case_text.specs.declared.Field.TheVariants as field
 use Rattle.case_text.specs.Words.{word_of, text_of, is_separator, is_equals, is_run}
 use Rattle.case_text.specs.Names.{is_target, is_name_text, field_of}
 use Rattle.case_text.specs.Matrices.{CaseMatrices, matrix_of, IsEven, least_columns}
-use Rattle.case_text.specs.Statements.{Setting, behind_end, value_by, statement_at}
+use Rattle.case_text.specs.Statements.{Setting, behind_end, value_by, statement_of, statement_at}
 use Rattle.case_text.specs.Settings.{Settings, no_settings, is_set, with_field, uneven, with_setting, matrices, all_set}
 use Rattle.case_text.specs.Cases.{case_from, is_run_of, function_from, statements_from, without_mark, case_of}
 use Rattle.case_text.proofs.StatementLemmas.{allowed, refused, no-ok, same-ok, rest-statement}
@@ -58,7 +58,7 @@ record StatementParts (text : List ℕ) (head : Token) (tokens : List Token) (re
   reads : value_by (word_of text value) text None head.line (field_of (text_of text head)) value more ≡ Ok read
 
 statement-parts : (text : List ℕ) (head : Token) (tokens : List Token) (read : Setting × List Token) → statement_at text None head tokens ≡ Ok read → StatementParts text head tokens read
-unfolding statement_at
+unfolding statement_of
 statement-parts text head [] read e = absurd (no-ok (fault.Code head.line) read _ refl e)
 statement-parts text head (equals ∷ []) read e = absurd (no-ok (fault.Code head.line) read _ refl e)
 statement-parts text head (equals ∷ value ∷ tokens) read e =
@@ -473,7 +473,7 @@ all-read text (suc n) settings rest case few r clean e = by_tokens (tokens_at te
         (sym (case-other text settings token tokens t) ∙ e) in
         let q = then-ok (with_setting settings ((p.0).0).field ((p.0).0).rows) (λ next. case_from text None next (length tokens - length (p.0).1) tokens) case p.2 in
         all-statement text n later settings q.0 rest case token.line p.0 (Prim.omega arith) (statement-of text rest token tokens p.0 r clean is p.1) q.1
-        (sym (case-rest text q.0 (p.0).1 tokens (rest-statement text None token tokens p.0 p.1)) ∙ q.2)
+        (sym (case-rest text q.0 (p.0).1 tokens (rest-statement (field_of (text_of text token)) text None token tokens p.0 p.1)) ∙ q.2)
   ]
 
 -- ---- the first statement
