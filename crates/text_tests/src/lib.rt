@@ -7,6 +7,8 @@ mod cases;
 #[cfg(test)]
 mod certificates;
 #[cfg(test)]
+mod costs;
+#[cfg(test)]
 mod in_memory;
 #[cfg(test)]
 mod of_system;
