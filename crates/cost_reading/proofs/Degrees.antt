@@ -1,10 +1,13 @@
 -- Coefficients by their columns.
-use Rattle.std.specs.Prelude.{◌≡◌, ℕ, ◌<◌, ◌≤◌, ℤ, Result, Ok, Err, Option, Some, MatchResult}
-use Rattle.std.proofs.Common.{arith, subst}
+use Rattle.std.specs.Prelude.{◌≡◌, ◌≢◌, ℕ, ◌<◌, ◌≤◌, ℤ, Result, Ok, Err, Option, Some, MatchResult}
+use Rattle.std.proofs.Common.{arith, refl, subst}
 use Rattle.record_reading.specs.Records.{Record}
+use Rattle.fraction_theory.specs.declared.Sign.{Sign}
+use Rattle.fraction_theory.specs.declared.Sign.TheVariants as sign
 use Rattle.cost_reading.specs.declared.RowFault.{RowFault}
-use Rattle.cost_reading.specs.CostRows.{IsCoefficient, Says, degree_column}
-use Rattle.cost_reading.specs.Cells.{IsCoefficientFault, IsMisread}
+use Rattle.cost_reading.specs.declared.RowFault.TheVariants as row_fault
+use Rattle.cost_reading.specs.CostRows.{HasCount, HasModel, IsCoefficient, IsPolynomial, Says, degree_column}
+use Rattle.cost_reading.specs.Cells.{AreFactors, IsCoefficientFault, IsMisread, IsOther, IsSign}
 
 -- the coefficient of a degree that there is, or why its cell has none
 pub given : (r : Record) (n degree places col : ℕ) (read : Result ℤ RowFault) → degree < n → col ≡ degree_column n degree →
@@ -17,4 +20,24 @@ given r n degree places col (Ok value) inside is says = record {
 given r n degree places col (Err f) inside is bad = record {
   given = inside;
   misread = subst (λ (col : ℕ). IsMisread r col (Some places) f) is bad;
+}
+
+-- a coefficient that is not 0
+pub other : (r : Record) (n degree col : ℕ) (s : Sign) → degree < n → col ≡ degree_column n degree → IsSign r col s → s ≢ sign.Zero → IsOther r n degree row_fault.Degree
+other r n degree col s inside is says not = record {
+  given = inside;
+  told = refl;
+  other = (s, subst (λ (col : ℕ). IsSign r col s) is says, not);
+}
+
+-- the factors of the coefficients that are counted
+pub polynomial : (r : Record) (n : ℕ) (square linear : ℤ) → HasModel r 2 → HasCount r 1 1 n → AreFactors r n square linear → IsPolynomial r square linear
+polynomial r n square linear model count found = record {
+  n = n;
+  model = model;
+  count = count;
+  second = found.second;
+  first = found.first;
+  constant = found.constant;
+  higher = found.higher;
 }

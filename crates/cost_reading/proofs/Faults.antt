@@ -1,6 +1,7 @@
 -- Cells that can't be read, as faults of their row.
 use Rattle.std.specs.Prelude.{◌≡◌, ℕ, ◌+◌, ◌*◌, ◌<◌, ◌≤◌, Option, Some, None}
 use Rattle.std.proofs.Common.{arith, inl, inr, refl}
+use Rattle.std.proofs.lemmas.Bool.Decides.{nat_tests}
 use Rattle.record_reading.specs.Records.{Record}
 use Rattle.market_data.specs.Scales.{mw_places}
 use Rattle.cost_reading.specs.declared.RowFault.{RowFault}
@@ -44,7 +45,7 @@ no_places degree high = grind (arith, nat_tests)
 
 pub of_higher : (r : Record) (n : ℕ) (f : RowFault) → HasModel r 2 → HasCount r 1 1 n → IsHigherFault r n f → IsRowFault r f
 of_higher r n f model count (degree, high, inl bad) = of_coefficient r n degree None f model count (no_places degree high) bad
-of_higher r n f model count (degree, high, inr bad) = rw bad.told (n, degree, model, count, high, bad.given, bad.other)
+of_higher r n f model count (degree, high, inr bad) = rw bad.told (n, degree, model, count, high, bad.given, bad.other.0, bad.other.1, bad.other.2)
 
 -- the constant
 pub of_constant : (r : Record) (n : ℕ) (f : RowFault) → HasModel r 2 → HasCount r 1 1 n → IsMisread r (degree_column n 0) None f → IsRowFault r f
