@@ -1,6 +1,6 @@
 -- Coefficients by their columns.
-use Rattle.std.specs.Prelude.{◌≡◌, ◌≢◌, ℕ, ◌<◌, ◌≤◌, ℤ, Result, Ok, Err, Option, Some, MatchResult}
-use Rattle.std.proofs.Common.{arith, refl, subst}
+use Rattle.std.specs.Prelude.{◌≡◌, ◌≢◌, ◌⊎◌, ℕ, ◌<◌, ℤ, Result, Ok, Err, Some, MatchResult}
+use Rattle.std.proofs.Common.{arith, inl, inr, refl, subst}
 use Rattle.record_reading.specs.Records.{Record}
 use Rattle.fraction_theory.specs.declared.Sign.{Sign}
 use Rattle.fraction_theory.specs.declared.Sign.TheVariants as sign
@@ -21,6 +21,10 @@ given r n degree places col (Err f) inside is bad = record {
   given = inside;
   misread = subst (λ (col : ℕ). IsMisread r col (Some places) f) is bad;
 }
+
+pub not_zero : (s : Sign) → (s ≡ sign.Below) ⊎ (s ≡ sign.Above) → s ≢ sign.Zero
+not_zero s (inl below) zero = cc
+not_zero s (inr above) zero = cc
 
 -- a coefficient that is not 0
 pub other : (r : Record) (n degree col : ℕ) (s : Sign) → degree < n → col ≡ degree_column n degree → IsSign r col s → s ≢ sign.Zero → IsOther r n degree row_fault.Degree

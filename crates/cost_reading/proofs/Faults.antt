@@ -3,10 +3,9 @@ use Rattle.std.specs.Prelude.{◌≡◌, ℕ, ◌+◌, ◌*◌, ◌<◌, ◌≤�
 use Rattle.std.proofs.Common.{arith, inl, inr, refl}
 use Rattle.std.proofs.lemmas.Bool.Decides.{nat_tests}
 use Rattle.record_reading.specs.Records.{Record}
-use Rattle.market_data.specs.Scales.{mw_places}
 use Rattle.cost_reading.specs.declared.RowFault.{RowFault}
 use Rattle.cost_reading.specs.CostRows.{HasCount, HasModel, IsReadTo, IsRowFault, degree_column, degree_places}
-use Rattle.cost_reading.specs.Cells.{IsCoefficientFault, IsCountFault, IsHigherFault, IsMisread, IsOther, IsPointFault}
+use Rattle.cost_reading.specs.Cells.{IsCoefficientFault, IsCountFault, IsHigherFault, IsMisread, IsPointFault}
 
 -- a column that is read
 pub of_read : (r : Record) (col : ℕ) (places : Option ℕ) (f : RowFault) → IsReadTo r col places → IsMisread r col places f → IsRowFault r f

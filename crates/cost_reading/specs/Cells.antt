@@ -1,5 +1,5 @@
 -- What the cells of a row of `gencost` say, one by one, and why they say nothing.
-use Rattle.std.specs.Prelude.{◌≡◌, ◌≢◌, ⊤, ℕ, ◌+◌, ◌*◌, ◌<◌, ◌≤◌, ◌⊎◌, ℤ, List, length, Option, Some, None, Ok}
+use Rattle.std.specs.Prelude.{◌≡◌, ◌≢◌, ℕ, ◌+◌, ◌*◌, ◌<◌, ◌≤◌, ◌⊎◌, ℤ, Option, Some, None, Ok}
 use Rattle.record_reading.specs.Records.{Record}
 use Rattle.record_reading.specs.declared.Why.TheVariants as why
 use Rattle.fraction_theory.specs.declared.Sign.{Sign}
@@ -8,12 +8,9 @@ use Rattle.scaled_decimal.specs.declared.DecimalFault.{DecimalFault}
 use Rattle.scaled_decimal.specs.Reading.{HasSign}
 use Rattle.market_data.specs.Scales.{mw_places}
 use Rattle.cost_steps.specs.declared.costs.CostPoint.{CostPoint}
-use Rattle.cost_steps.specs.Costs.{point_at}
 use Rattle.cost_reading.specs.declared.RowFault.{RowFault}
 use Rattle.cost_reading.specs.declared.RowFault.TheVariants as row_fault
-use Rattle.cost_reading.specs.declared.CostFault.{CostFault}
-use Rattle.cost_reading.specs.declared.CostFault.TheVariants as fault
-use Rattle.cost_reading.specs.CostRows.{Says, Fails, HasCount, HasNoCount, IsCoefficient, cell, degree_column, degree_places}
+use Rattle.cost_reading.specs.CostRows.{Says, Fails, HasNoCount, IsCoefficient, cell, degree_column}
 
 -- the sign of the number of a column
 abbrev pub IsSign : Record → ℕ → Sign → Type 0

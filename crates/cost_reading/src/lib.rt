@@ -9,12 +9,12 @@ mod cells;
 mod points;
 mod polynomials;
 
-use cells::{MODEL, number};
-use points::segments;
-use polynomials::polynomial;
 use case_text::RawCosts;
+use cells::{MODEL, number};
 use cost_steps::Cost;
 use plain_list::Memory;
+use points::segments;
+use polynomials::polynomial;
 use record_reading::Why;
 use std::alloc::Global;
 use thiserror::Error;

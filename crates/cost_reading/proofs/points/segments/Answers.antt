@@ -1,3 +1,4 @@
+use Rattle.std.proofs.Common.{rules}
 use Rattle.std.proofs.lemmas.Result.{err_from_is_err_and}
 use Rattle.cost_steps.specs.declared.costs.Cost.TheVariants.{Segments}
 use Rattle.cost_reading.specs.CostRows.{row_at}
@@ -11,4 +12,4 @@ returns-in_err-count c =
 
 pub returns-then-not-slopes_do_not_fall : goal.returns-then-not-slopes_do_not_fall
 returns-then-not-slopes_do_not_fall c =
-    (Segments c.in_ok-points.points, c.in_ok-points.ensures, ?)
+    (Segments c.in_ok-points.points, c.in_ok-points.ensures, search rules)

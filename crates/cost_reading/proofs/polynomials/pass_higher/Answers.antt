@@ -1,14 +1,14 @@
-use Rattle.std.proofs.Common.{ℕ, ◌≤◌, arith, inr, refl, subst}
+use Rattle.std.proofs.Common.{ℕ, ◌≤◌, arith, inr, subst}
 use borrow.Author.Count.{below_more}
 use Rattle.fraction_theory.specs.declared.Sign.TheVariants as sign
 use Rattle.cost_reading.specs.CostRows.{degree_column, row_at}
 use Rattle.cost_reading.specs.Cells.{IsSign}
-use Rattle.cost_reading.proofs.Degrees.{other}
+use Rattle.cost_reading.proofs.Degrees.{not_zero, other}
 use Rattle.cost_reading.proofs.polynomials.pass_higher.Goals as goal
 
 pub returns-in-Below : goal.returns-in-Below
 returns-in-Below c =
-    (c.loop-degree.degree, omega arith, inr (other (row_at c.args.costs.now c.args.row) c.args.count c.loop-degree.degree _ _ c.loop-degree-test.true c.degree_column.ensures c.in_ok-sign.ensures (Prim.rw c.in-Below.is (cc))))
+    (c.loop-degree.degree, omega arith, inr (other (row_at c.args.costs.now c.args.row) c.args.count c.loop-degree.degree _ _ c.loop-degree-test.true c.degree_column.ensures c.in_ok-sign.ensures (not_zero c.in_ok-sign.field-0 c.in-Below.is)))
 
 pub loop-degree-preserved : goal.loop-degree-preserved
 loop-degree-preserved c =

@@ -1,4 +1,4 @@
-use Rattle.std.proofs.Common.{refl}
+use Rattle.std.proofs.Common.{rules}
 use Rattle.std.proofs.lemmas.Result.{err_from_is_err_and}
 use Rattle.cost_steps.specs.declared.costs.Cost.TheVariants.{Quadratic}
 use Rattle.cost_reading.specs.CostRows.{row_at}
@@ -13,9 +13,15 @@ returns-in_err-count c =
 
 pub returns-then-square-lt0 : goal.returns-then-square-lt0
 returns-then-square-lt0 c =
-    (Quadratic c.in_ok-square.field-0.square c.in_ok-square.field-0.linear, polynomial _ _ _ _ c.requires.model c.in_ok-count.ensures.count c.in_ok-square.ensures, ?)
+    (Quadratic c.in_ok-square.field-0.square c.in_ok-square.field-0.linear, polynomial _ _ _ _ c.requires.model c.in_ok-count.ensures.count c.in_ok-square.ensures, search rules)
 
 pub returns-then-square-gt-MOST_SQUARE : goal.returns-then-square-gt-MOST_SQUARE
-returns-then-square-gt-MOST_SQUARE c =
-    (c.in_ok-count.count, c.in_ok-count.ensures.count, c.degree_column.ensures, c.in_ok-square.field-0.square, c.in_ok-square.field-0.linear,
-    polynomial _ _ _ _ c.requires.model c.in_ok-count.ensures.count c.in_ok-square.ensures, ?)
+returns-then-square-gt-MOST_SQUARE c = (
+  c.in_ok-count.count,
+  c.in_ok-count.ensures.count,
+  c.degree_column.ensures,
+  c.in_ok-square.field-0.square,
+  c.in_ok-square.field-0.linear,
+  polynomial _ _ _ _ c.requires.model c.in_ok-count.ensures.count c.in_ok-square.ensures,
+  search rules,
+)

@@ -1,7 +1,9 @@
-use Rattle.std.proofs.Common.{Some, None, ℕ, arith, refl, subst}
+use Rattle.std.proofs.Common.{Some, None, ℕ, ◌≡◌, arith, refl, subst, w64}
+use Rattle.std.proofs.lemmas.Int.{ints, to_z-of_z}
+use mir.Val.{to_z, of_z}
 use Rattle.std.proofs.lemmas.Result.{err_from_is_err_and}
 use Rattle.cost_reading.specs.CostRows.{degree_column, row_at}
-use Rattle.cost_reading.specs.Cells.{IsMisread}
+use Rattle.cost_reading.specs.Cells.{IsMisread, IsSign}
 use Rattle.cost_reading.proofs.Faults.{of_coefficient, of_constant, of_higher}
 use Rattle.cost_reading.proofs.polynomials.read_factors.Goals as goal
 
@@ -29,4 +31,13 @@ returns-in_err-_constant c =
     Prim.rw (p.1, p.2) (of_constant r c.args.count _ c.requires.model c.requires.count bad)
 
 pub returns : goal.returns
-returns c = ?
+returns c =
+    let square : to_z w64 (of_z w64 c.in_ok-square.square) ≡ c.in_ok-square.square = search (arith, ints, to_z-of_z) in
+    let linear : to_z w64 (of_z w64 c.in_ok-linear.linear) ≡ c.in_ok-linear.linear = search (arith, ints, to_z-of_z) in
+    let r = row_at c.args.costs.now c.args.row in
+    Prim.rw (square, linear) (record {
+      second = c.in_ok-square.ensures;
+      first = c.in_ok-linear.ensures;
+      constant = (c.in_ok-_constant._constant, subst (λ (col : ℕ). IsSign r col c.in_ok-_constant._constant) c.degree_column.ensures c.in_ok-_constant.ensures);
+      higher = c.in_ok-pass_higher.ensures;
+    })
