@@ -8,6 +8,8 @@ ghost use Rattle.cost_reading.specs.CostRows.{IsCostOf, IsCostFault, row_at};
 mod cells;
 mod points;
 mod polynomials;
+#[cfg(test)]
+mod tests;
 
 use case_text::RawCosts;
 use cells::{MODEL, number};
