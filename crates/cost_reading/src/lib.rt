@@ -5,9 +5,18 @@
 ghost use Rattle.std.specs.Prelude.{◌≡◌, ◌≤◌, length, MatchResult};
 ghost use Rattle.cost_reading.specs.CostRows.{IsCostOf, IsCostFault, row_at};
 
+mod cells;
+mod points;
+mod polynomials;
+#[cfg(test)]
+mod tests;
+
 use case_text::RawCosts;
+use cells::{MODEL, number};
 use cost_steps::Cost;
 use plain_list::Memory;
+use points::segments;
+use polynomials::polynomial;
 use record_reading::Why;
 use std::alloc::Global;
 use thiserror::Error;
@@ -54,10 +63,26 @@ impl From<Memory> for CostFault {
     }
 }
 
+impl From<RowFault> for CostFault {
+    ghost use Rattle.cost_reading.specs.declared.CostFault.TheVariants as cost_fault;
+
+    ghost from_gives = { λ fault told. told ≡ cost_fault.Row fault };
+
+    fn from(fault: RowFault) -> CostFault {
+        CostFault::Row { fault }
+    }
+}
+
 /// Reads the cost that a row says, the first row being 1. `Memory` may come at any row.
 pub fn cost_of_row(alloc: Global, costs: &RawCosts<'_>, row: usize) -> Result<Cost, CostFault>
     requires { (1 ≤ row) × (row ≤ length costs.now) }
     ensures { MatchResult result (IsCostOf (row_at costs.now row)) (IsCostFault (row_at costs.now row)) }
 {
-    Err(CostFault::Memory)
+    match number(costs, row, MODEL, 0)? {
+        1 => segments(alloc, costs, row),
+        2 => polynomial(costs, row),
+        _ => Err(CostFault::Row {
+            fault: RowFault::Model,
+        }),
+    }
 }

@@ -1,0 +1,4 @@
+mod Counts
+mod Degrees
+mod Faults
+mod Reading
