@@ -1,0 +1,4 @@
+mod AddLemmas
+mod NetworkUnits
+mod OfferLemmas
+mod Stairs
