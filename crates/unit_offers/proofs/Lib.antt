@@ -1,4 +1,4 @@
-mod AddLemmas
 mod NetworkUnits
 mod OfferLemmas
+mod RangeEnds
 mod Stairs

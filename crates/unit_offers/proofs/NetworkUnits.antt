@@ -1,14 +1,13 @@
 -- The units of a network have ranges.
-use Rattle.std.specs.Prelude.{◌≡◌, ℕ, ◌<◌, ◌≤◌, ◌^◌, ℤ, pos, ◌+ℤ◌, ◌-ℤ◌, ◌≤ℤ◌, ◌<ℤ◌, unsigned_abs, Bool, true, false, List, length, map, slice_index_or, if◌then◌else◌}
+use Rattle.std.specs.Prelude.{◌≡◌, ℕ, ◌<◌, ◌≤◌, ℤ, pos, ◌+ℤ◌, ◌-ℤ◌, ◌≤ℤ◌, ◌<ℤ◌, Bool, true, false, length, map, slice_index_or, if◌then◌else◌}
 use Rattle.std.specs.Int.Signed.{lt_z, lt_z_no, lt_z_yes}
-use Rattle.std.proofs.Common.{arith, ap, sym, ◌∙◌, subst, refl}
+use Rattle.std.proofs.Common.{arith, sym, subst, refl}
 use Rattle.std.proofs.lemmas.Int.{ints}
 use Rattle.std.proofs.lemmas.List.{get_or-map, length-map}
 use Rattle.market_data.specs.Participants.{IsDatum}
-use Rattle.market_data.specs.declared.participants.Unit as unit
 use Rattle.net_case.specs.declared.live_parts.NetUnit.{NetUnit}
-use Rattle.net_case.specs.Networks.{LiveNetwork, IsNetwork, IsNetUnit}
-use Rattle.net_case.specs.NetworkReading.{nearest_0, unit_within, unit_list_of}
+use Rattle.net_case.specs.Networks.{IsNetUnit}
+use Rattle.net_case.specs.NetworkReading.{nearest_0, unit_within}
 use Rattle.unit_offers.specs.UnitOffers.{HasBounds, IsRanged}
 use Rattle.unit_offers.specs.OfferLaws.{LawOfNetworkUnits}
 

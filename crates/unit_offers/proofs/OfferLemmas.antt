@@ -1,5 +1,5 @@
 -- The offers of some units, of one more, and why there are none.
-use Rattle.std.specs.Prelude.{◌≡◌, ⊤, ◌⊎◌, ℕ, ◌+◌, ◌<◌, ◌≤◌, List, [], ◌∷◌, ◌++◌, length, take}
+use Rattle.std.specs.Prelude.{◌≡◌, ℕ, ◌+◌, ◌<◌, ◌≤◌, List, [], ◌∷◌, ◌++◌, length, take}
 use Rattle.std.specs.List.{AllZip, Contains}
 use Rattle.std.proofs.Common.{arith, ap, sym, ◌∙◌, subst, inl, inr, append_assoc, suc}
 use Rattle.std.proofs.lemmas.List.{append-nil, length-append}
@@ -46,8 +46,11 @@ module _ (costs : List Record) (count : ℕ) (units : List unit.Unit) (place : �
   at_place : blocks_from 0 (are.steps ++ steps ∷ []) ≡ old.blocks ++ unit_blocks place steps
   at_place =
       blocks-more 0 are.steps steps
-      ∙ ap (λ n. blocks_from 0 are.steps ++ unit_blocks n steps) (AllZip-long (AreStepsOf costs count) units are.steps are.are ∙ long)
+      ∙ ap (λ n. blocks_from 0 are.steps ++ unit_blocks n steps) (from_zero (length are.steps) ∙ AllZip-long (AreStepsOf costs count) units are.steps are.are ∙ long)
       ∙ ap (λ bs. bs ++ unit_blocks place steps) (sym are.blocks)
+    where
+      from_zero : (n : ℕ) → 0 + n ≡ n
+      from_zero n = Prim.omega arith
 
   zip_more : AllZip (AreStepsOf costs count) (units ++ u ∷ []) (are.steps ++ steps ∷ [])
   zip_more = all_zipped_more (AreStepsOf costs count) units are.steps u steps are.are more
@@ -79,7 +82,7 @@ unit-stop list costs count u (stop.TooFew rows) c (inr h) = absurd h.3
 unit-stop list costs count u (stop.Cost row f) c (inl h) = (u, c, h)
 unit-stop list costs count u (stop.Cost row f) c (inr h) = absurd h.3
 unit-stop list costs count u (stop.Price row) c (inl h) = absurd h
-unit-stop list costs count u (stop.Price row) c (inr h) = (u, c, h)
+unit-stop list costs count u (stop.Price row) c (inr h) = (u, c, h.0, h.1, h.2, h.3)
 unit-stop list costs count u stop.TooMany c (inl h) = absurd h
 unit-stop list costs count u stop.TooMany c (inr h) = absurd h.3
 unit-stop list costs count u stop.Memory c h = tt

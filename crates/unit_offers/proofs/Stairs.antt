@@ -1,15 +1,13 @@
 -- The blocks of a unit's side among the offers of all, and what they keep.
-use Rattle.std.specs.Prelude.{◌≡◌, ◌≢◌, ◌⊎◌, ℕ, ◌+◌, ◌<◌, ◌≤◌, ◌==◌, ◌&&◌, ℤ, pos, ◌+ℤ◌, ◌-ℤ◌, ◌≤ℤ◌, ◌<ℤ◌, Bool, true, false, cond, List, [], ◌∷◌, ◌++◌, length, map, filter, All, AllPairs, slice_index_or}
+use Rattle.std.specs.Prelude.{◌≡◌, ◌≢◌, ℕ, ◌+◌, ◌<◌, ◌≤◌, ◌&&◌, ℤ, pos, ◌+ℤ◌, ◌-ℤ◌, ◌≤ℤ◌, ◌<ℤ◌, Bool, true, false, cond, List, [], ◌∷◌, ◌++◌, length, map, filter, All, AllPairs}
 use Rattle.std.specs.List.{AllZip}
-use Rattle.std.proofs.Common.{zero, suc, arith, ap, sym, ◌∙◌, subst, subst₂, refl, inl, inr, get_or}
+use Rattle.std.proofs.Common.{zero, suc, arith, ap, sym, ◌∙◌, subst, subst₂, refl, get_or}
 use Rattle.std.proofs.lemmas.Int.{ints}
 use Rattle.std.proofs.lemmas.Bool.{eq-eqb, ne_eqb}
 use Rattle.std.proofs.lemmas.List.{append-nil, get_or-map, length-map}
 use Rattle.std.proofs.lemmas.List.Elements.{All-append, All-cons, All-head, All-nil, All-tail, filter-append}
 use Rattle.std.proofs.lemmas.Slice.Zip.{AllZip-long}
 use Rattle.record_reading.specs.Records.{Record}
-use Rattle.market_data.specs.Participants.{IsDatum}
-use Rattle.market_data.specs.Scales.{most_blocks}
 use Rattle.market_data.specs.WholeSums.{int_sum}
 use Rattle.market_data.specs.declared.participants.Unit as unit
 use Rattle.market_data.specs.declared.participants.UnitList.{UnitList}
@@ -23,12 +21,12 @@ use Rattle.cost_steps.specs.declared.steps.Step.{Step}
 use Rattle.cost_steps.specs.Parts.{Part}
 use Rattle.cost_steps.specs.Steps.{AreInOrder, IsStepOf}
 use Rattle.offer_book.specs.EditLaws.{block_prices, IsOfferCurve}
-use Rattle.offer_book.specs.Offers.{AreBlocks, InOrder}
+use Rattle.offer_book.specs.Offers.{InOrder}
 use Rattle.offer_book.specs.OfferTable.{unit_of_place}
 use Rattle.unit_offers.specs.declared.unit_steps.UnitSteps.{UnitSteps}
 use Rattle.unit_offers.specs.declared.offers.UnitOffers.{UnitOffers}
 use Rattle.unit_offers.specs.UnitOffers.{AreSideSteps, AreStepsOf, AreUnitOffers, block_of, blocks_from, range_of, side_parts, unit_blocks}
-use Rattle.unit_offers.specs.OfferLaws.{AreMarketOffers, LawOfUnitOffers}
+use Rattle.unit_offers.specs.OfferLaws.{LawOfUnitOffers}
 
 abbrev steps_on : Side → UnitSteps → List Step
 steps_on Sell steps = steps.sells
@@ -190,7 +188,11 @@ module _ (list : UnitList) (costs : List Record) (count : ℕ) (offers : UnitOff
   own-are = zip-at (AreStepsOf costs count) list.units is.steps place _ no_steps is.are lt
 
   stair-is : stair_in place side offers.blocks ≡ map (block_of place side) (steps_on side own)
-  stair-is = ap (stair_in place side) is.blocks ∙ unit-stair side 0 place is.steps no_steps (subst (λ n. place < n) (sym (AllZip-long (AreStepsOf costs count) list.units is.steps is.are)) lt)
+  stair-is = ap (stair_in place side) is.blocks ∙ subst (λ p. stair_in p side (blocks_from 0 is.steps) ≡ map (block_of p side) (steps_on side own)) (from_zero place)
+      (unit-stair side 0 place is.steps no_steps (subst (λ n. place < n) (sym (AllZip-long (AreStepsOf costs count) list.units is.steps is.are)) lt))
+    where
+      from_zero : (n : ℕ) → 0 + n ≡ n
+      from_zero n = Prim.omega arith
 
   pub all-room : offered (stair_in place side offers.blocks) ≡ room_of side u
   all-room = ap offered stair-is ∙ offered-steps place side (steps_on side own) ∙ (side-steps costs count side u own own-are).go.total ∙ side-room side u

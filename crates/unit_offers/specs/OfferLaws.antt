@@ -1,5 +1,5 @@
 -- Laws of the offers.
-use Rattle.std.specs.Prelude.{◌≡◌, ℕ, ◌<◌, ◌≤◌, List, length, All, AllPairs}
+use Rattle.std.specs.Prelude.{◌≡◌, ℕ, ◌<◌, List, length, All}
 use Rattle.record_reading.specs.Records.{Record}
 use Rattle.market_data.specs.declared.participants.Unit as unit
 use Rattle.market_data.specs.declared.participants.UnitList.{UnitList}

@@ -2,7 +2,7 @@
 -- bids from there down to PMIN. Row i of gencost has the costs of the unit in row i of gen; rows behind those have costs of reactive power,
 -- and are read past.
 -- Source: MATPOWER User's Manual, the generator cost data of a case; own names.
-use Rattle.std.specs.Prelude.{◌≡◌, ◌≢◌, ⊤, ◌⊎◌, ℕ, ◌+◌, ◌<◌, ◌≤◌, ℤ, pos, ◌+ℤ◌, ◌-ℤ◌, ◌≤ℤ◌, not, List, [], ◌∷◌, ◌++◌, length, map, take}
+use Rattle.std.specs.Prelude.{◌≡◌, ◌≢◌, ⊤, ◌⊎◌, ℕ, ◌+◌, ◌<◌, ◌≤◌, pos, ◌+ℤ◌, ◌-ℤ◌, ◌≤ℤ◌, not, List, [], ◌∷◌, ◌++◌, length, map, take}
 use Rattle.std.specs.List.{AllZip, Any, Contains, count_by}
 use Rattle.record_reading.specs.Records.{Record}
 use Rattle.market_data.specs.Participants.{IsDatum}
