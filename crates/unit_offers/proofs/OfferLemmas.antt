@@ -12,7 +12,8 @@ use Rattle.unit_offers.specs.declared.unit_steps.UnitSteps.{UnitSteps}
 use Rattle.unit_offers.specs.declared.offers.UnitOffers.{UnitOffers}
 use Rattle.unit_offers.specs.declared.stops.OfferStop.{OfferStop}
 use Rattle.unit_offers.specs.declared.stops.OfferStop.TheVariants as stop
-use Rattle.unit_offers.specs.UnitOffers.{AreStepsOf, AreTooMany, AreUnitBlocks, AreUnitOffers, IsAddStop, IsOfferStop, IsUnitStop, IsWithin, blocks_from, rounded_in, rounded_of, unit_blocks}
+use Rattle.unit_offers.specs.Adding.{AreUnitBlocks, IsAddStop, IsUnitStop, IsWithin}
+use Rattle.unit_offers.specs.UnitOffers.{AreStepsOf, AreTooMany, AreUnitOffers, IsOfferStop, blocks_from, rounded_in, rounded_of, unit_blocks}
 
 -- ---- blocks of one unit more
 blocks-more : (place : ℕ) (each : List UnitSteps) (steps : UnitSteps) → blocks_from place (each ++ steps ∷ []) ≡ blocks_from place each ++ unit_blocks (place + length each) steps

@@ -2,7 +2,7 @@
 -- bids from there down to PMIN. Row i of gencost has the costs of the unit in row i of gen; rows behind those have costs of reactive power,
 -- and are read past.
 -- Source: MATPOWER User's Manual, the generator cost data of a case; own names.
-use Rattle.std.specs.Prelude.{◌≡◌, ◌≢◌, ⊤, ◌⊎◌, ℕ, ◌+◌, ◌<◌, ◌≤◌, pos, ◌+ℤ◌, ◌-ℤ◌, ◌≤ℤ◌, not, List, [], ◌∷◌, ◌++◌, length, map, take}
+use Rattle.std.specs.Prelude.{◌≡◌, ◌≢◌, ⊤, ℕ, ◌+◌, ◌<◌, ◌≤◌, pos, ◌+ℤ◌, ◌-ℤ◌, ◌≤ℤ◌, not, List, [], ◌∷◌, ◌++◌, length, map, take}
 use Rattle.std.specs.List.{AllZip, Any, Contains, count_by}
 use Rattle.record_reading.specs.Records.{Record}
 use Rattle.market_data.specs.Participants.{IsDatum}
@@ -109,10 +109,6 @@ IsSideStop count cost u side (stop.TooFew rows) = ⊥
 IsSideStop count cost u side stop.TooMany = ⊥
 IsSideStop count cost u side stop.Memory = ⊤
 
--- why a unit has no steps
-abbrev pub IsUnitStop : List Record → ℕ → unit.Unit → OfferStop → Type 0
-IsUnitStop costs count u told = IsCostStop costs u.row told ⊎ ((cost : Cost) × IsCostOf (row_at costs u.row) cost × (side : Side) × IsSideStop count cost u side told)
-
 -- the first units have steps, which are more than the blocks of a market
 pub record AreTooMany (list : UnitList) (costs : List Record) (count : ℕ) : Type 0 where
   pub units : ℕ
@@ -128,22 +124,3 @@ IsOfferStop list costs count (stop.Price row) =
     (u : unit.Unit) × Contains list.units u × (cost : Cost) × IsCostOf (row_at costs u.row) cost × (side : Side) × IsSideStop count cost u side (stop.Price row)
 IsOfferStop list costs count stop.TooMany = AreTooMany list costs count
 IsOfferStop list costs count stop.Memory = ⊤
-
--- ---- while blocks are added
-pub record IsWithin (offers : UnitOffers) : Type 0 where
-  pub few : length offers.blocks ≤ most_blocks
-  pub rounded : offers.rounded ≤ length offers.blocks
-
--- the blocks of steps were added
-pub record AreAdded (place : ℕ) (side : Side) (steps : List Step) (old new : UnitOffers) : Type 0 where
-  pub blocks : new.blocks ≡ old.blocks ++ map (block_of place side) steps
-  pub rounded : new.rounded ≡ old.rounded + rounded_in steps
-
--- those of a unit
-pub record AreUnitBlocks (place : ℕ) (steps : UnitSteps) (old new : UnitOffers) : Type 0 where
-  pub blocks : new.blocks ≡ old.blocks ++ unit_blocks place steps
-  pub rounded : new.rounded ≡ old.rounded + (rounded_in steps.sells + rounded_in steps.bids)
-
--- why so many more blocks were not added
-abbrev pub IsAddStop : UnitOffers → ℕ → OfferStop → Type 0
-IsAddStop old more told = (told ≡ stop.Memory) ⊎ ((told ≡ stop.TooMany) × (most_blocks < length old.blocks + more))

@@ -2,7 +2,8 @@
 
 ghost use Rattle.std.specs.Prelude.{◌≡◌, ◌≤◌, ◌<◌, [], ◌∷◌, length, All, Err, IfOk, MatchResult};
 ghost use Rattle.market_data.specs.Scales.{most_blocks};
-ghost use Rattle.unit_offers.specs.UnitOffers.{AreAdded, AreUnitOffers, AreUnitBlocks, IsAddStop, IsOfferStop, IsRanged, IsWithin, unit_blocks};
+ghost use Rattle.unit_offers.specs.Adding.{AreAdded, AreUnitBlocks, IsAddStop, IsWithin};
+ghost use Rattle.unit_offers.specs.UnitOffers.{AreUnitOffers, IsOfferStop, IsRanged, unit_blocks};
 ghost use Rattle.unit_offers.specs.declared.stops.OfferStop.TheVariants as stop;
 
 use crate::stops::OfferStop;

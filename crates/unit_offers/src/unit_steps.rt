@@ -3,7 +3,8 @@
 ghost use Rattle.std.specs.Prelude.{◌≡◌, ◌≤◌, length, MatchResult};
 ghost use Rattle.cost_steps.specs.Costs.{IsCost};
 ghost use Rattle.cost_reading.specs.CostRows.{IsCostOf, row_at};
-ghost use Rattle.unit_offers.specs.UnitOffers.{AreSideSteps, AreStepsOf, HasBounds, IsCostStop, IsSideStop, IsUnitStop};
+ghost use Rattle.unit_offers.specs.Adding.{IsUnitStop};
+ghost use Rattle.unit_offers.specs.UnitOffers.{AreSideSteps, AreStepsOf, HasBounds, IsCostStop, IsSideStop};
 
 use crate::ranges::range_of;
 use crate::stops::OfferStop;

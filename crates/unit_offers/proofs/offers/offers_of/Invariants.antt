@@ -1,5 +1,5 @@
 use Rattle.std.proofs.Common.{take}
-use Rattle.unit_offers.specs.UnitOffers.{IsWithin}
+use Rattle.unit_offers.specs.Adding.{IsWithin}
 use Rattle.unit_offers.proofs.OfferLemmas.{AreOffered}
 use Rattle.unit_offers.proofs.offers.offers_of.Given as goal
 

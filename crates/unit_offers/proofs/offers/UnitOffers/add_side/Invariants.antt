@@ -1,5 +1,5 @@
 use Rattle.std.proofs.Common.{◌≡◌, ◌≤◌, ◌+◌, length, take}
-use Rattle.unit_offers.specs.UnitOffers.{AreAdded}
+use Rattle.unit_offers.specs.Adding.{AreAdded}
 use Rattle.unit_offers.proofs.offers.UnitOffers.add_side.Given as goal
 
 -- the blocks of the steps so far were added
