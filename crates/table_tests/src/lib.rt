@@ -2,6 +2,8 @@
 #![tactic(auto)]
 
 #[cfg(test)]
+mod cost_offers;
+#[cfg(test)]
 mod edits;
 #[cfg(test)]
 mod factors;

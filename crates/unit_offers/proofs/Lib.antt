@@ -1,0 +1,4 @@
+mod NetworkUnits
+mod OfferLemmas
+mod RangeEnds
+mod Stairs
