@@ -1,0 +1,3 @@
+mod NumbersRead
+mod TablesRead
+mod OffersRead

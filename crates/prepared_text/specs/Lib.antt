@@ -1,0 +1,2 @@
+pub mod OfferText
+pub mod OfferLaws
