@@ -1,3 +1,5 @@
 mod NumbersRead
 mod TablesRead
+mod StairsRead
 mod OffersRead
+mod UnitRows

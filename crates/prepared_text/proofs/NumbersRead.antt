@@ -205,6 +205,9 @@ pub record IsCellText (text : List ℕ) : Type 0 where
   pub some : 0 < length text
   pub bytes : list_all is_cell_byte text ≡ true
 
+pub word : (text : List ℕ) → 0 < length text → list_all is_cell_byte text ≡ true → IsCellText text
+word text some bytes = record { some = some; bytes = bytes }
+
 digit-is-byte : (c : ℕ) → is_ascii_digit c ≡ true → is_cell_byte c ≡ true
 digit-is-byte c h =
     let both = and_parts _ _ h in
