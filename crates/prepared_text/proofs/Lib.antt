@@ -3,3 +3,5 @@ mod TablesRead
 mod StairsRead
 mod OffersRead
 mod UnitRows
+mod OutagesRead
+mod PenaltyLines

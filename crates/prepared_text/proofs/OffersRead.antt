@@ -33,10 +33,7 @@ use Rattle.prepared_text.specs.OfferText.{offer_line, offer_text, side_word, ste
 use Rattle.prepared_text.specs.OfferLaws.{HaveGenRows, LawOfOffersRead, ObeyOfferRules}
 use Rattle.prepared_text.proofs.NumbersRead.{IsCellText, word, decimal-cell, decimal-read, number-cell, number-read}
 use Rattle.prepared_text.proofs.StairsRead.{block-fits, block-follows, not-less}
-use Rattle.prepared_text.proofs.TablesRead.{IsPlainRecord, cells_line, table-framed}
-
-pub then-ok : {A B F : Type 0} (first : Result A F) (x : A) (next : A → Result B F) (r : Result B F) → first ≡ Ok x → next x ≡ r → and_then first next ≡ r
-then-ok first x next r e n = ap (λ s. and_then s next) e ∙ n
+use Rattle.prepared_text.proofs.TablesRead.{IsPlainRecord, cells_line, table-framed, then-ok}
 
 -- ---- the cells of a block
 abbrev step_cells : ℕ → Block → Record

@@ -1,9 +1,10 @@
 -- Tables whose cells are plain are read as their records.
-use Rattle.std.proofs.Common.{◌≡◌, ◌≢◌, ℕ, ◌+◌, ◌<◌, ◌≤◌, true, false, List, [], ◌∷◌, ◌++◌, length, map, get_or, arith, refl, sym, ap, ◌∙◌, Ok, append_assoc}
+use Rattle.std.proofs.Common.{◌≡◌, ◌≢◌, ℕ, ◌+◌, ◌<◌, ◌≤◌, true, false, List, [], ◌∷◌, ◌++◌, length, map, get_or, arith, refl, sym, ap, ◌∙◌, Result, Ok, append_assoc}
 use Rattle.std.specs.Prelude.{◌&&◌, codes, nat_lt, Option, IfSome}
 use Rattle.std.specs.List.{AllByRecursion, flat_map, list_all}
 use Rattle.std.proofs.lemmas.Bool.{and_parts, ltb-true}
 use Rattle.record_reading.specs.Records.{Record}
+use Rattle.record_reading.specs.Steps.{and_then}
 use Rattle.csv_table.specs.Table.{frame_of, table_of}
 use Rattle.table_grammar.specs.Cells.{Cells, IsPlain, IsPlainText, IsRecord, AreCells, IsNoEmptyLine, cells_text, comma, only, plain, record_of, LastIsClosed}
 use Rattle.table_grammar.specs.TableTexts.{AreLines, IsTable, Lines, feed, line, lines_text, no_lines, records_of}
@@ -83,9 +84,9 @@ lines-are (r ∷ rs) are = ((are-cells r are.0.cells, no-empty r are.0), last-cl
 -- it begins with no mark
 small-first : (bytes rest : List ℕ) (b : ℕ) → is_cell_byte b ≡ true → b ∷ bytes ≢ 239 ∷ 187 ∷ 191 ∷ rest
 small-first bytes rest b is e =
-    let under : b < 128 = ltb-true b 128 (and_parts _ _ is).1 in
+    let under : b < 128 = ltb-true b 128 (and_parts (nat_lt 44 b) (nat_lt b 128) is).1 in
     let first : b ≡ 239 = ap (λ (bs : List ℕ). get_or bs 0 0) e in
-    omega (arith, under, first)
+    absurd (omega (arith, under, first))
 
 unmarked : (r : Record) (rs : List Record) (rest : List ℕ) → IsPlainRecord r → lines_text (lines_of (r ∷ rs)) ≢ 239 ∷ 187 ∷ 191 ∷ rest
 unmarked [] rs rest is = absurd (omega (arith, is.some))
@@ -117,3 +118,7 @@ table-derived header most rs is are wide few = record {
 pub table-framed : (header : Record) (most : Option ℕ) (rs : List Record) → IsPlainRecord header → AllByRecursion IsPlainRecord rs → AllByRecursion (λ r. length r ≡ length header) rs
     → IfSome most (λ limit. length rs ≤ limit) → frame_of header most (table_of (flat_map cells_line (header ∷ rs))) ≡ Ok rs
 table-framed header most rs is are wide few = table-read header most (flat_map cells_line (header ∷ rs)) rs (table-derived header most rs is are wide few)
+
+-- ---- one step and the next
+pub then-ok : {A B F : Type 0} (first : Result A F) (x : A) (next : A → Result B F) (r : Result B F) → first ≡ Ok x → next x ≡ r → and_then first next ≡ r
+then-ok first x next r e n = ap (λ s. and_then s next) e ∙ n

@@ -4,5 +4,9 @@
 mod begun;
 pub mod laws;
 mod offers;
+mod outages;
+mod penalties;
 
 pub use offers::offers_text;
+pub use outages::outages_text;
+pub use penalties::penalties_text;
