@@ -5,3 +5,5 @@ mod OffersRead
 mod UnitRows
 mod OutagesRead
 mod PenaltyLines
+mod LiveBranches
+mod ChosenRead
