@@ -5,5 +5,7 @@ mod OffersRead
 mod UnitRows
 mod OutagesRead
 mod PenaltyLines
+mod SoftEntries
+mod PenaltiesRead
 mod LiveBranches
 mod ChosenRead

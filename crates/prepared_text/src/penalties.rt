@@ -1,10 +1,9 @@
 //! Writing tables of penalties.
 
-ghost use Rattle.std.specs.Prelude.{◌≡◌, ◌++◌, codes, is_some, IfOk, if◌then◌else◌, []};
+ghost use Rattle.std.specs.Prelude.{◌≡◌, ◌++◌, codes, IfOk};
 ghost use Rattle.std.specs.List.{flat_map};
 ghost use Rattle.line_text.specs.Decimals.{decimal_text};
 ghost use Rattle.market_data.specs.Scales.{mw_places, price_places};
-ghost use Rattle.factor_tables.specs.Penalties.{branch_limit};
 ghost use Rattle.prepared_text.specs.PenaltyText.{branch_lines, limit_word, penalty_line, penalty_text};
 
 use crate::begun::begun;
@@ -45,24 +44,17 @@ fn put_penalty(text: &mut Text, row: u32, post: bool, softness: Softness) -> Res
     text.word(b"\n")
 }
 
-/// The line of one of a branch's two limits, where it has it.
-fn put_if(text: &mut Text, has: bool, row: u32, post: bool, softness: Softness) -> Result<(), Memory>
-    ensures { IfOk result (λ _. text.new ≡ text.old ++ (if has then penalty_line ((row, post), softness) else [])) }
-{
-    if has {
-        put_penalty(text, row, post, softness)
-    } else {
-        Ok(())
-    }
-}
-
 /// The lines of the limits that a branch has.
-#[tactic(auto, using(std::proofs::Common::append_assoc, crate::proofs::PenaltyLines::branch_lines_are))]
 fn put_branch(text: &mut Text, branch: &NetBranch, softness: Softness) -> Result<(), Memory>
     ensures { IfOk result (λ _. text.new ≡ text.old ++ branch_lines softness branch.now) }
 {
-    put_if(text, branch.base.is_some(), branch.row, false, softness)?;
-    put_if(text, branch.post.is_some(), branch.row, true, softness)
+    if branch.base.is_some() {
+        put_penalty(text, branch.row, false, softness)?;
+    }
+    if branch.post.is_some() {
+        put_penalty(text, branch.row, true, softness)?;
+    }
+    Ok(())
 }
 
 /// The lines of the limits of branches.
