@@ -1,0 +1,11 @@
+mod NumbersRead
+mod TablesRead
+mod StairsRead
+mod OffersRead
+mod UnitRows
+mod OutagesRead
+mod PenaltyLines
+mod SoftEntries
+mod PenaltiesRead
+mod LiveBranches
+mod ChosenRead
