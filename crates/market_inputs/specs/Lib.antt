@@ -4,6 +4,7 @@ pub mod Clearing
 pub mod Files
 pub mod Making
 pub mod Pooling
+pub mod Preparing
 pub mod Replaying
 pub mod RightsInputs
 pub mod Steps

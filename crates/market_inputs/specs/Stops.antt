@@ -2,6 +2,8 @@
 use Rattle.std.specs.Prelude.{Result, Ok, Err}
 use Rattle.case_text.specs.declared.CaseFault.{CaseFault}
 use Rattle.case_text.specs.declared.CaseFault.TheVariants as case
+use Rattle.case_text.specs.declared.costs.CostsFault.{CostsFault}
+use Rattle.case_text.specs.declared.costs.CostsFault.TheVariants as costs
 use Rattle.net_case.specs.declared.live_parts.NetFault.{NetFault}
 use Rattle.net_case.specs.declared.live_parts.NetFault.TheVariants as net
 use Rattle.net_paths.specs.declared.connection.PathStop.{PathStop}
@@ -38,6 +40,10 @@ IsToldAs holds (Err stop.Memory) = Unit {0}
 abbrev pub case_stop : CaseFault → InputStop
 case_stop case.Memory = stop.Memory
 case_stop f = stop.Refused (refusal.Case f)
+
+abbrev pub costs_stop : CostsFault → InputStop
+costs_stop (costs.Text case.Memory) = stop.Memory
+costs_stop f = stop.Refused (refusal.Costs f)
 
 abbrev pub net_stop : NetFault → InputStop
 net_stop net.Memory = stop.Memory

@@ -3,7 +3,7 @@
 ghost use Rattle.std.specs.Prelude.{◌≡◌};
 ghost use Rattle.market_inputs.specs.Stops.{table_stop_of};
 
-use case_text::CaseFault;
+use case_text::{CaseFault, CostsFault};
 use cert_format::CertFault;
 use edit_table::StepFault;
 use factor_tables::TableFault;
@@ -41,6 +41,21 @@ impl From<CaseFault> for InputStop {
         match fault {
             CaseFault::Memory => InputStop::Memory,
             _ => InputStop::Refused(Refusal::Case(fault)),
+        }
+    }
+}
+
+impl From<CostsFault> for InputStop {
+    ghost use Rattle.market_inputs.specs.Stops.{costs_stop};
+
+    ghost from_gives = { λ fault stop. stop ≡ costs_stop fault };
+
+    fn from(fault: CostsFault) -> InputStop {
+        match fault {
+            CostsFault::Text {
+                fault: CaseFault::Memory,
+            } => InputStop::Memory,
+            _ => InputStop::Refused(Refusal::Costs(fault)),
         }
     }
 }

@@ -31,6 +31,14 @@ use Rattle.edit_table.specs.declared.StepFault.{StepFault}
 use Rattle.edit_table.specs.declared.StepFault.TheVariants as step_fault
 use Rattle.cert_format.specs.declared.certificate.Key.{Key}
 use Rattle.cert_format.specs.declared.certificate.Key.TheVariants as key
+use Rattle.case_text.specs.declared.costs.CostsFault.{CostsFault}
+use Rattle.case_text.specs.declared.costs.CostsFault.TheVariants as costs_fault
+use Rattle.cost_reading.specs.declared.RowFault.{RowFault}
+use Rattle.cost_reading.specs.declared.RowFault.TheVariants as row_fault
+use Rattle.cost_reading.specs.declared.CostFault.{CostFault}
+use Rattle.cost_reading.specs.declared.CostFault.TheVariants as cost_fault
+use Rattle.unit_offers.specs.declared.stops.OfferStop.{OfferStop}
+use Rattle.unit_offers.specs.declared.stops.OfferStop.TheVariants as offer_stop
 use Rattle.refusal_text.specs.declared.refusals.FactorFault.{FactorFault}
 use Rattle.refusal_text.specs.declared.refusals.FactorFault.TheVariants as factor_fault
 use Rattle.refusal_text.specs.declared.refusals.Input.{Input}
@@ -155,6 +163,33 @@ unfoldable pub factor_words : FactorFault → List ℕ
 factor_words (factor_fault.TooMany count) = codes "TooMany count " ++ decimal count
 factor_words (factor_fault.NotPositive branch) = codes "NotPositive branch " ++ decimal branch
 
+-- what is wrong with the rows of costs
+unfoldable pub costs_words : CostsFault → List ℕ
+costs_words (costs_fault.Text f) = case_words f
+costs_words costs_fault.Twice = codes "Twice gencost"
+costs_words (costs_fault.Ragged row) = codes "Ragged gencost row " ++ decimal row
+
+-- with one of them
+unfoldable pub row_cost_words : RowFault → List ℕ
+row_cost_words (row_fault.Cell col w) = codes "Cell col " ++ decimal col ++ codes " " ++ why_name w
+row_cost_words row_fault.Model = codes "Model"
+row_cost_words row_fault.Count = codes "Count"
+row_cost_words row_fault.Degree = codes "Degree"
+
+unfoldable pub cost_words : CostFault → List ℕ
+cost_words (cost_fault.Row f) = row_cost_words f
+cost_words cost_fault.Outputs = codes "Outputs"
+cost_words cost_fault.Slopes = codes "Slopes"
+cost_words cost_fault.Memory = []
+
+-- what is against making offers of costs
+unfoldable pub unoffered_words : OfferStop → List ℕ
+unoffered_words (offer_stop.TooFew rows) = codes "TooFew gencost rows " ++ decimal rows
+unoffered_words (offer_stop.Cost unit f) = codes "Cost unit " ++ decimal unit ++ codes " " ++ cost_words f
+unoffered_words (offer_stop.Price unit) = codes "Price unit " ++ decimal unit
+unoffered_words offer_stop.TooMany = codes "TooMany blocks"
+unoffered_words offer_stop.Memory = []
+
 -- the first part of a certificate's text that is at fault
 abbrev pub key_name : Key → List ℕ
 key_name key.Json = codes "json"
@@ -192,6 +227,9 @@ file_name (refusal.Outages f) = codes "contingencies "
 file_name (refusal.UnitOutages f) = codes "unit-outages "
 file_name (refusal.Uncovered lack) = codes "factors "
 file_name (refusal.Factors f) = codes "factors "
+file_name (refusal.Costs f) = codes "case "
+file_name refusal.NoCosts = codes "case "
+file_name (refusal.Unoffered why) = codes "case "
 file_name (refusal.Offers f) = codes "offers "
 file_name (refusal.Reserves f) = codes "reserves "
 file_name (refusal.Rights f) = codes "rights "
@@ -209,6 +247,9 @@ fault_words (refusal.Outages f) = outage_words f
 fault_words (refusal.UnitOutages f) = unit_outage_words f
 fault_words (refusal.Uncovered lack) = lack_words lack
 fault_words (refusal.Factors f) = factor_words f
+fault_words (refusal.Costs f) = costs_words f
+fault_words refusal.NoCosts = codes "Missing gencost"
+fault_words (refusal.Unoffered why) = unoffered_words why
 fault_words (refusal.Offers f) = offer_words f
 fault_words (refusal.Reserves f) = reserve_words f
 fault_words (refusal.Rights f) = rights_words f

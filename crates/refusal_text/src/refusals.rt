@@ -2,11 +2,12 @@
 
 ghost use Rattle.std.specs.Prelude.{◌≡◌, ◌++◌, codes, decimal, IfOk};
 ghost use Rattle.line_text.specs.Decimals.{decimal_text};
-ghost use Rattle.refusal_text.specs.Refusals.{field_name, why_name, case_words, net_words, frame_words, table_words, side_text, outage_words, unit_outage_words, lack_words, factor_words, offer_words, reserve_words, rights_words, step_words, key_name, input_name, file_name, fault_words, refusal_words, refusal_line};
+ghost use Rattle.refusal_text.specs.Refusals.{field_name, why_name, case_words, net_words, frame_words, table_words, side_text, outage_words, unit_outage_words, lack_words, factor_words, costs_words, row_cost_words, cost_words, unoffered_words, offer_words, reserve_words, rights_words, step_words, key_name, input_name, file_name, fault_words, refusal_words, refusal_line};
 ghost use Rattle.market_data.specs.Scales.{share_places};
 
-use case_text::{CaseFault, Field};
+use case_text::{CaseFault, CostsFault, Field};
 use cert_format::Key;
+use cost_reading::{CostFault, RowFault};
 use edit_table::StepFault;
 use factor_tables::{TableFault, Uncovered};
 use line_text::Text;
@@ -19,6 +20,7 @@ use record_reading::{FrameFault, Why};
 use rights_test::RightsFault;
 use scaled_decimal::DecimalFault;
 use std::alloc::Global;
+use unit_offers::OfferStop;
 
 /// A file that the words may name.
 #[derive(Clone, Copy, PartialEq, Eq, Debug)]
@@ -76,6 +78,12 @@ pub enum Refusal {
     Uncovered(Uncovered),
     /// What is against making tables of factors.
     Factors(FactorFault),
+    /// The costs of the units can't be read.
+    Costs(CostsFault),
+    /// The case sets no costs of its units.
+    NoCosts,
+    /// What is against making offers of costs.
+    Unoffered(OfferStop),
     Offers(OfferFault),
     /// What units offer of spinning reserve, and the need.
     Reserves(ReserveFault),
@@ -374,6 +382,64 @@ fn write_factor_fault(text: &mut Text, fault: FactorFault) -> Result<(), Memory>
     }
 }
 
+#[tactic(auto, using(std::proofs::Common::append_assoc), unfolding(crate::specs::Refusals::costs_words))]
+fn write_costs_fault(text: &mut Text, fault: CostsFault) -> Result<(), Memory>
+    ensures { IfOk result (λ _. text.new ≡ text.old ++ costs_words fault) }
+{
+    match fault {
+        CostsFault::Text { fault } => write_case_fault(text, fault),
+        CostsFault::Twice => text.word(b"Twice gencost"),
+        CostsFault::Ragged { row } => numbered(text, b"Ragged gencost row ", row),
+    }
+}
+
+/// What is wrong with a row of costs.
+#[tactic(auto, using(std::proofs::Common::append_assoc), unfolding(crate::specs::Refusals::row_cost_words))]
+fn write_row_fault(text: &mut Text, fault: RowFault) -> Result<(), Memory>
+    ensures { IfOk result (λ _. text.new ≡ text.old ++ row_cost_words fault) }
+{
+    match fault {
+        RowFault::Cell { col, why } => {
+            numbered(text, b"Cell col ", col)?;
+            text.word(b" ")?;
+            text.word(why_word(why))
+        }
+        RowFault::Model => text.word(b"Model"),
+        RowFault::Count => text.word(b"Count"),
+        RowFault::Degree => text.word(b"Degree"),
+    }
+}
+
+/// What is wrong with the cost of a unit.
+#[tactic(auto, using(std::proofs::Common::append_assoc), unfolding(crate::specs::Refusals::cost_words))]
+fn write_cost_fault(text: &mut Text, fault: CostFault) -> Result<(), Memory>
+    ensures { IfOk result (λ _. text.new ≡ text.old ++ cost_words fault) }
+{
+    match fault {
+        CostFault::Row { fault } => write_row_fault(text, fault),
+        CostFault::Outputs => text.word(b"Outputs"),
+        CostFault::Slopes => text.word(b"Slopes"),
+        CostFault::Memory => Ok(()),
+    }
+}
+
+#[tactic(auto, using(std::proofs::Common::append_assoc), unfolding(crate::specs::Refusals::unoffered_words))]
+fn write_unoffered(text: &mut Text, stop: OfferStop) -> Result<(), Memory>
+    ensures { IfOk result (λ _. text.new ≡ text.old ++ unoffered_words stop) }
+{
+    match stop {
+        OfferStop::TooFew { rows } => numbered(text, b"TooFew gencost rows ", rows),
+        OfferStop::Cost { unit, fault } => {
+            numbered(text, b"Cost unit ", unit as usize)?;
+            text.word(b" ")?;
+            write_cost_fault(text, fault)
+        }
+        OfferStop::Price { unit } => numbered(text, b"Price unit ", unit as usize),
+        OfferStop::TooMany => text.word(b"TooMany blocks"),
+        OfferStop::Memory => Ok(()),
+    }
+}
+
 fn key_word(key: Key) -> &'static [u8]
     ensures { result.now ≡ key_name key }
 {
@@ -416,6 +482,7 @@ fn file_word(refusal: &Refusal) -> &'static [u8]
     match refusal {
         Refusal::TooLong(input) | Refusal::Table(input, _) => input_word(*input),
         Refusal::Case(_) | Refusal::Network(_) | Refusal::Split { bus: _ } => b"case ",
+        Refusal::Costs(_) | Refusal::NoCosts | Refusal::Unoffered(_) => b"case ",
         Refusal::Outages(_) => b"contingencies ",
         Refusal::UnitOutages(_) => b"unit-outages ",
         Refusal::Uncovered(_) | Refusal::Factors(_) => b"factors ",
@@ -442,6 +509,9 @@ fn write_fault(text: &mut Text, refusal: &Refusal) -> Result<(), Memory>
         Refusal::UnitOutages(fault) => write_unit_outage_fault(text, *fault),
         Refusal::Uncovered(lack) => write_lack(text, *lack),
         Refusal::Factors(fault) => write_factor_fault(text, *fault),
+        Refusal::Costs(fault) => write_costs_fault(text, *fault),
+        Refusal::NoCosts => text.word(b"Missing gencost"),
+        Refusal::Unoffered(stop) => write_unoffered(text, *stop),
         Refusal::Offers(fault) => write_offer_fault(text, *fault),
         Refusal::Reserves(fault) => write_reserve_fault(text, *fault),
         Refusal::Rights(fault) => write_rights_fault(text, *fault),
