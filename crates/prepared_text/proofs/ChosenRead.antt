@@ -1,5 +1,5 @@
 -- The outages that are chosen are listed as they are.
-use Rattle.std.proofs.Common.{◌≡◌, ◌≢◌, ℕ, ◌+◌, ◌<◌, ◌≤◌, ◌^◌, ℤ, pos, negsuc, true, false, Bool, List, [], ◌∷◌, ◌++◌, length, map, get_or, arith, refl, sym, ap, subst, ◌∙◌, All, Result, Ok, Err, inl, inr, length-append}
+use Rattle.std.proofs.Common.{◌≡◌, ◌≢◌, ℕ, ◌+◌, ◌<◌, ℤ, pos, true, List, [], ◌∷◌, ◌++◌, length, map, get_or, arith, refl, sym, ap, subst, ◌∙◌, Result, Ok, Err, inl, inr, length-append}
 use Rattle.std.specs.Prelude.{◌⊎◌, AllPairs, Contains, unsigned_abs}
 use Rattle.std.proofs.Math.Seq.{get_or-append_seam}
 use Rattle.std.proofs.lemmas.Bool.{false≢true}
@@ -14,7 +14,7 @@ use Rattle.factor_tables.specs.Rules.{is_live_branch, is_row}
 use Rattle.outage_list.specs.Listing.{AreOutages, IsFaultOf, IsFirstFault, IsIsland, IsListed, IsOutage}
 use Rattle.outage_list.specs.declared.listing.OutageFault.{OutageFault}
 use Rattle.outage_list.specs.declared.listing.OutageFault.TheVariants as fault
-use Rattle.outage_choice.specs.Choices.{IsOutageChoice, PartsNoBus}
+use Rattle.outage_choice.specs.Choices.{IsOutageChoice}
 use Rattle.outage_choice.specs.declared.OutageChoice.{OutageChoice}
 use Rattle.outage_choice.proofs.ChoiceLemmas.{outage-parts}
 use Rattle.prepared_text.specs.OutageLaws.{AreListedAs, LawOfChosenRead}
@@ -110,12 +110,11 @@ chosen-outages network choice chosen = record {
 
 pub chosen-back : LawOfChosenRead
 chosen-back network choice is chosen count =
-    let are = chosen-outages network choice chosen in
-    (
+    let are = chosen-outages network choice chosen in (
       outages-back choice.listed count (λ k d lt.
-      let out = are.each k d lt in
-      let small = row-small network is out.branch out.live.live in
-      let row = out.live.row_is in
-      omega (arith, small, row)),
+          let out = are.each k d lt in
+          let small = row-small network is out.branch out.live.live in
+          let row = out.live.row_is in
+          omega (arith, small, row)),
       listed-as network is choice.listed are,
     )

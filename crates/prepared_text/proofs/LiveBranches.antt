@@ -1,12 +1,11 @@
 -- The rows of live branches.
-use Rattle.std.proofs.Common.{◌≡◌, ◌≢◌, ℕ, ◌<◌, ◌≤◌, ℤ, pos, true, Bool, List, length, map, get_or, arith, refl, sym, ap, subst, ◌∙◌, Option, Some, None}
+use Rattle.std.proofs.Common.{◌≡◌, ◌≢◌, ℕ, ◌<◌, ◌≤◌, pos, true, List, length, map, get_or, arith, ap, subst, ◌∙◌, Some}
 use Rattle.std.specs.Prelude.{AllPairs, Contains, is_some, slice_get}
-use Rattle.std.specs.Int.Signed.{le_z}
 use Rattle.std.proofs.lemmas.Bool.{and_from, le-leb}
 use Rattle.std.proofs.lemmas.List.{get_or-map, length-map}
 use Rattle.std.proofs.lemmas.Option.{slice_get-get_or}
 use Rattle.net_case.specs.declared.live_parts.NetBranch.{NetBranch}
-use Rattle.net_case.specs.Networks.{IsNetwork, LiveNetwork, branch_place}
+use Rattle.net_case.specs.Networks.{IsNetwork, LiveNetwork}
 use Rattle.net_case.proofs.PlaceLemmas.{place-some}
 use Rattle.factor_tables.specs.Rules.{is_live_branch, is_row}
 

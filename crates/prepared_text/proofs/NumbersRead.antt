@@ -248,6 +248,6 @@ decimal-cell places z small =
     record {
       some = simp length-append (omega (arith, some));
       bytes = both-bytes (sign_text z ++ number_text (whole places z small)) (trimmed_places places (rest places z small))
-      (both-bytes (sign_text z) (number_text (whole places z small)) (sign-bytes z) (digits-are-bytes (number_text (whole places z small)) numeral-part.digits))
-      (places-bytes places (rest places z small) (trimmed_places places (rest places z small)) (behind places z small));
+          (both-bytes (sign_text z) (number_text (whole places z small)) (sign-bytes z) (digits-are-bytes (number_text (whole places z small)) numeral-part.digits))
+          (places-bytes places (rest places z small) (trimmed_places places (rest places z small)) (behind places z small));
     }

@@ -1,39 +1,35 @@
 -- Blocks that are written are read back.
-use Rattle.std.proofs.Common.{◌≡◌, ◌≢◌, ℕ, zero, suc, ◌+◌, ◌<◌, ◌≤◌, ◌^◌, ℤ, pos, ◌+ℤ◌, Bool, true, false, List, [], ◌∷◌, ◌++◌, length, map, get_or, arith, refl, sym, ap, subst, ◌∙◌, Option, Some, None, Result, Ok, Err, append_assoc, append-nil}
-use Rattle.std.specs.Prelude.{◌==◌, ◌≤ℤ◌, ◌||◌, not, All, AllPairs, codes, decimal, if◌then◌else◌, unsigned_abs, slice_index_or}
-use Rattle.std.specs.Int.Signed.{lt_z, le_z}
+use Rattle.std.proofs.Common.{◌≡◌, ◌≢◌, ℕ, ◌+◌, ◌<◌, ◌≤◌, ◌^◌, ℤ, pos, ◌+ℤ◌, Bool, true, false, List, [], ◌∷◌, ◌++◌, length, map, get_or, arith, refl, sym, ap, subst, ◌∙◌, Some, Ok, append_assoc, append-nil}
+use Rattle.std.specs.Prelude.{◌==◌, ◌≤ℤ◌, AllPairs, codes, decimal}
+use Rattle.std.specs.Int.Signed.{lt_z}
 use Rattle.std.specs.List.{AllByRecursion, flat_map, position, position_or_len}
-use Rattle.std.proofs.lemmas.Bool.{eq-eqb, le-ltb, lt-ltb, ne_eqb}
-use Rattle.std.proofs.lemmas.Bool.Decides.{eqb_tells}
-use Rattle.std.proofs.lemmas.Int.{ints}
+use Rattle.std.proofs.lemmas.Bool.{eq-eqb, le-ltb, ne_eqb}
 use Rattle.std.proofs.lemmas.Grind.{common_steps}
 use Rattle.std.proofs.lemmas.List.{get_or-map, length-map}
 use Rattle.std.proofs.lemmas.List.Elements.{recursion_from_All}
 use Rattle.std.proofs.lemmas.List.Sums.{position_or_len_is}
 use Rattle.record_reading.specs.Records.{Record}
 use Rattle.record_reading.specs.Gathering.{gather}
-use Rattle.record_reading.specs.Steps.{and_then, checked, or_as, some_of}
+use Rattle.record_reading.specs.Steps.{and_then, or_as, some_of}
 use Rattle.scaled_decimal.specs.Reading.{units_of}
 use Rattle.csv_table.specs.Table.{framed, header_line}
 use Rattle.line_text.specs.Decimals.{decimal_text}
 use Rattle.market_data.specs.Participants.{IsDatum}
-use Rattle.market_data.specs.Scales.{most_blocks, mw_places, price_places}
+use Rattle.market_data.specs.Scales.{most_blocks}
 use Rattle.market_data.specs.declared.participants.Unit as unit
 use Rattle.market_data.specs.declared.participants.UnitList.{UnitList}
 use Rattle.market_model.specs.declared.participants.Block.{Block}
 use Rattle.market_model.specs.declared.participants.Side.{Side}
 use Rattle.market_model.specs.declared.participants.Side.TheVariants.{Sell, Buy}
-use Rattle.market_model.specs.Market.{IsBlock}
 use Rattle.market_model.specs.Stairs.{offered, room_of, stair_in}
 use Rattle.offer_book.specs.EditLaws.{HaveOfferCurves}
 use Rattle.offer_book.specs.OfferTable.{block_after, block_in, block_where, blocks_of_table, follows, last_price, offer_header, offer_in, row_in, side_in, unit_of_place}
-use Rattle.offer_book.specs.declared.offer_table.OfferFault.{OfferFault}
 use Rattle.offer_book.specs.declared.offer_table.OfferFault.TheVariants as fault
-use Rattle.prepared_text.specs.OfferText.{offer_line, offer_text, side_word, step_line}
-use Rattle.prepared_text.specs.OfferLaws.{HaveGenRows, LawOfOffersRead, ObeyOfferRules}
+use Rattle.prepared_text.specs.OfferText.{offer_line, offer_text, side_word}
+use Rattle.prepared_text.specs.OfferLaws.{HaveGenRows, LawOfOffersRead}
 use Rattle.prepared_text.proofs.NumbersRead.{IsCellText, word, decimal-cell, decimal-read, number-cell, number-read}
 use Rattle.prepared_text.proofs.StairsRead.{block-fits, block-follows, not-less}
-use Rattle.prepared_text.proofs.TablesRead.{IsPlainRecord, cells_line, table-framed, then-ok}
+use Rattle.prepared_text.proofs.TablesRead.{IsPlainRecord, cells_line, four-cells, table-framed, then-ok}
 
 -- ---- the cells of a block
 abbrev step_cells : ℕ → Block → Record
@@ -42,14 +38,11 @@ step_cells row block = decimal row ∷ side_word block.side ∷ decimal_text 9 b
 abbrev cells_of : UnitList → Block → Record
 cells_of list block = step_cells (unit_of_place list.units block.unit).row block
 
-line-cells : (comma end a b c d : List ℕ) → ((((((a ++ comma) ++ b) ++ comma) ++ c) ++ comma) ++ d) ++ end ≡ a ++ (comma ++ (b ++ (comma ++ (c ++ (comma ++ (d ++ end))))))
-line-cells comma end a b c d = simp append_assoc
-
 lines-cells : (list : UnitList) (blocks : List Block) → flat_map (offer_line list) blocks ≡ flat_map cells_line (map (cells_of list) blocks)
 unfolding offer_line
 lines-cells list [] = refl
 lines-cells list (block ∷ blocks) =
-    ap (λ t. t ++ flat_map (offer_line list) blocks) (line-cells (codes ",") (codes "\n") (decimal (unit_of_place list.units block.unit).row) (side_word block.side) (decimal_text 9 block.quantity) (decimal_text 6 block.price))
+    ap (λ t. t ++ flat_map (offer_line list) blocks) (four-cells (codes ",") (codes "\n") (decimal (unit_of_place list.units block.unit).row) (side_word block.side) (decimal_text 9 block.quantity) (decimal_text 6 block.price))
     ∙ ap (λ t. cells_line (cells_of list block) ++ t) (lines-cells list blocks)
 
 text-cells : (list : UnitList) (blocks : List Block) → offer_text list blocks ≡ flat_map cells_line (offer_header ∷ map (cells_of list) blocks)

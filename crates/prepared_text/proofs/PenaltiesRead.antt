@@ -1,5 +1,5 @@
 -- Penalties that are written are read back.
-use Rattle.std.proofs.Common.{◌≡◌, ℕ, suc, ◌+◌, ◌*◌, ◌<◌, ◌≤◌, ◌^◌, ℤ, pos, Bool, true, false, List, [], ◌∷◌, ◌++◌, length, map, arith, refl, sym, ap, ◌∙◌, subst, Some, Result, Ok, Err, append_assoc, append-nil}
+use Rattle.std.proofs.Common.{◌≡◌, ℕ, suc, ◌+◌, ◌<◌, ◌≤◌, ℤ, pos, Bool, true, false, List, [], ◌∷◌, ◌++◌, length, map, arith, refl, sym, ap, ◌∙◌, subst, Some, Ok, Err, append_assoc, append-nil}
 use Rattle.std.specs.Prelude.{◌<ℤ◌, ◌≤ℤ◌, ◌||◌, not, codes, decimal, if◌then◌else◌}
 use Rattle.std.specs.Int.Signed.{le_z, lt_z}
 use Rattle.std.specs.List.{AllByRecursion, flat_map}
@@ -14,7 +14,7 @@ use Rattle.csv_table.specs.Table.{framed, header_line}
 use Rattle.line_text.specs.Decimals.{decimal_text}
 use Rattle.market_data.specs.Scales.{most_penalties}
 use Rattle.net_case.specs.declared.live_parts.NetBranch.{NetBranch}
-use Rattle.net_case.specs.Networks.{IsNetwork, LiveNetwork}
+use Rattle.net_case.specs.Networks.{LiveNetwork}
 use Rattle.factor_tables.specs.Penalties.{IsSoftness, PenaltyEntry, has_branch_limit, has_penalty, penalties_of, penalty_entry, penalty_faults, penalty_header}
 use Rattle.factor_tables.specs.Records.{penalty_in, post_in}
 use Rattle.factor_tables.specs.Rules.{is_row}
@@ -24,20 +24,17 @@ use Rattle.factor_tables.specs.declared.table_fault.TableFault.TheVariants as fa
 use Rattle.prepared_text.specs.PenaltyText.{all_soft, branch_lines, limit_word, penalty_line, penalty_text, soft_limits}
 use Rattle.prepared_text.specs.PenaltyLaws.{LawOfPenaltiesRead}
 use Rattle.prepared_text.proofs.NumbersRead.{IsCellText, decimal-cell, decimal-read, number-cell, number-read, word}
-use Rattle.prepared_text.proofs.TablesRead.{IsPlainRecord, cells_line, table-framed, then-ok}
+use Rattle.prepared_text.proofs.TablesRead.{IsPlainRecord, cells_line, four-cells, table-framed, then-ok}
 use Rattle.prepared_text.proofs.SoftEntries.{IsEntryOf, RiseFrom, all-entries, all-rise, below-push, few-entries, fresh, limit_key}
 
 -- ---- the cells of an entry
 abbrev cells_of : PenaltyEntry → Record
 cells_of entry = decimal entry.0.0 ∷ limit_word entry.0.1 ∷ decimal_text 6 entry.1.price ∷ decimal_text 9 entry.1.most_excess ∷ []
 
-line-cells : (comma end a b c d : List ℕ) → ((((((a ++ comma) ++ b) ++ comma) ++ c) ++ comma) ++ d) ++ end ≡ a ++ (comma ++ (b ++ (comma ++ (c ++ (comma ++ (d ++ end))))))
-line-cells comma end a b c d = simp append_assoc
-
 entries-cells : (entries : List PenaltyEntry) → flat_map penalty_line entries ≡ flat_map cells_line (map cells_of entries)
 entries-cells [] = refl
 entries-cells (entry ∷ entries) =
-    ap (λ t. t ++ flat_map penalty_line entries) (line-cells (codes ",") (codes "\n") (decimal entry.0.0) (limit_word entry.0.1) (decimal_text 6 entry.1.price) (decimal_text 9 entry.1.most_excess))
+    ap (λ t. t ++ flat_map penalty_line entries) (four-cells (codes ",") (codes "\n") (decimal entry.0.0) (limit_word entry.0.1) (decimal_text 6 entry.1.price) (decimal_text 9 entry.1.most_excess))
     ∙ ap (λ t. cells_line (cells_of entry) ++ t) (entries-cells entries)
 
 lines-join : (softness : Softness) (branches : List NetBranch) → flat_map (branch_lines softness) branches ≡ flat_map penalty_line (flat_map (soft_limits softness) branches)
@@ -113,8 +110,7 @@ module _ (network : LiveNetwork) (softness : Softness) (gives : IsSoftness softn
   plain-entries : (entries : List PenaltyEntry) → AllByRecursion (IsEntryOf network softness) entries → AllByRecursion IsPlainRecord (map cells_of entries)
   plain-entries [] are = tt
   plain-entries (entry ∷ entries) are =
-      let own = its-own entry are.0 in
-      (
+      let own = its-own entry are.0 in (
         record {
           some = omega arith;
           cells = (number-cell entry.0.0 are.0.small, (limit-cell entry.0.1, (decimal-cell 6 entry.1.price own.price, (decimal-cell 9 entry.1.most_excess own.excess, tt))));

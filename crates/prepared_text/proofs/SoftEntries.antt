@@ -1,17 +1,16 @@
 -- The entries for the limits of branches, one or two for each branch.
-use Rattle.std.proofs.Common.{◌≡◌, ℕ, zero, suc, ◌+◌, ◌*◌, ◌<◌, ◌≤◌, ◌^◌, ℤ, pos, Bool, true, false, cond, List, [], ◌∷◌, ◌++◌, length, map, get_or, arith, refl, sym, ap, subst, ◌∙◌, Option, Some, None, All, inl, inr, length-append}
-use Rattle.std.specs.Prelude.{◌==◌, ◌&&◌, ◌||◌, ◌⊎◌, ◌≢◌, AllPairs, Contains, if◌then◌else◌, is_some, IsSome}
+use Rattle.std.proofs.Common.{◌≡◌, ℕ, zero, suc, ◌+◌, ◌*◌, ◌<◌, ◌≤◌, ◌^◌, pos, Bool, true, false, cond, List, [], ◌∷◌, ◌++◌, length, map, get_or, arith, refl, sym, ap, subst, ◌∙◌, Option, Some, None, inl, inr}
+use Rattle.std.specs.Prelude.{◌==◌, ◌&&◌, ◌||◌, ◌⊎◌, ◌≢◌, AllPairs, Contains, if◌then◌else◌, is_some}
 use Rattle.std.specs.List.{AllByRecursion, flat_map, list_any}
 use Rattle.std.specs.Map.{lookup}
 use mathlib.Core.Bool.{beq}
 use Rattle.std.proofs.lemmas.Bool.{and_from, eq-eqb, or_right}
 use Rattle.std.proofs.lemmas.Bool.Decides.{Decides-int_eq, eqb_tells}
-use Rattle.std.proofs.lemmas.List.{get_or-map, length-map}
 use Rattle.std.proofs.lemmas.List.Elements.{All-contains_itself, recursion_from_All}
 use Rattle.std.proofs.lemmas.List.Folds.{list_any-from_Any, list_any-append}
 use Rattle.net_case.specs.declared.live_parts.NetBranch.{NetBranch}
 use Rattle.net_case.specs.Networks.{IsNetwork, LiveNetwork}
-use Rattle.factor_tables.specs.Penalties.{IsSoftness, Limit, PenaltyEntry, branch_limit, has_branch_limit, has_penalty, same_limit, softness_at}
+use Rattle.factor_tables.specs.Penalties.{Limit, PenaltyEntry, branch_limit, has_branch_limit, has_penalty, same_limit}
 use Rattle.factor_tables.specs.Rules.{is_row}
 use Rattle.factor_tables.specs.declared.penalty_list.Softness.{Softness}
 use Rattle.prepared_text.specs.PenaltyText.{all_soft, soft_limits}

@@ -1,10 +1,10 @@
 -- A block of blocks that are in order and have room is taken behind those before it.
-use Rattle.std.proofs.Common.{◌≡◌, ◌≢◌, ℕ, zero, suc, ◌+◌, ◌<◌, ◌≤◌, ℤ, pos, ◌+ℤ◌, Bool, true, false, List, [], ◌∷◌, ◌++◌, length, map, get_or, arith, refl, sym, ap, subst, ◌∙◌, Option, Some, None, Result, Ok, Err, inl, inr}
-use Rattle.std.specs.Prelude.{◌==◌, ◌≤ℤ◌, ◌&&◌, not, AllPairs, filter, if◌then◌else◌, unsigned_abs}
+use Rattle.std.proofs.Common.{◌≡◌, ℕ, suc, ◌<◌, ℤ, pos, ◌+ℤ◌, Bool, true, false, List, [], ◌∷◌, ◌++◌, length, get_or, arith, refl, ap, subst, ◌∙◌, Option, Some, None}
+use Rattle.std.specs.Prelude.{◌≤ℤ◌, AllPairs, filter, if◌then◌else◌}
 use Rattle.std.specs.Int.Signed.{lt_z, le_z}
-use Rattle.std.specs.List.{AllByRecursion, last_or, position, position_or_len}
+use Rattle.std.specs.List.{AllByRecursion, last_or}
 use Rattle.std.proofs.Math.Seq.{get_or-append_seam}
-use Rattle.std.proofs.lemmas.Bool.{eq-eqb, lt-ltb}
+use Rattle.std.proofs.lemmas.Bool.{eq-eqb}
 use Rattle.std.proofs.lemmas.Int.{ints}
 use Rattle.std.proofs.lemmas.List.{get_or_append_left, length-append, map-append}
 use Rattle.std.proofs.lemmas.List.Elements.{filter-append}

@@ -1,12 +1,12 @@
 -- Tables whose cells are plain are read as their records.
-use Rattle.std.proofs.Common.{◌≡◌, ◌≢◌, ℕ, ◌+◌, ◌<◌, ◌≤◌, true, false, List, [], ◌∷◌, ◌++◌, length, map, get_or, arith, refl, sym, ap, ◌∙◌, Result, Ok, append_assoc}
-use Rattle.std.specs.Prelude.{◌&&◌, codes, nat_lt, Option, IfSome}
+use Rattle.std.proofs.Common.{◌≡◌, ◌≢◌, ℕ, ◌<◌, ◌≤◌, true, false, List, [], ◌∷◌, ◌++◌, length, get_or, arith, refl, sym, ap, ◌∙◌, Result, Ok, append_assoc}
+use Rattle.std.specs.Prelude.{codes, nat_lt, Option, IfSome}
 use Rattle.std.specs.List.{AllByRecursion, flat_map, list_all}
 use Rattle.std.proofs.lemmas.Bool.{and_parts, ltb-true}
 use Rattle.record_reading.specs.Records.{Record}
 use Rattle.record_reading.specs.Steps.{and_then}
 use Rattle.csv_table.specs.Table.{frame_of, table_of}
-use Rattle.table_grammar.specs.Cells.{Cells, IsPlain, IsPlainText, IsRecord, AreCells, IsNoEmptyLine, cells_text, comma, only, plain, record_of, LastIsClosed}
+use Rattle.table_grammar.specs.Cells.{Cells, IsPlain, IsPlainText, AreCells, IsNoEmptyLine, cells_text, comma, only, plain, record_of, LastIsClosed}
 use Rattle.table_grammar.specs.TableTexts.{AreLines, IsTable, Lines, feed, line, lines_text, no_lines, records_of}
 use Rattle.table_grammar.proofs.Framed.{table-read}
 use Rattle.prepared_text.proofs.NumbersRead.{IsCellText, is_cell_byte}
@@ -17,6 +17,10 @@ abbrev pub cells_line : Record → List ℕ
 cells_line [] = codes "\n"
 cells_line (x ∷ []) = x ++ codes "\n"
 cells_line (x ∷ y ∷ r) = x ++ (codes "," ++ cells_line (y ∷ r))
+
+-- the same of four cells, as they are put one behind the other
+pub four-cells : (comma_text end a b c d : List ℕ) → ((((((a ++ comma_text) ++ b) ++ comma_text) ++ c) ++ comma_text) ++ d) ++ end ≡ a ++ (comma_text ++ (b ++ (comma_text ++ (c ++ (comma_text ++ (d ++ end))))))
+four-cells comma_text end a b c d = simp append_assoc
 
 -- a record of some cells, each of plain bytes
 pub record IsPlainRecord (r : Record) : Type 0 where

@@ -1,12 +1,11 @@
 -- The units of a network have distinct gen rows.
-use Rattle.std.proofs.Common.{◌≡◌, ◌≢◌, ℕ, ◌<◌, ◌≤◌, List, [], ◌∷◌, length, map, get_or, arith, refl, sym, ap, subst, ◌∙◌}
-use Rattle.std.specs.Prelude.{All, AllPairs, pos}
+use Rattle.std.proofs.Common.{◌≡◌, ◌≢◌, ℕ, ◌<◌, ◌≤◌, List, [], ◌∷◌, length, map, arith, refl, sym, ap, subst}
+use Rattle.std.specs.Prelude.{All, AllPairs}
 use Rattle.std.proofs.lemmas.List.{get_or-map, length-map}
 use Rattle.market_data.specs.declared.participants.Unit as unit
-use Rattle.net_case.specs.Networks.{LiveNetwork, IsNetwork}
-use Rattle.net_case.specs.NetworkReading.{unit_list_of, unit_within}
+use Rattle.net_case.specs.NetworkReading.{unit_within}
 use Rattle.net_case.specs.declared.live_parts.NetUnit.{NetUnit}
-use Rattle.prepared_text.specs.OfferLaws.{HaveGenRows, LawOfUnitRows}
+use Rattle.prepared_text.specs.OfferLaws.{LawOfUnitRows}
 
 same-rows : (units : List NetUnit) → map (λ (u : unit.Unit). u.row) (map unit_within units) ≡ map (λ (u : NetUnit). u.row) units
 unfolding unit_within

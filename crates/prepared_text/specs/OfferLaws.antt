@@ -1,6 +1,6 @@
 -- What is written of blocks is read back as the same blocks.
 -- Source: own. A block is one step of a unit's offer curve (of MW and price), as in the standard rules of electricity markets.
-use Rattle.std.specs.Prelude.{◌≡◌, ◌≢◌, ℕ, ◌<◌, ◌≤◌, ◌^◌, List, length, map, All, AllPairs, Ok}
+use Rattle.std.specs.Prelude.{◌≡◌, ◌≢◌, ◌<◌, ◌≤◌, ◌^◌, List, length, map, All, AllPairs, Ok}
 use Rattle.market_data.specs.Participants.{IsDatum}
 use Rattle.market_data.specs.declared.participants.UnitList.{UnitList}
 use Rattle.market_model.specs.declared.participants.Block.{Block}

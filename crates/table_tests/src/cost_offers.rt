@@ -33,8 +33,9 @@ fn offers_in(
 ) -> Result<UnitOffers, OfferStop>
     requires { 1 ≤ steps }
 {
-    let Ok(case) = format!(in alloc; "{HEAD}mpc.gen = [\n{generators}];\nmpc.gencost = [\n{costs}];\n")
-    else {
+    let Ok(case) = format!(in alloc;
+        "{HEAD}mpc.gen = [\n{generators}];\nmpc.gencost = [\n{costs}];\n"
+    ) else {
         return Err(OfferStop::Memory);
     };
     let Some(network) = read_network(alloc, case.as_str()) else {

@@ -14,6 +14,8 @@ mod offers;
 #[cfg(test)]
 mod outages;
 #[cfg(test)]
+mod preparations;
+#[cfg(test)]
 mod residual_lines;
 #[cfg(test)]
 mod residuals;

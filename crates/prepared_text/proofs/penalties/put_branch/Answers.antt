@@ -1,4 +1,4 @@
-use Rattle.std.proofs.Common.{◌≡◌, ◌∙◌, refl, sym, true, false}
+use Rattle.std.proofs.Common.{◌∙◌, refl, sym, true, false}
 use Rattle.std.specs.Prelude.{is_some}
 use Rattle.prepared_text.specs.PenaltyText.{penalty_line}
 use Rattle.prepared_text.proofs.PenaltyLines.{both-lines, line-none, line-there}

@@ -1,0 +1,4 @@
+pub mod LineLemmas
+pub mod MustRunLemmas
+pub mod PartLemmas
+pub mod TextLemmas
