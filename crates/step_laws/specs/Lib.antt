@@ -1,0 +1,2 @@
+pub mod CostCurves
+pub mod Laws
